@@ -1,0 +1,35 @@
+-- Every public promise settles its answer: two that it allows are equal. Nothing is lent for writing.
+-- Assumes nothing.
+use mathlib.Core.Path.{_≡_, sym, _∙_}
+use Rattle.rules.proofs.class_coded.Reads as class-coded
+use Rattle.rules.proofs.class_of.Reads as class-of
+use Rattle.rules.proofs.length_ok.Reads as length-ok
+use Rattle.rules.proofs.room_ok.Reads as room-ok
+use Rattle.rules.proofs.possible.Reads as possible
+use Rattle.rules.proofs.message_kind.Reads as message-kind
+use Rattle.rules.proofs.content_ok.Reads as content-ok
+use Rattle.rules.proofs.remember.Reads as remember
+
+pub class-coded-settled : (κs : _) (a : _) (r r' : _) (s s' : _) → class-coded.Post κs a r s → class-coded.Post κs a r' s' → r ≡ r'
+class-coded-settled κs a r r' s s' p q = p ∙ sym q
+
+pub class-of-settled : (κs : _) (a : _) (r r' : _) (s s' : _) → class-of.Post κs a r s → class-of.Post κs a r' s' → r ≡ r'
+class-of-settled κs a r r' s s' p q = p ∙ sym q
+
+pub length-ok-settled : (κs : _) (a : _) (r r' : _) (s s' : _) → length-ok.Post κs a r s → length-ok.Post κs a r' s' → r ≡ r'
+length-ok-settled κs a r r' s s' p q = p ∙ sym q
+
+pub room-ok-settled : (κs : _) (a : _) (r r' : _) (s s' : _) → room-ok.Post κs a r s → room-ok.Post κs a r' s' → r ≡ r'
+room-ok-settled κs a r r' s s' p q = p ∙ sym q
+
+pub possible-settled : (κs : _) (a : _) (r r' : _) (s s' : _) → possible.Post κs a r s → possible.Post κs a r' s' → r ≡ r'
+possible-settled κs a r r' s s' p q = p ∙ sym q
+
+pub message-kind-settled : (κs : _) (a : _) (r r' : _) (s s' : _) → message-kind.Post κs a r s → message-kind.Post κs a r' s' → r ≡ r'
+message-kind-settled κs a r r' s s' p q = p ∙ sym q
+
+pub content-ok-settled : (κs : _) (a : _) (r r' : _) (s s' : _) → content-ok.Post κs a r s → content-ok.Post κs a r' s' → r ≡ r'
+content-ok-settled κs a r r' s s' p q = p ∙ sym q
+
+pub remember-settled : (κs : _) (a : _) (r r' : _) (s s' : _) → remember.Post κs a r s → remember.Post κs a r' s' → r ≡ r'
+remember-settled κs a r r' s s' p q = p ∙ sym q

@@ -1,0 +1,95 @@
+-- What counts in a message (document 01, What counts): of two parameters of one type the first, of a pair of types whichever stands first.
+-- Assumes nothing.
+use Prim.Native.Nat.{ℕ, suc}
+use mathlib.Core.Path.{_≡_, refl, sym, _∙_, ap, subst}
+use mathlib.Core.Logic.{_⊎_, inl, inr, _↔_}
+use mathlib.Core.List.{List, [], _∷_, _++_}
+use mathlib.Core.Option.{Option, none, some}
+use native.Mathlib.Omega.{arith}
+use lib.Dec.{T}
+use Rattle.rules.specs.Tests.{_=?_, pick, pick-yes, pick-not, picked, eq-of, of-eq, decide}
+use Rattle.rules.specs.Table.{Rules, listed, rivalOf}
+use Rattle.rules.specs.Message.{Parameter, Message}
+
+-- the contents of the first parameter of type t, if none of type u stands before it
+unfoldable pub firstOf : ℕ → ℕ → List Parameter → Option (List ℕ)
+firstOf t u [] = none
+firstOf t u (p ∷ ps) = pick (p .kind =? t) (some (p .contents)) (pick (p .kind =? u) none (firstOf t u ps))
+
+-- the contents of type t that count, if any do; carried parameters never count
+unfoldable pub counted : Rules → Message → ℕ → Option (List ℕ)
+counted R m t = pick (listed R t) (firstOf t (rivalOf R t) (m .parameters)) none
+
+-- how many parameters are carried, repeats too
+unfoldable pub carriedIn : Rules → List Parameter → ℕ
+carriedIn R [] = 0
+carriedIn R (p ∷ ps) = pick (listed R (p .kind)) (carriedIn R ps) (suc (carriedIn R ps))
+
+-- ---- the same in words: a parameter of the type, and none of the type or its rival before it
+abbrev pub NoneOf : ℕ → ℕ → List Parameter → Type 0
+NoneOf t u [] = Unit {0}
+NoneOf t u (p ∷ ps) = (p .kind ≡ t → ⊥) × (p .kind ≡ u → ⊥) × NoneOf t u ps
+
+pub record First (t u : ℕ) (ps : List Parameter) (v : List ℕ) : Type 0 where
+  pub before : List Parameter
+  pub p : Parameter
+  pub after : List Parameter
+  pub is : before ++ p ∷ after ≡ ps
+  pub kind : p .kind ≡ t
+  pub contents : p .contents ≡ v
+  pub none : NoneOf t u before
+
+pub record Counts (R : Rules) (m : Message) (t : ℕ) (v : List ℕ) : Type 0 where
+  pub listed : T (listed R t)
+  pub first : First t (rivalOf R t) (m .parameters) v
+
+no-some : (v : List ℕ) → none ≡ some v → ⊥
+no-some v e = let z : _≡_ {A = ℕ} 0 1 = cc in omega arith
+
+first-is : (t u : ℕ) (ps : List Parameter) (v : List ℕ) → firstOf t u ps ≡ some v → First t u ps v
+unfolding firstOf
+first-is t u [] v e = absurd (no-some v e)
+first-is t u (p ∷ ps) v e = go (first-is t u ps v) (picked _ _ _ _ e)
+  where
+    later : (p .kind ≡ t → ⊥) → (firstOf t u ps ≡ some v → First t u ps v) → (T (p .kind =? u) × (none ≡ some v)) ⊎ ((T (p .kind =? u) → ⊥) × (firstOf t u ps ≡ some v)) → First t u (p ∷ ps) v
+    later n f (inl q) = absurd (no-some v (q .1))
+    later n f (inr q) =
+        let d = f (q .1) in
+        record { before = p ∷ d .before; p = d .p; after = d .after; is = ap (λ (l : List Parameter). p ∷ l) (d .is); kind = d .kind; contents = d .contents; none = (n, λ k. q .0 (of-eq _ _ k), d .none) }
+
+    go : (firstOf t u ps ≡ some v → First t u ps v) → (T (p .kind =? t) × (some (p .contents) ≡ some v)) ⊎ ((T (p .kind =? t) → ⊥) × (pick (p .kind =? u) none (firstOf t u ps) ≡ some v)) → First t u (p ∷ ps) v
+    go f (inl q) = record { before = []; p = p; after = ps; is = refl; kind = eq-of _ _ (q .0); contents = cc (q .1); none = tt }
+    go f (inr q) = later (λ k. q .0 (of-eq _ _ k)) f (picked _ _ _ _ (q .1))
+
+is-first : (t u : ℕ) (b : List Parameter) (p : Parameter) (a : List Parameter) → p .kind ≡ t → NoneOf t u b → firstOf t u (b ++ p ∷ a) ≡ some (p .contents)
+unfolding firstOf
+is-first t u [] p a k n = pick-yes _ _ _ (of-eq _ _ k)
+is-first t u (q ∷ b) p a k n = pick-not _ _ _ (λ x. n .0 (eq-of _ _ x)) ∙ pick-not _ _ _ (λ x. n .1 (eq-of _ _ x)) ∙ is-first t u b p a k (n .2)
+
+-- a type other than its rival has nothing that counts where the rival stands first
+shut-out : (t u : ℕ) (b : List Parameter) (p : Parameter) (a : List Parameter) → (t ≡ u → ⊥) → p .kind ≡ u → NoneOf u t b → firstOf t u (b ++ p ∷ a) ≡ none
+unfolding firstOf
+shut-out t u [] p a d k n = pick-not _ _ _ (λ x. d (sym (eq-of _ _ x) ∙ k)) ∙ pick-yes _ _ _ (of-eq _ _ k)
+shut-out t u (q ∷ b) p a d k n = pick-not _ _ _ (λ x. n .1 (eq-of _ _ x)) ∙ pick-not _ _ _ (λ x. n .0 (eq-of _ _ x)) ∙ shut-out t u b p a d k (n .2)
+
+module _ (R : Rules) (m : Message) where
+  pub counted-iff : (t : ℕ) (v : List ℕ) → (counted R m t ≡ some v) ↔ Counts R m t v
+  unfolding counted
+  counted-iff t v = (λ e. to (picked _ _ _ _ e), λ c. pick-yes _ _ _ (c .listed) ∙ ap (firstOf t (rivalOf R t)) (sym (c .first .is)) ∙ is-first t _ (c .first .before) (c .first .p) (c .first .after) (c .first .kind) (c .first .none) ∙ ap some (c .first .contents))
+    where
+      to : (T (listed R t) × (firstOf t (rivalOf R t) (m .parameters) ≡ some v)) ⊎ ((T (listed R t) → ⊥) × (none ≡ some v)) → Counts R m t v
+      to (inl q) = record { listed = q .0; first = first-is t _ (m .parameters) v (q .1) }
+      to (inr q) = absurd (no-some v (q .1))
+
+  -- where one of a pair counts, the other does not
+  pub one-of-pair : (t : ℕ) (v : List ℕ) → (t ≡ rivalOf R t → ⊥) → rivalOf R (rivalOf R t) ≡ t → counted R m t ≡ some v → counted R m (rivalOf R t) ≡ none
+  unfolding counted
+  one-of-pair t v d s e = go (counted-iff t v .0 e) (decide (listed R (rivalOf R t)))
+    where
+      go : Counts R m t v → T (listed R (rivalOf R t)) ⊎ (T (listed R (rivalOf R t)) → ⊥) → pick (listed R (rivalOf R t)) (firstOf (rivalOf R t) (rivalOf R (rivalOf R t)) (m .parameters)) none ≡ none
+      go c (inr n) = pick-not _ _ _ n
+      go c (inl l) =
+          pick-yes _ _ _ l
+          ∙ ap (λ (u : ℕ). firstOf (rivalOf R t) u (m .parameters)) s
+          ∙ ap (firstOf (rivalOf R t) t) (sym (c .first .is))
+          ∙ shut-out (rivalOf R t) t (c .first .before) (c .first .p) (c .first .after) (λ z. d (sym z)) (c .first .kind) (c .first .none)

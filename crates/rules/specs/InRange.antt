@@ -1,0 +1,121 @@
+-- In range is closed under step, and a new state is in range: so no octets lead out of it (document 01, Listening, its last sentences).
+-- Assumes nothing.
+use Prim.Native.Nat.{ℕ, zero, suc, _+_, _-_, _≤_, _<_}
+use mathlib.Core.Path.{_≡_, refl, sym, _∙_}
+use mathlib.Core.List.{List, [], _∷_}
+use native.Mathlib.Omega.{arith}
+use lib.Dec.{T}
+use Rattle.rules.specs.Tests.{_≤?_, _=?_, _and_, _or_, both, join, left, right, le-of, of-le, eq-of, of-eq, pick-case}
+use Rattle.rules.specs.Octets.{Octets}
+use Rattle.rules.specs.Contents.{within}
+use Rattle.rules.specs.Table.{Rules, listed, typeFault}
+use Rattle.rules.specs.Machine.{Machine, moved, declined, step, run, start}
+use Rattle.rules.specs.Judge.{roomFits, final, fits, contents, after, fault, machine, given, inRange}
+use Rattle.rules.specs.Remaining.{fits-room, at-contents}
+use Rattle.rules.specs.Listening.{Step, seals, spoils, takes, declines, stepped}
+use Rattle.rules.specs.declared.Class.{Class}
+use Rattle.rules.specs.declared.Stage.{Stage}
+use Rattle.rules.specs.declared.Stage.the-variants.{Kind, Size, Header, Length, Content}
+use Rattle.rules.specs.declared.Spot.{Spot}
+use Rattle.rules.specs.declared.State.{State}
+use Rattle.rules.specs.declared.State.the-variants.{Waiting, Message, Refused}
+
+pub low : (a b x : ℕ) → T (within (a, b) x) → a ≤ x
+unfolding within
+low a b x t = le-of _ _ (both _ _ t .0)
+
+pub high : (a b x : ℕ) → T (within (a, b) x) → x ≤ b
+unfolding within
+high a b x t = le-of _ _ (both _ _ t .1)
+
+pub inside : (a b x : ℕ) → a ≤ x → x ≤ b → T (within (a, b) x)
+unfolding within
+inside a b x l h = join _ _ (of-le _ _ l) (of-le _ _ h)
+
+module _ (R : Rules) where
+  -- no place of a message is beyond 257
+  pub near : (s : Stage) (q : Spot) → T (inRange R (Waiting s q)) → q .place ≤ 257
+  unfolding inRange
+  near Kind q t = omega (arith, eq-of _ _ t)
+  near Size q t = omega (arith, eq-of _ _ t)
+  near (Header r) q t = omega (arith, high _ _ _ t)
+  near (Length c r) q t = omega (arith, le-of _ _ (both _ _ t .0), high _ _ _ (both _ _ t .1))
+  near (Content c n i m r) q t = omega (arith, le-of _ _ (both _ _ t .0), high _ _ _ (both _ _ t .1))
+
+  -- the checksum stands at 5 at the earliest
+  sealing : (s : Stage) (q : Spot) → T (inRange R (Waiting s q)) → T (final s) → 5 ≤ q .place
+  unfolding inRange final
+  sealing Kind q t f = absurd f
+  sealing Size q t f = absurd f
+  sealing (Header r) q t f = omega (arith, low _ _ _ t, eq-of _ _ f)
+  sealing (Length c r) q t f = absurd f
+  sealing (Content c n i m r) q t f = absurd f
+
+  on-contents : (c : Class) (n i m r : ℕ) (q : Spot) → 5 + i ≤ q .place + n + r → q .place + n + r ≤ 257 + i → i ≤ n → T (inRange R (Waiting (contents c n i m r) q))
+  unfolding inRange
+  on-contents c n i m r q a b l =
+      at-contents (λ (s : Stage). T (inRange R (Waiting s q))) c n i m r
+      (λ e. inside _ _ _ (omega arith) (omega arith))
+      (λ e. join _ _ (of-le _ _ (omega (arith, e))) (inside _ _ _ (omega arith) (omega arith)))
+
+  some-room : (r : ℕ) → (T (r =? 0) → ⊥) → 1 ≤ r
+  some-room zero t = absurd (t (of-eq _ _ refl))
+  some-room (suc r) t = omega arith
+
+  kept : (s : Stage) (q p : Spot) (x : ℕ) → x < 256 → p .place ≡ suc (q .place) → T (inRange R (Waiting s q)) → (T (final s) → ⊥) → T (fits R s x) → T (inRange R (Waiting (after R s x) p))
+  unfolding inRange fits after final
+  kept Kind q p x o e t n f = of-eq _ _ (omega (arith, eq-of _ _ t))
+  kept Size q p x o e t n f = let a = eq-of _ _ t in let b = le-of _ _ f in inside _ _ _ (omega arith) (omega arith)
+  kept (Header r) q p x o e t n f =
+      let a = low _ _ _ t in
+      let b = high _ _ _ t in
+      join _ _ (of-le _ _ (some-room r n)) (inside _ _ _ (omega arith) (omega arith))
+  kept (Length c r) q p x o e t n f =
+      let a = low _ _ _ (both _ _ t .1) in
+      let b = high _ _ _ (both _ _ t .1) in
+      let d = fits-room x r (both _ _ f .1) .0 in
+      on-contents c x 0 0 (r - (x + 2)) p (omega arith) (omega arith) (omega arith)
+  kept (Content c n i m r) q p x o e t u f =
+      let h = le-of _ _ (both _ _ t .0) in
+      let a = low _ _ _ (both _ _ t .1) in
+      let b = high _ _ _ (both _ _ t .1) in
+      on-contents c n (suc i) _ r p (omega arith) (omega arith) (omega arith)
+
+  -- the numbers of the roles are given
+  among-six : (k : ℕ) → 1 ≤ k → k ≤ 6 → T (given R k)
+  unfolding given
+  among-six k a b = left _ _ (inside _ _ _ a b)
+
+  given-unlisted : T (given R (R .unlisted))
+  unfolding given
+  given-unlisted = right _ _ (of-eq _ _ refl)
+
+  given-fault : (s : Stage) (x : ℕ) → T (given R (fault R s x))
+  unfolding fault typeFault
+  given-fault Kind x = among-six 1 (omega arith) (omega arith)
+  given-fault Size x = among-six 2 (omega arith) (omega arith)
+  given-fault (Header r) x = pick-case (λ (k : ℕ). T (given R k)) (listed R x) 3 (R .unlisted) (λ _. among-six 3 (omega arith) (omega arith)) (λ _. given-unlisted)
+  given-fault (Length c r) x = among-six 4 (omega arith) (omega arith)
+  given-fault (Content c n i m r) x = among-six 5 (omega arith) (omega arith)
+
+  by : (s : Stage) (q : Spot) (x : ℕ) (r : State) → Step (machine R) s q x r → x < 256 → T (inRange R (Waiting s q)) → T (inRange R r)
+  unfolding inRange machine
+  by s q x _ (seals f k) o t = inside _ _ _ (omega (arith, sealing s q t f)) (omega (arith, near s q t))
+  by s q x _ (spoils f k) o t = join _ _ (among-six 6 (omega arith) (omega arith)) (of-le _ _ (near s q t))
+  by s q x _ (takes f k) o t = kept s q (moved (machine R) s q x) x o refl t f k
+  by s q x _ (declines f k) o t = join _ _ (given-fault s x) (of-le _ _ (near s q t))
+
+  pub in-range-closed : (w : State) (x : ℕ) → x < 256 → T (inRange R w) → T (inRange R (step (machine R) w x))
+  unfolding step
+  in-range-closed (Waiting s q) x o t = by s q x _ (stepped (machine R) s q x) o t
+  in-range-closed (Message n) x o t = t
+  in-range-closed (Refused f) x o t = t
+
+  pub in-range-run : (w : State) (h : List ℕ) → Octets h → T (inRange R w) → T (inRange R (run (machine R) w h))
+  unfolding run
+  in-range-run w [] o t = t
+  in-range-run w (x ∷ h) o t = in-range-run (step (machine R) w x) h (o .1) (in-range-closed w x (o .0) t)
+
+  pub in-range-start : T (inRange R (start (machine R)))
+  unfolding inRange machine
+  in-range-start = of-eq _ _ refl

@@ -1,0 +1,22 @@
+-- The root of the rules: first what messages are, then the machine that judges octets, then the laws between the two.
+pub mod Tests
+pub mod Octets
+pub mod Contents
+pub mod Table
+pub mod Message
+pub mod Counting
+pub mod Roles
+pub mod ContentJudge
+pub mod Codes
+pub mod Machine
+pub mod Judge
+pub mod ContentLaw
+pub mod Remaining
+pub mod Listening
+pub mod Numbers
+pub mod Calls
+pub mod Demand3
+pub mod Unique
+pub mod InRange
+pub mod Rows
+pub mod Returns

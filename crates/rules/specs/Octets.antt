@@ -1,0 +1,46 @@
+-- Octets: numbers below 256, in lists; and their sum.
+-- Assumes nothing.
+use Prim.Native.Nat.{ℕ, zero, suc, _+_, _-_, _%_, _<_}
+use mathlib.Core.Path.{_≡_, refl, sym, _∙_, ap}
+use mathlib.Core.List.{List, [], _∷_, _++_}
+use native.Mathlib.Omega.{arith}
+use lib.ListN.{take}
+
+-- each is below 256
+abbrev pub Octets : List ℕ → Type 0
+Octets [] = Unit {0}
+Octets (x ∷ h) = (x < 256) × Octets h
+
+unfoldable pub total : List ℕ → ℕ
+total [] = 0
+total (x ∷ l) = x + total l
+
+-- what makes a sum 0 modulo 256 (000, section 2)
+unfoldable pub checksum : ℕ → ℕ
+checksum n = (256 - n % 256) % 256
+
+pub checksum-octet : (n : ℕ) → checksum n < 256
+unfolding checksum
+checksum-octet n = omega arith
+
+pub checksum-closes : (n : ℕ) → (n + checksum n) % 256 ≡ 0
+unfolding checksum
+checksum-closes n = omega arith
+
+pub total-append : (a b : List ℕ) → total (a ++ b) ≡ total a + total b
+unfolding total
+total-append [] b = omega arith
+total-append (x ∷ a) b = omega (arith, total-append a b)
+
+pub octets-append : (a b : List ℕ) → Octets a → Octets b → Octets (a ++ b)
+octets-append [] b p q = q
+octets-append (x ∷ a) b p q = (p .0, octets-append a b (p .1) q)
+
+pub octets-right : (a b : List ℕ) → Octets (a ++ b) → Octets b
+octets-right [] b p = p
+octets-right (x ∷ a) b p = octets-right a b (p .1)
+
+pub octets-take : (n : ℕ) (h : List ℕ) → Octets h → Octets (take n h)
+octets-take zero h o = tt
+octets-take (suc n) [] o = tt
+octets-take (suc n) (x ∷ h) o = (o .0, octets-take n h (o .1))

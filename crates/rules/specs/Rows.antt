@@ -1,0 +1,123 @@
+-- Document 01's rows (Octets on each side of the line): what the written rules and the machine say of them, computed, as one claim.
+-- Assumes nothing.
+use Prim.Native.Nat.{ℕ, zero, suc, _+_}
+use mathlib.Core.Path.{_≡_, refl}
+use mathlib.Core.List.{List, [], _∷_, _++_}
+use mathlib.Core.Option.{Option, none, some}
+use Rattle.rules.specs.Tests.{_≤?_, _=?_, _and_, _or_, pick}
+use Rattle.rules.specs.Octets.{total, checksum}
+use Rattle.rules.specs.Contents.{within, inSet, lengths, lengthFits, digit}
+use Rattle.rules.specs.Table.{Rules, rowIn, rowOf, listedIn, listed, classOf, shapeOf, rivalOf, typeFault, shape01, shapeNarrow, document01, narrow}
+use Rattle.rules.specs.Message as message
+use Rattle.rules.specs.Message.{Parameter, body, octets, messageKind}
+use Rattle.rules.specs.Counting.{firstOf, counted, carriedIn}
+use Rattle.rules.specs.ContentJudge.{opens, tensFit, onesFit, pairAt, columnAt, okAt, remember}
+use Rattle.rules.specs.Machine.{step, run, answer}
+use Rattle.rules.specs.Judge.{roomFits, rangePossible, somePossible, possible, final, fits, contents, after, fault, machine}
+use Rattle.rules.specs.declared.State.{State}
+use Rattle.rules.specs.declared.State.the-variants.{Waiting, Message, Refused}
+
+infix 20 refused_at_
+-- an answer in the words of the table
+pub data Said : Type 0 where
+  waits : Said
+  size : ℕ → Said
+  refused_at_ : ℕ → ℕ → Said
+
+unfoldable pub said : State → Said
+said (Waiting s q) = waits
+said (Message n) = size n
+said (Refused f) = refused (f .number) at (f .place)
+
+abbrev pub Row : Type 0
+Row = List ℕ × Said
+
+-- every row is answered as it says
+unfoldable pub answers : Rules → List Row → List Said
+answers R [] = []
+answers R (r ∷ rs) = said (answer (machine R) (r .0)) ∷ answers R rs
+
+unfoldable pub expected : List Row → List Said
+expected [] = []
+expected (r ∷ rs) = r .1 ∷ expected rs
+
+-- the listener's column, all rows
+abbrev pub listenerRows : List Row
+listenerRows =
+    ([], waits) ∷
+    (0x81 ∷ [], refused 1 at 0) ∷
+    (0x80 ∷ 0x02 ∷ [], refused 2 at 1) ∷
+    (0x80 ∷ 0x03 ∷ [], waits) ∷
+    (0x80 ∷ 0x0B ∷ 0x01 ∷ [], refused 3 at 2) ∷
+    (0x80 ∷ 0x0A ∷ 0x01 ∷ [], waits) ∷
+    (0x80 ∷ 0x0C ∷ 0x01 ∷ [], refused 3 at 2) ∷
+    (0x80 ∷ 0x0D ∷ 0x01 ∷ [], waits) ∷
+    (0x80 ∷ 0x16 ∷ 0x02 ∷ 0x14 ∷ [], waits) ∷
+    (0x80 ∷ 0x17 ∷ 0x02 ∷ 0x14 ∷ [], refused 4 at 3) ∷
+    (0x80 ∷ 0x17 ∷ 0x02 ∷ 0x15 ∷ [], refused 4 at 3) ∷
+    (0x80 ∷ 0xFF ∷ 0x05 ∷ 0xFD ∷ [], waits) ∷
+    (0x80 ∷ 0xFF ∷ 0x05 ∷ 0xFC ∷ [], refused 4 at 3) ∷
+    (0x80 ∷ 0x0A ∷ 0x01 ∷ 0x08 ∷ 0x31 ∷ 0x33 ∷ [], refused 5 at 5) ∷
+    (0x82 ∷ 0x03 ∷ 0x0B ∷ 0x01 ∷ 0x80 ∷ [], refused 5 at 4) ∷
+    (0x82 ∷ 0x03 ∷ 0x0B ∷ 0x01 ∷ 0xFF ∷ 0x70 ∷ [], size 6) ∷
+    (0x82 ∷ 0x03 ∷ 0x0B ∷ 0x01 ∷ 0xFF ∷ 0x71 ∷ [], refused 6 at 5) ∷
+    (0x82 ∷ 0x03 ∷ 0x0B ∷ 0x01 ∷ 0xFF ∷ 0x70 ∷ 0x00 ∷ [], size 6) ∷
+    (0x82 ∷ 0x03 ∷ 0x13 ∷ 0x01 ∷ 0x02 ∷ 0x65 ∷ [], size 6) ∷
+    (0x82 ∷ 0x06 ∷ 0x13 ∷ 0x01 ∷ 0x02 ∷ 0x13 ∷ 0x01 ∷ 0x05 ∷ 0x49 ∷ [], size 9) ∷
+    (0x80 ∷ 0x06 ∷ 0x04 ∷ 0x01 ∷ 0x50 ∷ 0x02 ∷ 0x01 ∷ 0x37 ∷ 0xEB ∷ [], size 9) ∷
+    (0x80 ∷ 0x11 ∷ 0x01 ∷ 0x08 ∷ 0x30 ∷ 0x36 ∷ 0x31 ∷ 0x35 ∷ 0x31 ∷ 0x34 ∷ 0x33 ∷ 0x30 ∷ 0x02 ∷ 0x05 ∷ 0x34 ∷ 0x30 ∷ 0x39 ∷ 0x31 ∷ 0x32 ∷ 0xCB ∷ [], size 20) ∷
+    []
+
+-- where the narrow rules say something else: an unlisted type, 19 digits, a sign that is no digit
+abbrev pub narrowRows : List Row
+narrowRows =
+    (0x80 ∷ 0x03 ∷ 0x05 ∷ [], refused 10 at 2) ∷
+    (0x80 ∷ 0x14 ∷ 0x02 ∷ 0x12 ∷ [], waits) ∷
+    (0x80 ∷ 0x15 ∷ 0x02 ∷ 0x13 ∷ [], refused 4 at 3) ∷
+    (0x80 ∷ 0x03 ∷ 0x02 ∷ 0x01 ∷ 0x23 ∷ [], refused 5 at 4) ∷
+    []
+
+abbrev call : List Parameter → message.Message
+call ps = record { kind = 0x80; parameters = ps }
+
+abbrev notice : List Parameter → message.Message
+notice ps = record { kind = 0x82; parameters = ps }
+
+abbrev parameter : ℕ → List ℕ → Parameter
+parameter t v = record { kind = t; contents = v }
+
+-- what counts: the first waiting number; the caller's absence and no caller; of 02H 04H 02H the first 02H; carried ones are numbered and never count
+pub record Claim : Type 0 where
+  pub heard : answers document01 listenerRows ≡ expected listenerRows
+  pub narrower : answers narrow narrowRows ≡ expected narrowRows
+  pub lamp-octets : octets (notice (parameter 0x0B (0xFF ∷ []) ∷ [])) ≡ 0x82 ∷ 0x03 ∷ 0x0B ∷ 0x01 ∷ 0xFF ∷ 0x70 ∷ []
+  pub lamp-on : counted document01 (notice (parameter 0x0B (0xFF ∷ []) ∷ [])) 0x0B ≡ some (0xFF ∷ [])
+  pub waiting-octets : octets (notice (parameter 0x13 (2 ∷ []) ∷ parameter 0x13 (5 ∷ []) ∷ [])) ≡ 0x82 ∷ 0x06 ∷ 0x13 ∷ 0x01 ∷ 0x02 ∷ 0x13 ∷ 0x01 ∷ 0x05 ∷ 0x49 ∷ []
+  pub waiting-two : counted document01 (notice (parameter 0x13 (2 ∷ []) ∷ parameter 0x13 (5 ∷ []) ∷ [])) 0x13 ≡ some (2 ∷ [])
+  pub absent-octets : octets (call (parameter 0x04 (0x50 ∷ []) ∷ parameter 0x02 (0x37 ∷ []) ∷ [])) ≡ 0x80 ∷ 0x06 ∷ 0x04 ∷ 0x01 ∷ 0x50 ∷ 0x02 ∷ 0x01 ∷ 0x37 ∷ 0xEB ∷ []
+  pub absent-counts : counted document01 (call (parameter 0x04 (0x50 ∷ []) ∷ parameter 0x02 (0x37 ∷ []) ∷ [])) 0x04 ≡ some (0x50 ∷ [])
+  pub no-caller : counted document01 (call (parameter 0x04 (0x50 ∷ []) ∷ parameter 0x02 (0x37 ∷ []) ∷ [])) 0x02 ≡ none
+  pub first-caller : counted document01 (call (parameter 0x02 (0x31 ∷ []) ∷ parameter 0x04 (0x50 ∷ []) ∷ parameter 0x02 (0x37 ∷ []) ∷ [])) 0x02 ≡ some (0x31 ∷ [])
+  pub no-absence : counted document01 (call (parameter 0x02 (0x31 ∷ []) ∷ parameter 0x04 (0x50 ∷ []) ∷ parameter 0x02 (0x37 ∷ []) ∷ [])) 0x04 ≡ none
+  pub name-shut-out : counted document01 (call (parameter 0x08 (0x4F ∷ []) ∷ parameter 0x07 (0x41 ∷ []) ∷ [])) 0x07 ≡ none
+  pub carried-twice : carriedIn document01 (parameter 0x05 (1 ∷ []) ∷ parameter 0x13 (5 ∷ []) ∷ parameter 0x05 (2 ∷ []) ∷ []) ≡ 2
+  pub carried-never : counted document01 (call (parameter 0x05 (1 ∷ []) ∷ [])) 0x05 ≡ none
+
+pub rows : Claim
+unfolding _≤?_ _=?_ _and_ _or_ pick total checksum within inSet lengths lengthFits digit rowIn rowOf listedIn listed classOf shapeOf rivalOf typeFault shape01 shapeNarrow document01 narrow body octets messageKind firstOf counted carriedIn opens tensFit onesFit pairAt columnAt okAt remember step run roomFits rangePossible somePossible possible final fits contents after fault machine said answers expected
+rows = record {
+  heard = refl;
+  narrower = refl;
+  lamp-octets = refl;
+  lamp-on = refl;
+  waiting-octets = refl;
+  waiting-two = refl;
+  absent-octets = refl;
+  absent-counts = refl;
+  no-caller = refl;
+  first-caller = refl;
+  no-absence = refl;
+  name-shut-out = refl;
+  carried-twice = refl;
+  carried-never = refl;
+}

@@ -1,0 +1,196 @@
+-- Document 01's table (The message): for each parameter type its class of contents, the other type of its pair and its key in a listing;
+-- for each class its contents, its kind of value in a draft and its style in a listing. A set of rules is such a table.
+-- Assumes nothing.
+use Rattle.rules.specs.Tests.{_=?_, _or_, pick}
+use Rattle.rules.specs.Contents.{Range, Shape, pairs, columns, text}
+use Prim.Native.Nat.{ℕ}
+use Prim.Native.String.{String, [] as nil, _∷_ as _then_}
+use Prim.Native.Char as char
+use mathlib.Core.Bool.{Bool, false}
+use mathlib.Core.List.{List, [], _∷_}
+use Rattle.rules.specs.declared.Class.{Class}
+use Rattle.rules.specs.declared.Class.the-variants.{Date, Number, Absent, Name, Lamp, Identity, CallType, Waiting, Forwarded, User, Carried}
+
+-- the octets of a word of ours
+unfoldable pub ascii : String → List ℕ
+ascii nil = []
+ascii (c then s) = char.code c ∷ ascii s
+
+-- a parameter type; its class; the type that shuts it out where it stands earlier (itself, if it is no half of a pair); its key
+pub record Row : Type 0 where
+  pub kind : ℕ
+  pub class : Class
+  pub rival : ℕ
+  pub key : List ℕ
+
+-- the types that have a row; the class of all others, and the number of their refusal; what the contents of a class are
+pub record Rules : Type 0 where
+  pub rows : List Row
+  pub others : Class
+  pub unlisted : ℕ
+  pub shape : Class → Shape
+
+-- the row of a type, or the one given
+unfoldable pub rowIn : Row → List Row → ℕ → Row
+rowIn d [] t = d
+rowIn d (r ∷ rs) t = pick (t =? r .kind) r (rowIn d rs t)
+
+unfoldable pub rowOf : Rules → ℕ → Row
+rowOf R t = rowIn (record { kind = t; class = R .others; rival = t; key = [] }) (R .rows) t
+
+unfoldable pub listedIn : List Row → ℕ → Bool
+listedIn [] t = false
+listedIn (r ∷ rs) t = t =? r .kind or listedIn rs t
+
+-- a type has a row; one that has none is carried
+unfoldable pub listed : Rules → ℕ → Bool
+listed R t = listedIn (R .rows) t
+
+unfoldable pub classOf : Rules → ℕ → Class
+classOf R t = rowOf R t .class
+
+unfoldable pub shapeOf : Rules → ℕ → Shape
+shapeOf R t = R .shape (classOf R t)
+
+unfoldable pub rivalOf : Rules → ℕ → ℕ
+rivalOf R t = rowOf R t .rival
+
+-- the number given to a type that cannot stand in its room
+unfoldable pub typeFault : Rules → ℕ → ℕ
+typeFault R t = pick (listed R t) 3 (R .unlisted)
+
+-- ---- document 01's rows, in the order of a listing
+abbrev pub row : ℕ → Class → String → Row
+row t c k = record { kind = t; class = c; rival = t; key = ascii k }
+
+abbrev pub half : ℕ → Class → ℕ → String → Row
+half t c u k = record { kind = t; class = c; rival = u; key = ascii k }
+
+abbrev pub rows01 : List Row
+rows01 =
+    row 0x01 Date "time" ∷
+    half 0x02 Number 0x04 "caller" ∷
+    row 0x03 Number "called" ∷
+    half 0x04 Absent 0x02 "caller-absent" ∷
+    half 0x07 Name 0x08 "name" ∷
+    half 0x08 Absent 0x07 "name-absent" ∷
+    row 0x0B Lamp "lamp" ∷
+    row 0x0D Identity "message" ∷
+    row 0x0E Number "depositor" ∷
+    row 0x11 CallType "call-type" ∷
+    row 0x12 Number "first-called" ∷
+    row 0x13 Waiting "waiting" ∷
+    row 0x15 Forwarded "forwarded" ∷
+    row 0x16 User "user" ∷
+    []
+
+-- ---- the contents of each class
+abbrev pub anyOctet : List Range
+anyOctet = (0, 255) ∷ []
+
+-- 0-9, *, #, space, -, (, )
+abbrev pub numberSet : List Range
+numberSet = (0x30, 0x39) ∷ (0x2A, 0x2A) ∷ (0x23, 0x23) ∷ (0x20, 0x20) ∷ (0x2D, 0x2D) ∷ (0x28, 0x29) ∷ []
+
+abbrev pub nameSet : List Range
+nameSet = (0x20, 0x7E) ∷ []
+
+-- "O" or "P"
+abbrev pub absentSet : List Range
+absentSet = (0x4F, 0x50) ∷ []
+
+-- off, on
+abbrev pub lampSet : List Range
+lampSet = (0x00, 0x00) ∷ (0xFF, 0xFF) ∷ []
+
+-- off, unset, on
+abbrev pub identitySet : List Range
+identitySet = (0x00, 0x00) ∷ (0x55, 0x55) ∷ (0xFF, 0xFF) ∷ []
+
+abbrev pub callTypeSet : List Range
+callTypeSet = (0x01, 0x07) ∷ (0x10, 0x11) ∷ (0x50, 0x51) ∷ (0x81, 0xFF) ∷ []
+
+abbrev pub forwardedSet : List Range
+forwardedSet = (0x00, 0x06) ∷ (0x80, 0xFF) ∷ []
+
+abbrev pub userSet : List Range
+userSet = (0x00, 0x0F) ∷ []
+
+unfoldable pub shape01 : Class → Shape
+shape01 Date = pairs ((1, 12) ∷ (1, 31) ∷ (0, 23) ∷ (0, 59) ∷ [])
+shape01 Number = text ((1, 20) ∷ []) numberSet
+shape01 Absent = columns (absentSet ∷ [])
+shape01 Name = text ((1, 50) ∷ []) nameSet
+shape01 Lamp = columns (lampSet ∷ [])
+shape01 Identity = columns (identitySet ∷ anyOctet ∷ anyOctet ∷ [])
+shape01 CallType = columns (callTypeSet ∷ [])
+shape01 Waiting = columns (anyOctet ∷ [])
+shape01 Forwarded = columns (forwardedSet ∷ [])
+shape01 User = columns (userSet ∷ [])
+shape01 Carried = text ((1, 253) ∷ []) anyOctet
+
+-- ---- what a draft holds of a class (Drafts): the numbers of a date, a code, a state with a reference, a text, a carried text
+pub data Form : Type 0 where
+  dateValue : Form
+  codeValue : Form
+  stateValue : Form
+  textValue : Form
+  carriedValue : Form
+
+unfoldable pub formOf : Class → Form
+formOf Date = dateValue
+formOf Number = textValue
+formOf Absent = codeValue
+formOf Name = textValue
+formOf Lamp = codeValue
+formOf Identity = stateValue
+formOf CallType = codeValue
+formOf Waiting = codeValue
+formOf Forwarded = codeValue
+formOf User = codeValue
+formOf Carried = carriedValue
+
+-- ---- how a listing prints a class (What showmsg prints): MM-DD HH:MM; the octets as they are; off or on; a state and its reference; a number in decimal;
+-- two hex digits; not at all, but numbered
+pub data Style : Type 0 where
+  clock : Style
+  verbatim : Style
+  switch : Style
+  reference : Style
+  decimal : Style
+  hex : Style
+  numbered : Style
+
+unfoldable pub styleOf : Class → Style
+styleOf Date = clock
+styleOf Number = verbatim
+styleOf Absent = verbatim
+styleOf Name = verbatim
+styleOf Lamp = switch
+styleOf Identity = reference
+styleOf CallType = hex
+styleOf Waiting = decimal
+styleOf Forwarded = hex
+styleOf User = hex
+styleOf Carried = numbered
+
+-- ---- the sets of rules
+unfoldable pub document01 : Rules
+document01 = record { rows = rows01; others = Carried; unlisted = 3; shape = shape01 }
+
+-- a second, so that what is said of any rules is said of more than one: unlisted types are refused by a number of their own, numbers have 1 to 18 digits
+unfoldable pub shapeNarrow : Class → Shape
+shapeNarrow Date = shape01 Date
+shapeNarrow Number = text ((1, 18) ∷ []) ((0x30, 0x39) ∷ [])
+shapeNarrow Absent = shape01 Absent
+shapeNarrow Name = shape01 Name
+shapeNarrow Lamp = shape01 Lamp
+shapeNarrow Identity = shape01 Identity
+shapeNarrow CallType = shape01 CallType
+shapeNarrow Waiting = shape01 Waiting
+shapeNarrow Forwarded = shape01 Forwarded
+shapeNarrow User = shape01 User
+shapeNarrow Carried = text [] anyOctet
+
+unfoldable pub narrow : Rules
+narrow = record { rows = rows01; others = Carried; unlisted = 10; shape = shapeNarrow }
