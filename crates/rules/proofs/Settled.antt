@@ -3,6 +3,7 @@
 use mathlib.Core.Path.{_≡_, sym, _∙_}
 use Rattle.rules.proofs.class_coded.Reads as class-coded
 use Rattle.rules.proofs.class_of.Reads as class-of
+use Rattle.rules.proofs.code_of.Reads as code-of
 use Rattle.rules.proofs.length_ok.Reads as length-ok
 use Rattle.rules.proofs.room_ok.Reads as room-ok
 use Rattle.rules.proofs.possible.Reads as possible
@@ -33,3 +34,6 @@ content-ok-settled κs a r r' s s' p q = p ∙ sym q
 
 pub remember-settled : (κs : _) (a : _) (r r' : _) (s s' : _) → remember.Post κs a r s → remember.Post κs a r' s' → r ≡ r'
 remember-settled κs a r r' s s' p q = p ∙ sym q
+
+pub code-of-settled : (κs : _) (a : _) (r r' : _) (s s' : _) → code-of.Post κs a r s → code-of.Post κs a r' s' → r ≡ r'
+code-of-settled κs a r r' s s' p q = p ∙ sym q

@@ -1,7 +1,8 @@
 -- A number for each class of contents: what the table of types and the record of a listener hold.
 -- Assumes nothing.
-use Prim.Native.Nat.{ℕ}
+use Prim.Native.Nat.{ℕ, zero, suc, _≤_}
 use mathlib.Core.Path.{_≡_, refl}
+use native.Mathlib.Omega.{arith}
 use Rattle.rules.specs.Tests.{_=?_, pick}
 use Rattle.rules.specs.declared.Class.{Class}
 use Rattle.rules.specs.declared.Class.the-variants.{Date, Number, Absent, Name, Lamp, Identity, CallType, Waiting, Forwarded, User, Carried}
@@ -46,3 +47,33 @@ coded-code Waiting = refl
 coded-code Forwarded = refl
 coded-code User = refl
 coded-code Carried = refl
+
+-- the codes are 0 to 10
+pub code-small : (c : Class) → classCode c ≤ 10
+unfolding classCode
+code-small Date = omega arith
+code-small Number = omega arith
+code-small Absent = omega arith
+code-small Name = omega arith
+code-small Lamp = omega arith
+code-small Identity = omega arith
+code-small CallType = omega arith
+code-small Waiting = omega arith
+code-small Forwarded = omega arith
+code-small User = omega arith
+code-small Carried = omega arith
+
+pub code-coded : (k : ℕ) → k ≤ 10 → classCode (classCoded k) ≡ k
+unfolding classCoded classCode pick _=?_
+code-coded zero h = refl
+code-coded (suc zero) h = refl
+code-coded (suc (suc zero)) h = refl
+code-coded (suc (suc (suc zero))) h = refl
+code-coded (suc (suc (suc (suc zero)))) h = refl
+code-coded (suc (suc (suc (suc (suc zero))))) h = refl
+code-coded (suc (suc (suc (suc (suc (suc zero)))))) h = refl
+code-coded (suc (suc (suc (suc (suc (suc (suc zero))))))) h = refl
+code-coded (suc (suc (suc (suc (suc (suc (suc (suc zero)))))))) h = refl
+code-coded (suc (suc (suc (suc (suc (suc (suc (suc (suc zero))))))))) h = refl
+code-coded (suc (suc (suc (suc (suc (suc (suc (suc (suc (suc zero)))))))))) h = refl
+code-coded (suc (suc (suc (suc (suc (suc (suc (suc (suc (suc (suc k))))))))))) h = absurd (omega arith)

@@ -12,7 +12,7 @@ use Rattle.rules.specs.Table.{Rules, listed, typeFault}
 use Rattle.rules.specs.Machine.{Machine, moved, declined, step, run, start}
 use Rattle.rules.specs.Judge.{roomFits, final, fits, contents, after, fault, machine, given, inRange}
 use Rattle.rules.specs.Remaining.{fits-room, at-contents}
-use Rattle.rules.specs.Listening.{Step, seals, spoils, takes, declines, stepped}
+use Rattle.rules.specs.Listening.{place, Step, seals, spoils, takes, declines, stepped}
 use Rattle.rules.specs.declared.Class.{Class}
 use Rattle.rules.specs.declared.Stage.{Stage}
 use Rattle.rules.specs.declared.Stage.the-variants.{Kind, Size, Header, Length, Content}
@@ -41,6 +41,13 @@ module _ (R : Rules) where
   near (Header r) q t = omega (arith, high _ _ _ t)
   near (Length c r) q t = omega (arith, le-of _ _ (both _ _ t .0), high _ _ _ (both _ _ t .1))
   near (Content c n i m r) q t = omega (arith, le-of _ _ (both _ _ t .0), high _ _ _ (both _ _ t .1))
+
+  -- no more octets than 258 lead to a state
+  pub within-258 : (w : State) → T (inRange R w) → place w ≤ 258
+  unfolding inRange
+  within-258 (Waiting s q) t = omega (arith, near s q t)
+  within-258 (Message n) t = high _ _ _ t
+  within-258 (Refused f) t = omega (arith, le-of _ _ (both _ _ t .1))
 
   -- the checksum stands at 5 at the earliest
   sealing : (s : Stage) (q : Spot) → T (inRange R (Waiting s q)) → T (final s) → 5 ≤ q .place

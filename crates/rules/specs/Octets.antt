@@ -4,7 +4,7 @@ use Prim.Native.Nat.{ℕ, zero, suc, _+_, _-_, _%_, _<_}
 use mathlib.Core.Path.{_≡_, refl, sym, _∙_, ap}
 use mathlib.Core.List.{List, [], _∷_, _++_}
 use native.Mathlib.Omega.{arith}
-use lib.ListN.{take}
+use lib.ListN.{take, getD}
 
 -- each is below 256
 abbrev pub Octets : List ℕ → Type 0
@@ -44,3 +44,8 @@ pub octets-take : (n : ℕ) (h : List ℕ) → Octets h → Octets (take n h)
 octets-take zero h o = tt
 octets-take (suc n) [] o = tt
 octets-take (suc n) (x ∷ h) o = (o .0, octets-take n h (o .1))
+
+-- what a slice says of each of its octets
+pub octets-at : (h : List ℕ) → ((i : ℕ) → getD h i 0 < 256) → Octets h
+octets-at [] f = tt
+octets-at (x ∷ h) f = (f 0, octets-at h (λ i. f (suc i)))

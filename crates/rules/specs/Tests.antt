@@ -104,6 +104,12 @@ module _ {A : Type 0} where
   picked true x y z e = inl (tt, e)
   picked false x y z e = inr ((λ t. t), e)
 
+  -- what follows from either of the two follows from the choice
+  pub picked-by : (P : Type 0) (b : Bool) (x y z : A) → pick b x y ≡ z → (T b → x ≡ z → P) → ((T b → ⊥) → y ≡ z → P) → P
+  unfolding pick
+  picked-by P true x y z e f g = f tt e
+  picked-by P false x y z e f g = g (λ t. t) e
+
   pub every-head : (f : A → Bool) (x : A) (l : List A) → T (every f (x ∷ l)) → T (f x)
   unfolding every
   every-head f x l t = both _ _ t .0

@@ -7,7 +7,7 @@ ghost use Prim.Native.Nat.{_-_};
 ghost use Rattle.rules.specs.Tests.{_=?_, pick};
 ghost use Rattle.rules.specs.Contents.{within, inSet, lengths, lengthFits};
 ghost use Rattle.rules.specs.Table.{document01, classOf, shape01, numberSet, nameSet, absentSet, lampSet, identitySet, callTypeSet, forwardedSet, userSet};
-ghost use Rattle.rules.specs.Codes.{classCoded};
+ghost use Rattle.rules.specs.Codes.{classCode, classCoded};
 ghost use Rattle.rules.specs.ContentJudge.{tensFit, onesFit, okAt};
 ghost use Rattle.rules.specs.ContentJudge as content;
 ghost use Rattle.rules.specs.Message.{messageKind};
@@ -353,6 +353,24 @@ pub fn class_coded(code: u8) -> Class
         Class::User
     } else {
         Class::Carried
+    }
+}
+
+pub fn code_of(c: Class) -> u8
+    ensures { λ r. ⌜ r ≡ classCode c ⌝ }
+{
+    match c {
+        Class::Carried => 0,
+        Class::Date => 1,
+        Class::Number => 2,
+        Class::Absent => 3,
+        Class::Name => 4,
+        Class::Lamp => 5,
+        Class::Identity => 6,
+        Class::CallType => 7,
+        Class::Waiting => 8,
+        Class::Forwarded => 9,
+        Class::User => 10,
     }
 }
 

@@ -1,0 +1,26 @@
+-- `firmware::decode` meets its contract: the size, then the fields.
+-- Assumes nothing.
+use mathlib.Core.Path.{_∙_, ap}
+use Rattle.firmware.specs.Record.{decodeOf, stateOf}
+use Rattle.rules.specs.Returns.{pick-t, yes-eq}
+use Rattle.rules.specs.Returns.{tests}
+use borrow.Author.Needs.{needs}
+use Rattle.firmware.proofs.decode.Statement.{statement}
+use Rattle.firmware.proofs.decode.Tie as tie
+
+fields-of-requires : tie.Need-fields-of-requires
+fields-of-requires c κs = search needs
+
+state-of-requires : tie.Need-state-of-requires
+state-of-requires c κs = search needs
+
+returns : tie.Need-returns
+unfolding decodeOf
+returns c = pick-t _ _ _ _ (yes-eq _ _ (c .before .before .if1 .taken)) (c .state-of .ensures ∙ ap stateOf (c .before .fields-of .ensures))
+
+returns-2 : tie.Need-returns-2
+unfolding decodeOf
+returns-2 c = search tests
+
+pub decode-spec : {M : Type 1} → statement M
+decode-spec = tie.close (tie.spec fields-of-requires state-of-requires returns returns-2)

@@ -1,0 +1,48 @@
+-- `firmware::opening_of` meets its contract: stage by stage.
+-- Assumes nothing.
+use Rattle.firmware.specs.Record.{openingOf}
+use Rattle.firmware.proofs.Decoding.{known-eq}
+use Rattle.rules.specs.Returns.{tests}
+use borrow.Author.Needs.{needs}
+use Rattle.firmware.proofs.opening_of.Statement.{statement}
+use Rattle.firmware.proofs.opening_of.Tie as tie
+
+add-known : tie.Need-add-known
+add-known c = search needs
+
+known-requires : tie.Need-known-requires
+known-requires c κs = search needs
+
+add-known-2 : tie.Need-add-known-2
+add-known-2 c = search needs
+
+known-requires-2 : tie.Need-known-requires-2
+known-requires-2 c κs = search needs
+
+known-requires-3 : tie.Need-known-requires-3
+known-requires-3 c κs = search needs
+
+returns : tie.Need-returns
+unfolding openingOf
+returns c = search (tests, known-eq)
+
+returns-2 : tie.Need-returns-2
+unfolding openingOf
+returns-2 c = search (tests, known-eq)
+
+returns-3 : tie.Need-returns-3
+unfolding openingOf
+returns-3 c = search (tests, known-eq)
+
+pub opening-of-spec : {M : Type 1} → statement M
+opening-of-spec =
+    tie.close
+    (tie.spec
+    add-known
+    known-requires
+    add-known-2
+    known-requires-2
+    known-requires-3
+    returns
+    returns-2
+    returns-3)

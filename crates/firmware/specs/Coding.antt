@@ -1,0 +1,176 @@
+-- A record and what it stands for are each other's inverse: decode (encode l) is l, and encode (decode r) is r where r decodes.
+-- Assumes nothing.
+use mathlib.Core.Path.{_≡_, refl, sym, _∙_, ap}
+use mathlib.Core.List.{List, [], _∷_}
+use Prim.Native.Nat.{ℕ, zero, suc, _+_, _*_, _/_, _%_, _≤_, _<_}
+use native.Mathlib.Omega.{arith}
+use lib.Dec.{T}
+use lib.ListN.{length, getD}
+use Rattle.rules.specs.Tests.{_≤?_, _=?_, pick, picked-by, pick-yes, of-eq, eq-of, of-le, le-of}
+use Rattle.rules.specs.Octets.{Octets}
+use Rattle.rules.specs.Codes.{classCode, classCoded, coded-code, code-coded, code-small}
+use Rattle.rules.specs.declared.Class.{Class}
+use Rattle.rules.specs.declared.Spot.{Spot}
+use Rattle.rules.specs.declared.Stage.{Stage}
+use Rattle.rules.specs.declared.Stage.the-variants.{Kind, Size, Header, Length, Content}
+use Rattle.rules.specs.declared.State.{State}
+use Rattle.rules.specs.declared.State.the-variants.{Waiting, Message, Refused}
+use Rattle.listener.specs.declared.Listener.{Listener}
+use Rattle.firmware.specs.declared.Fields.{Fields}
+use Rattle.firmware.specs.declared.Decoded.{Decoded}
+use Rattle.firmware.specs.declared.Decoded.the-variants.{Known, Unknown}
+use Rattle.firmware.specs.Record.{fieldsOf, fieldsAt, fieldsEnded, fieldsFor, laidFields, recordOf, known, spotOf, openingOf, parameterOf, endedOf, stateOf, decodeOf}
+
+unknown-not : (l : Listener) → Unknown ≡ Known l → ⊥
+unknown-not l e = let z : _≡_ {A = ℕ} 0 1 = cc in omega arith
+
+-- ---- a record that decodes has 16 octets
+pub known-size : (c : List ℕ) (l : Listener) → decodeOf c ≡ Known l → length c ≡ 16
+unfolding decodeOf
+known-size c l e = picked-by (length c ≡ 16) _ _ _ _ e (λ t _. eq-of _ _ t) (λ _ e. absurd (unknown-not l e))
+
+-- ---- decode (encode l) is l
+state-fields : (s : State) → stateOf (fieldsFor s) ≡ Known (record { state = s })
+unfolding stateOf fieldsFor fieldsAt fieldsEnded openingOf parameterOf endedOf pick _≤?_ _=?_ known
+state-fields (Waiting Kind q) = refl
+state-fields (Waiting Size q) = refl
+state-fields (Waiting (Header r) q) = refl
+state-fields (Waiting (Length c r) q) =
+    pick-yes (classCode c ≤? 10) (Known (record { state = Waiting (Length (classCoded (classCode c)) r) q })) Unknown (of-le _ _ (code-small c)) ∙ ap (λ (d : Class). Known (record { state = Waiting (Length d r) q })) (coded-code c)
+state-fields (Waiting (Content c n i m r) q) =
+    pick-yes (classCode c ≤? 10) (Known (record { state = Waiting (Content (classCoded (classCode c)) n i m r) q })) Unknown (of-le _ _ (code-small c)) ∙ ap (λ (d : Class). Known (record { state = Waiting (Content d n i m r) q })) (coded-code c)
+state-fields (Message n) = refl
+state-fields (Refused f) = refl
+
+fields-laid : (f : Fields) → f .spare ≡ 0 → fieldsOf (laidFields f) ≡ f
+unfolding fieldsOf laidFields
+fields-laid f e =
+    let p : f .place % 256 + 256 * (f .place / 256) ≡ f .place = omega arith in
+    λ i. record { stage = f .stage; sum = f .sum; place = p i; class = f .class; length = f .length; index = f .index; memory = f .memory; room = f .room; number = f .number; spare = sym e i }
+
+no-spare : (s : State) → fieldsFor s .spare ≡ 0
+unfolding fieldsFor fieldsAt fieldsEnded
+no-spare (Waiting Kind q) = refl
+no-spare (Waiting Size q) = refl
+no-spare (Waiting (Header r) q) = refl
+no-spare (Waiting (Length c r) q) = refl
+no-spare (Waiting (Content c n i m r) q) = refl
+no-spare (Message n) = refl
+no-spare (Refused f) = refl
+
+laid-size : (f : Fields) → length (laidFields f) ≡ 16
+unfolding laidFields
+laid-size f = refl
+
+pub decode-encode : (l : Listener) → decodeOf (recordOf l) ≡ Known l
+unfolding decodeOf recordOf
+decode-encode l =
+    pick-yes _ _ _ (of-eq _ _ (laid-size (fieldsFor (l .state))))
+    ∙ ap stateOf (fields-laid (fieldsFor (l .state)) (no-spare (l .state)))
+    ∙ state-fields (l .state)
+
+-- ---- encode (decode c) is c, where c decodes
+known-is : (n : ℕ) (s : State) (l : Listener) → known (n =? 0) s ≡ Known l → (n ≡ 0) × (l .state ≡ s)
+unfolding known
+known-is n s l e =
+    picked-by _ _ _ _ _ e
+    (λ t d. let k : _≡_ {A = Listener} (record { state = s }) l = cc in (eq-of _ _ t, sym (ap (λ (x : Listener). x .state) k)))
+    (λ _ d. absurd (unknown-not l d))
+
+third : (n : ℕ) → n ≤ 2 → (n ≡ 0 → ⊥) → (n ≡ 1 → ⊥) → n ≡ 2
+third n h a b = omega arith
+
+fifth : (n : ℕ) → n ≤ 4 → (n ≤ 2 → ⊥) → (n ≡ 3 → ⊥) → n ≡ 4
+fifth n h a b = omega arith
+
+same-fields : (f g : Fields) → f .stage ≡ g .stage → f .sum ≡ g .sum → f .place ≡ g .place → f .class ≡ g .class → f .length ≡ g .length → f .index ≡ g .index → f .memory ≡ g .memory → f .room ≡ g .room → f .number ≡ g .number → f .spare ≡ g .spare → f ≡ g
+same-fields f g a b c d e h m r n s = λ i. record { stage = a i; sum = b i; place = c i; class = d i; length = e i; index = h i; memory = m i; room = r i; number = n i; spare = s i }
+
+-- what nothing uses is 0, and is read back as 0
+module _ (f : Fields) (l : Listener) where
+  abbrev Back : Type 0
+  Back = fieldsFor (l .state) ≡ f
+
+  opening-back : f .stage ≤ 2 → openingOf (f .stage) (spotOf f) (f .room) (f .class + f .length + f .index + f .memory + f .number + f .spare) ≡ Known l → Back
+  unfolding openingOf fieldsFor fieldsAt
+  opening-back h e =
+      picked-by Back _ _ _ _ e
+      (λ t e. let k = eq-of _ _ t in let n = known-is _ _ l e in rw (n .1) (same-fields _ f (omega arith) refl refl (omega arith) (omega arith) (omega arith) (omega arith) (omega arith) (omega arith) (omega arith)))
+      (λ a e.
+      picked-by Back _ _ _ _ e
+      (λ t e. let k = eq-of _ _ t in let n = known-is _ _ l e in rw (n .1) (same-fields _ f (omega arith) refl refl (omega arith) (omega arith) (omega arith) (omega arith) (omega arith) (omega arith) (omega arith)))
+      (λ b e.
+      let s : f .stage ≡ 2 = third (f .stage) h (λ k. a (of-eq _ _ k)) (λ k. b (of-eq _ _ k)) in
+      let n = known-is _ _ l e in
+      rw (n .1) (same-fields _ f (omega arith) refl refl (omega arith) (omega arith) (omega arith) (omega arith) refl (omega arith) (omega arith))))
+
+  parameter-back : f .stage ≤ 4 → (f .stage ≤ 2 → ⊥) → parameterOf (f .stage) (spotOf f) (f .class) (f .length) (f .index) (f .memory) (f .room) (f .number + f .spare) ≡ Known l → Back
+  unfolding parameterOf fieldsFor fieldsAt
+  parameter-back h g e =
+      picked-by Back _ _ _ _ e
+      (λ t e.
+      let c = code-coded (f .class) (le-of _ _ t) in
+      picked-by Back _ _ _ _ e
+      (λ t e. let k = eq-of _ _ t in let n = known-is _ _ l e in rw (n .1) (same-fields _ f (omega arith) refl refl c (omega arith) (omega arith) (omega arith) refl (omega arith) (omega arith)))
+      (λ b e.
+      let s : f .stage ≡ 4 = fifth (f .stage) h g (λ k. b (of-eq _ _ k)) in
+      let n = known-is _ _ l e in
+      rw (n .1) (same-fields _ f (omega arith) refl refl c refl refl refl refl (omega arith) (omega arith))))
+      (λ _ e. absurd (unknown-not l e))
+
+  ended-back : endedOf (f .stage) (f .place) (f .number) (f .class + f .length + f .index + f .memory + f .sum + f .room + f .spare) ≡ Known l → Back
+  unfolding endedOf fieldsFor fieldsEnded
+  ended-back e =
+      picked-by Back _ _ _ _ e
+      (λ t e. let k = eq-of _ _ t in let n = known-is _ _ l e in rw (n .1) (same-fields _ f (omega arith) (omega arith) refl (omega arith) (omega arith) (omega arith) (omega arith) (omega arith) (omega arith) (omega arith)))
+      (λ _ e.
+      picked-by Back _ _ _ _ e
+      (λ t e. let k = eq-of _ _ t in let n = known-is _ _ l e in rw (n .1) (same-fields _ f (omega arith) (omega arith) refl (omega arith) (omega arith) (omega arith) (omega arith) (omega arith) refl (omega arith)))
+      (λ _ e. absurd (unknown-not l e)))
+
+  fields-state : stateOf f ≡ Known l → Back
+  unfolding stateOf
+  fields-state e =
+      picked-by Back _ _ _ _ e
+      (λ t. opening-back (le-of _ _ t))
+      (λ g e. picked-by Back _ _ _ _ e (λ t. parameter-back (le-of _ _ t) (λ k. g (of-le _ _ k))) (λ _. ended-back))
+
+-- the 16 octets of a record are its fields
+laid-fields : (c : List ℕ) → length c ≡ 16 → Octets c → fieldsOf c .spare ≡ 0 → laidFields (fieldsOf c) ≡ c
+unfolding laidFields fieldsOf
+laid-fields [] n o e = absurd (omega arith)
+laid-fields (a0 ∷ []) n o e = absurd (omega arith)
+laid-fields (a0 ∷ a1 ∷ []) n o e = absurd (omega arith)
+laid-fields (a0 ∷ a1 ∷ a2 ∷ []) n o e = absurd (omega arith)
+laid-fields (a0 ∷ a1 ∷ a2 ∷ a3 ∷ []) n o e = absurd (omega arith)
+laid-fields (a0 ∷ a1 ∷ a2 ∷ a3 ∷ a4 ∷ []) n o e = absurd (omega arith)
+laid-fields (a0 ∷ a1 ∷ a2 ∷ a3 ∷ a4 ∷ a5 ∷ []) n o e = absurd (omega arith)
+laid-fields (a0 ∷ a1 ∷ a2 ∷ a3 ∷ a4 ∷ a5 ∷ a6 ∷ []) n o e = absurd (omega arith)
+laid-fields (a0 ∷ a1 ∷ a2 ∷ a3 ∷ a4 ∷ a5 ∷ a6 ∷ a7 ∷ []) n o e = absurd (omega arith)
+laid-fields (a0 ∷ a1 ∷ a2 ∷ a3 ∷ a4 ∷ a5 ∷ a6 ∷ a7 ∷ a8 ∷ []) n o e = absurd (omega arith)
+laid-fields (a0 ∷ a1 ∷ a2 ∷ a3 ∷ a4 ∷ a5 ∷ a6 ∷ a7 ∷ a8 ∷ a9 ∷ []) n o e = absurd (omega arith)
+laid-fields (a0 ∷ a1 ∷ a2 ∷ a3 ∷ a4 ∷ a5 ∷ a6 ∷ a7 ∷ a8 ∷ a9 ∷ a10 ∷ []) n o e = absurd (omega arith)
+laid-fields (a0 ∷ a1 ∷ a2 ∷ a3 ∷ a4 ∷ a5 ∷ a6 ∷ a7 ∷ a8 ∷ a9 ∷ a10 ∷ a11 ∷ []) n o e = absurd (omega arith)
+laid-fields (a0 ∷ a1 ∷ a2 ∷ a3 ∷ a4 ∷ a5 ∷ a6 ∷ a7 ∷ a8 ∷ a9 ∷ a10 ∷ a11 ∷ a12 ∷ []) n o e = absurd (omega arith)
+laid-fields (a0 ∷ a1 ∷ a2 ∷ a3 ∷ a4 ∷ a5 ∷ a6 ∷ a7 ∷ a8 ∷ a9 ∷ a10 ∷ a11 ∷ a12 ∷ a13 ∷ []) n o e = absurd (omega arith)
+laid-fields (a0 ∷ a1 ∷ a2 ∷ a3 ∷ a4 ∷ a5 ∷ a6 ∷ a7 ∷ a8 ∷ a9 ∷ a10 ∷ a11 ∷ a12 ∷ a13 ∷ a14 ∷ []) n o e = absurd (omega arith)
+laid-fields (a0 ∷ a1 ∷ a2 ∷ a3 ∷ a4 ∷ a5 ∷ a6 ∷ a7 ∷ a8 ∷ a9 ∷ a10 ∷ a11 ∷ a12 ∷ a13 ∷ a14 ∷ a15 ∷ a16 ∷ c) n o e = absurd (omega arith)
+laid-fields (a0 ∷ a1 ∷ a2 ∷ a3 ∷ a4 ∷ a5 ∷ a6 ∷ a7 ∷ a8 ∷ a9 ∷ a10 ∷ a11 ∷ a12 ∷ a13 ∷ a14 ∷ a15 ∷ []) n o e =
+    let p : (a2 + 256 * a3) % 256 ≡ a2 = omega (arith, o .1 .1 .0) in
+    let q : (a2 + 256 * a3) / 256 ≡ a3 = omega (arith, o .1 .1 .0) in
+    let z10 : 0 ≡ a10 = omega arith in
+    let z11 : 0 ≡ a11 = omega arith in
+    let z12 : 0 ≡ a12 = omega arith in
+    let z13 : 0 ≡ a13 = omega arith in
+    let z14 : 0 ≡ a14 = omega arith in
+    let z15 : 0 ≡ a15 = omega arith in
+    λ i. a0 ∷ a1 ∷ p i ∷ q i ∷ a4 ∷ a5 ∷ a6 ∷ a7 ∷ a8 ∷ a9 ∷ z10 i ∷ z11 i ∷ z12 i ∷ z13 i ∷ z14 i ∷ z15 i ∷ []
+
+pub encode-decode : (c : List ℕ) (l : Listener) → Octets c → decodeOf c ≡ Known l → recordOf l ≡ c
+unfolding recordOf decodeOf
+encode-decode c l o e =
+    picked-by (laidFields (fieldsFor (l .state)) ≡ c) _ _ _ _ e
+    (λ t e.
+    let f = fields-state (fieldsOf c) l e in
+    ap laidFields f ∙ laid-fields c (eq-of _ _ t) o (sym (ap (λ (g : Fields). g .spare) f) ∙ no-spare (l .state)))
+    (λ _ e. absurd (unknown-not l e))

@@ -1,0 +1,46 @@
+-- What the exports answer, and what they leave in a record (document 01: 17 comes first; a record that is only written is judged by its size alone).
+-- Assumes nothing.
+use Prim.Native.Nat.{ℕ}
+use mathlib.Core.List.{List}
+use lib.ListN.{length}
+use Rattle.rules.specs.Tests.{_=?_, pick}
+use Rattle.rules.specs.Table.{document01}
+use Rattle.listener.specs.declared.Listener.{Listener}
+use Rattle.listener.specs.declared.Heard.{Heard}
+use Rattle.listener.specs.Heard.{numberOf, placeOf, sizeOf, heardOf, newListener}
+use Rattle.firmware.specs.declared.Outcome.{Outcome}
+use Rattle.firmware.specs.declared.Decoded.{Decoded}
+use Rattle.firmware.specs.declared.Decoded.the-variants.{Known, Unknown}
+use Rattle.firmware.specs.Record.{decodeOf, recordOf}
+use Rattle.firmware.specs.Word.{packed}
+
+-- number 17 at place 0, and 0 in every other field
+abbrev pub badRecord : ℕ
+badRecord = packed 17 0 0 0
+
+unfoldable pub resetAnswer : List ℕ → ℕ
+resetAnswer c = pick (length c =? 16) (packed 0 0 0 0) badRecord
+
+unfoldable pub resetRecord : List ℕ → List ℕ
+resetRecord c = pick (length c =? 16) (recordOf newListener) c
+
+-- what a call of the listener answers, as a word
+unfoldable pub wordOf : Heard → ℕ
+wordOf h = packed (numberOf (h .answer)) (placeOf (h .answer)) (sizeOf (h .answer)) (h .taken)
+
+unfoldable pub outcomeOf : Listener → List ℕ → Outcome
+outcomeOf l o = record { listener = heardOf document01 l o .listener; word = wordOf (heardOf document01 l o) }
+
+unfoldable pub answered : Decoded → List ℕ → ℕ
+answered (Known l) o = wordOf (heardOf document01 l o)
+answered Unknown o = badRecord
+
+unfoldable pub recorded : Decoded → List ℕ → List ℕ → List ℕ
+recorded (Known l) c o = recordOf (heardOf document01 l o .listener)
+recorded Unknown c o = c
+
+unfoldable pub listenAnswer : List ℕ → List ℕ → ℕ
+listenAnswer c o = answered (decodeOf c) o
+
+unfoldable pub listenRecord : List ℕ → List ℕ → List ℕ
+listenRecord c o = recorded (decodeOf c) c o

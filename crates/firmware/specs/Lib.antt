@@ -1,0 +1,6 @@
+-- The root of what the exports promise.
+pub mod Record
+pub mod Word
+pub mod Exports
+pub mod Coding
+pub mod RecordHears

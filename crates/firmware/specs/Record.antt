@@ -1,0 +1,96 @@
+-- The record of a listener: 16 octets, and what they stand for.
+-- octet 0 the stage's code; 1 the sum; 2 and 3 the place, low octet first; 4 the class's code; 5 the length; 6 the index; 7 the memory; 8 the room;
+-- 9 the number of a refusal; 10 to 15 are 0, kept for what may come.
+-- Assumes nothing.
+use Prim.Native.Nat.{ℕ, _+_, _*_, _/_, _%_}
+use mathlib.Core.Bool.{Bool}
+use mathlib.Core.List.{List, [], _∷_}
+use lib.ListN.{length, getD}
+use Rattle.rules.specs.Tests.{_≤?_, _=?_, _and_, pick}
+use Rattle.rules.specs.Codes.{classCode, classCoded}
+use Rattle.rules.specs.declared.Spot.{Spot}
+use Rattle.rules.specs.declared.Stage.{Stage}
+use Rattle.rules.specs.declared.Stage.the-variants.{Kind, Size, Header, Length, Content}
+use Rattle.rules.specs.declared.State.{State}
+use Rattle.rules.specs.declared.State.the-variants.{Waiting, Message, Refused}
+use Rattle.listener.specs.declared.Listener.{Listener}
+use Rattle.firmware.specs.declared.Fields.{Fields}
+use Rattle.firmware.specs.declared.Decoded.{Decoded}
+use Rattle.firmware.specs.declared.Decoded.the-variants.{Known, Unknown}
+
+unfoldable pub fieldsOf : List ℕ → Fields
+fieldsOf c = record {
+  stage = getD c 0 0;
+  sum = getD c 1 0;
+  place = getD c 2 0 + 256 * getD c 3 0;
+  class = getD c 4 0;
+  length = getD c 5 0;
+  index = getD c 6 0;
+  memory = getD c 7 0;
+  room = getD c 8 0;
+  number = getD c 9 0;
+  spare = getD c 10 0 + getD c 11 0 + getD c 12 0 + (getD c 13 0 + getD c 14 0 + getD c 15 0);
+}
+
+-- the fields of each state; what it does not use is 0
+unfoldable pub fieldsAt : Stage → Spot → Fields
+fieldsAt Kind q = record { stage = 0; sum = q .sum; place = q .place; class = 0; length = 0; index = 0; memory = 0; room = 0; number = 0; spare = 0 }
+fieldsAt Size q = record { stage = 1; sum = q .sum; place = q .place; class = 0; length = 0; index = 0; memory = 0; room = 0; number = 0; spare = 0 }
+fieldsAt (Header r) q = record { stage = 2; sum = q .sum; place = q .place; class = 0; length = 0; index = 0; memory = 0; room = r; number = 0; spare = 0 }
+fieldsAt (Length c r) q = record { stage = 3; sum = q .sum; place = q .place; class = classCode c; length = 0; index = 0; memory = 0; room = r; number = 0; spare = 0 }
+fieldsAt (Content c n i m r) q = record { stage = 4; sum = q .sum; place = q .place; class = classCode c; length = n; index = i; memory = m; room = r; number = 0; spare = 0 }
+
+unfoldable pub fieldsEnded : ℕ → ℕ → ℕ → Fields
+fieldsEnded s p k = record { stage = s; sum = 0; place = p; class = 0; length = 0; index = 0; memory = 0; room = 0; number = k; spare = 0 }
+
+unfoldable pub fieldsFor : State → Fields
+fieldsFor (Waiting s q) = fieldsAt s q
+fieldsFor (Message n) = fieldsEnded 5 n 0
+fieldsFor (Refused f) = fieldsEnded 6 (f .place) (f .number)
+
+-- fields as 16 octets
+unfoldable pub laidFields : Fields → List ℕ
+laidFields f = f .stage ∷ f .sum ∷ f .place % 256 ∷ f .place / 256 ∷ f .class ∷ f .length ∷ f .index ∷ f .memory ∷ f .room ∷ f .number ∷ 0 ∷ 0 ∷ 0 ∷ 0 ∷ 0 ∷ 0 ∷ []
+
+unfoldable pub recordOf : Listener → List ℕ
+recordOf l = laidFields (fieldsFor (l .state))
+
+-- ---- back
+unfoldable pub known : Bool → State → Decoded
+known ok s = pick ok (Known (record { state = s })) Unknown
+
+abbrev pub spotOf : Fields → Spot
+spotOf f = record { sum = f .sum; place = f .place }
+
+-- Where something is unused it must be 0; idle is the sum of what is.
+-- before a parameter: the message type, L, a parameter type or the checksum is to come
+unfoldable pub openingOf : ℕ → Spot → ℕ → ℕ → Decoded
+openingOf s q r idle =
+    pick (s =? 0) (known (idle + r =? 0) (Waiting Kind q))
+    (pick (s =? 1) (known (idle + r =? 0) (Waiting Size q))
+    (known (idle =? 0) (Waiting (Header r) q)))
+
+-- in a parameter: its length or an octet of its contents is to come
+unfoldable pub parameterOf : ℕ → Spot → ℕ → ℕ → ℕ → ℕ → ℕ → ℕ → Decoded
+parameterOf s q c n i m r idle =
+    pick (c ≤? 10)
+    (pick (s =? 3) (known (n + i + m + idle =? 0) (Waiting (Length (classCoded c) r) q))
+    (known (idle =? 0) (Waiting (Content (classCoded c) n i m r) q)))
+    Unknown
+
+-- a message or a refusal
+unfoldable pub endedOf : ℕ → ℕ → ℕ → ℕ → Decoded
+endedOf s p k idle =
+    pick (s =? 5) (known (idle + k =? 0) (Message p))
+    (pick (s =? 6) (known (idle =? 0) (Refused (record { number = k; place = p })))
+    Unknown)
+
+unfoldable pub stateOf : Fields → Decoded
+stateOf f =
+    pick (f .stage ≤? 2) (openingOf (f .stage) (spotOf f) (f .room) (f .class + f .length + f .index + f .memory + f .number + f .spare))
+    (pick (f .stage ≤? 4) (parameterOf (f .stage) (spotOf f) (f .class) (f .length) (f .index) (f .memory) (f .room) (f .number + f .spare))
+    (endedOf (f .stage) (f .place) (f .number) (f .class + f .length + f .index + f .memory + f .sum + f .room + f .spare)))
+
+-- a record of another size stands for nothing
+unfoldable pub decodeOf : List ℕ → Decoded
+decodeOf c = pick (length c =? 16) (stateOf (fieldsOf c)) Unknown

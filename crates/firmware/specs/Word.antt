@@ -1,0 +1,33 @@
+-- The answer of an export, packed into one word: octet 0 (the lowest) the number, 0 where there is none; octets 1 and 2 the place; octets 3 and 4 a size;
+-- octets 5 and 6 the octets taken; octet 7 is 0, kept for what may come.
+-- Assumes nothing.
+use Prim.Native.Nat.{ℕ, _+_, _*_, _/_, _%_, _≤_, _<_}
+use mathlib.Core.Path.{_≡_}
+use native.Mathlib.Omega.{arith}
+
+unfoldable pub packed : ℕ → ℕ → ℕ → ℕ → ℕ
+packed number place size taken = number + 256 * place + 16777216 * size + 1099511627776 * taken
+
+-- the fields of a word, as the header's readers take them
+unfoldable pub wordNumber : ℕ → ℕ
+wordNumber w = w % 256
+
+unfoldable pub wordPlace : ℕ → ℕ
+wordPlace w = w / 256 % 65536
+
+unfoldable pub wordSize : ℕ → ℕ
+wordSize w = w / 16777216 % 65536
+
+unfoldable pub wordTaken : ℕ → ℕ
+wordTaken w = w / 1099511627776 % 65536
+
+-- what is packed is read back
+pub record Unpacked (k p n t w : ℕ) : Type 0 where
+  pub number : wordNumber w ≡ k
+  pub place : wordPlace w ≡ p
+  pub size : wordSize w ≡ n
+  pub taken : wordTaken w ≡ t
+
+pub unpacked : (k p n t : ℕ) → k < 256 → p < 65536 → n < 65536 → t < 65536 → Unpacked k p n t (packed k p n t)
+unfolding packed wordNumber wordPlace wordSize wordTaken
+unpacked k p n t a b c d = record { number = omega arith; place = omega arith; size = omega arith; taken = omega arith }

@@ -1,0 +1,367 @@
+// The listener for the boxes' firmware, which is C: records of octets, and answers packed into one word (include/anthercup.h says the same to C).
+use listener::Answer;
+use listener::Listener;
+use rules::Fault;
+use rules::Spot;
+use rules::Stage;
+use rules::State;
+ghost use mathlib.Core.Path.{_≡_};
+ghost use Prim.Native.Nat.{_+_, _*_, _≤_};
+ghost use lib.ListN.{length};
+ghost use Rattle.listener.specs.Heard.{numberOf, placeOf, sizeOf};
+ghost use Rattle.firmware.specs.Record as record-of;
+ghost use Rattle.firmware.specs.Word as word;
+ghost use Rattle.firmware.specs.Exports as exports;
+
+// The octets of a listener's record.
+const LISTENER: usize = 16;
+
+// The numbers that a listener's record holds; what a state does not use is 0.
+struct Fields {
+    stage: u8,
+    sum: u8,
+    place: u16,
+    class: u8,
+    length: u8,
+    index: u8,
+    memory: u8,
+    room: u8,
+    number: u8,
+    spare: u16,
+}
+
+enum Decoded {
+    Known(Listener),
+    Unknown,
+}
+
+fn joined(low: u8, high: u8) -> u16
+    ensures { λ r. ⌜ r ≡ low + 256 * high ⌝ }
+{
+    low as u16 + 256 * (high as u16)
+}
+
+fn six(a: u8, b: u8, c: u8, d: u8, e: u8, f: u8) -> u16
+    ensures { λ r. ⌜ r ≡ a + b + c + (d + e + f) ⌝ }
+{
+    a as u16 + b as u16 + c as u16 + (d as u16 + e as u16 + f as u16)
+}
+
+fn fields_of(cells: &[u8]) -> Fields
+    requires { ⌜ length (now cells) ≡ 16 ⌝ }
+    ensures { λ r. ⌜ r ≡ record-of.fieldsOf (now (cells .entry)) ⌝ }
+{
+    let stage = cells[0];
+    let sum = cells[1];
+    let class = cells[4];
+    let length = cells[5];
+    let index = cells[6];
+    let memory = cells[7];
+    let room = cells[8];
+    let number = cells[9];
+    let spare = six(
+        cells[10],
+        cells[11],
+        cells[12],
+        cells[13],
+        cells[14],
+        cells[15],
+    );
+    let place = joined(cells[2], cells[3]);
+    Fields {
+        stage,
+        sum,
+        place,
+        class,
+        length,
+        index,
+        memory,
+        room,
+        number,
+        spare,
+    }
+}
+
+fn known(ok: bool, state: State) -> Decoded
+    ensures { λ r. ⌜ r ≡ record-of.known ok state ⌝ }
+{
+    if ok {
+        Decoded::Known(Listener { state })
+    } else {
+        Decoded::Unknown
+    }
+}
+
+// Before a parameter: the message type, L, a parameter type or the checksum is to come. What is unused sums up to `idle`, and must be 0.
+fn opening_of(stage: u8, q: Spot, room: u8, idle: u32) -> Decoded
+    requires { ⌜ idle ≤ 100000 ⌝ }
+    ensures { λ r. ⌜ r ≡ record-of.openingOf stage q room idle ⌝ }
+{
+    if stage == 0 {
+        known(idle + room as u32 == 0, State::Waiting(Stage::Kind, q))
+    } else if stage == 1 {
+        known(idle + room as u32 == 0, State::Waiting(Stage::Size, q))
+    } else {
+        known(idle == 0, State::Waiting(Stage::Header { room }, q))
+    }
+}
+
+// In a parameter: its length or an octet of its contents is to come.
+fn parameter_of(
+    stage: u8,
+    q: Spot,
+    code: u8,
+    length: u8,
+    index: u8,
+    memory: u8,
+    room: u8,
+    idle: u32,
+) -> Decoded
+    requires { ⌜ idle ≤ 100000 ⌝ }
+    ensures { λ r. ⌜ r ≡ record-of.parameterOf stage q code length index memory room idle ⌝ }
+{
+    if 10 < code {
+        return Decoded::Unknown;
+    }
+    let class = rules::class_coded(code);
+    if stage == 3 {
+        known(
+            length as u32 + index as u32 + memory as u32 + idle == 0,
+            State::Waiting(Stage::Length { class, room }, q),
+        )
+    } else {
+        let stage = Stage::Content {
+            class,
+            length,
+            index,
+            memory,
+            room,
+        };
+        known(idle == 0, State::Waiting(stage, q))
+    }
+}
+
+// A message or a refusal.
+fn ended_of(stage: u8, place: u16, number: u8, idle: u32) -> Decoded
+    requires { ⌜ idle ≤ 100000 ⌝ }
+    ensures { λ r. ⌜ r ≡ record-of.endedOf stage place number idle ⌝ }
+{
+    if stage == 5 {
+        known(idle + number as u32 == 0, State::Message(place))
+    } else if stage == 6 {
+        known(idle == 0, State::Refused(Fault { number, place }))
+    } else {
+        Decoded::Unknown
+    }
+}
+
+fn state_of(f: Fields) -> Decoded
+    ensures { λ r. ⌜ r ≡ record-of.stateOf f ⌝ }
+{
+    let inner = f.class as u32 + f.length as u32 + f.index as u32 + f.memory as u32;
+    let q = Spot {
+        sum: f.sum,
+        place: f.place,
+    };
+    if f.stage <= 2 {
+        opening_of(f.stage, q, f.room, inner + f.number as u32 + f.spare as u32)
+    } else if f.stage <= 4 {
+        let idle = f.number as u32 + f.spare as u32;
+        parameter_of(
+            f.stage,
+            q,
+            f.class,
+            f.length,
+            f.index,
+            f.memory,
+            f.room,
+            idle,
+        )
+    } else {
+        let idle = inner + f.sum as u32 + f.room as u32 + f.spare as u32;
+        ended_of(f.stage, f.place, f.number, idle)
+    }
+}
+
+fn decode(cells: &[u8]) -> Decoded
+    ensures { λ r. ⌜ r ≡ record-of.decodeOf (now (cells .entry)) ⌝ }
+{
+    if cells.len() == LISTENER {
+        state_of(fields_of(cells))
+    } else {
+        Decoded::Unknown
+    }
+}
+
+fn fields_at(stage: Stage, q: Spot) -> Fields
+    ensures { λ r. ⌜ r ≡ record-of.fieldsAt stage q ⌝ }
+{
+    let mut f = Fields {
+        stage: 0,
+        sum: q.sum,
+        place: q.place,
+        class: 0,
+        length: 0,
+        index: 0,
+        memory: 0,
+        room: 0,
+        number: 0,
+        spare: 0,
+    };
+    match stage {
+        Stage::Kind => f,
+        Stage::Size => {
+            f.stage = 1;
+            f
+        }
+        Stage::Header { room } => {
+            f.stage = 2;
+            f.room = room;
+            f
+        }
+        Stage::Length { class, room } => {
+            f.stage = 3;
+            f.class = rules::code_of(class);
+            f.room = room;
+            f
+        }
+        Stage::Content {
+            class,
+            length,
+            index,
+            memory,
+            room,
+        } => {
+            f.stage = 4;
+            f.class = rules::code_of(class);
+            f.length = length;
+            f.index = index;
+            f.memory = memory;
+            f.room = room;
+            f
+        }
+    }
+}
+
+fn fields_ended(stage: u8, place: u16, number: u8) -> Fields
+    ensures { λ r. ⌜ r ≡ record-of.fieldsEnded stage place number ⌝ }
+{
+    Fields {
+        stage,
+        sum: 0,
+        place,
+        class: 0,
+        length: 0,
+        index: 0,
+        memory: 0,
+        room: 0,
+        number,
+        spare: 0,
+    }
+}
+
+fn fields_for(s: State) -> Fields
+    ensures { λ r. ⌜ r ≡ record-of.fieldsFor s ⌝ }
+{
+    match s {
+        State::Waiting(stage, q) => fields_at(stage, q),
+        State::Message(n) => fields_ended(5, n, 0),
+        State::Refused(f) => fields_ended(6, f.place, f.number),
+    }
+}
+
+fn lay(cells: &mut [u8], f: Fields)
+    requires { ⌜ length (now cells) ≡ 16 ⌝ }
+    ensures { λ _. ⌜ now (cells .exit) ≡ record-of.laidFields f ⌝ }
+{
+    let low = (f.place % 256) as u8;
+    let high = (f.place / 256) as u8;
+    cells[0] = f.stage;
+    cells[1] = f.sum;
+    cells[2] = low;
+    cells[3] = high;
+    cells[4] = f.class;
+    cells[5] = f.length;
+    cells[6] = f.index;
+    cells[7] = f.memory;
+    cells[8] = f.room;
+    cells[9] = f.number;
+    cells[10] = 0;
+    cells[11] = 0;
+    cells[12] = 0;
+    cells[13] = 0;
+    cells[14] = 0;
+    cells[15] = 0;
+}
+
+fn encode(cells: &mut [u8], l: Listener)
+    requires { ⌜ length (now cells) ≡ 16 ⌝ }
+    ensures { λ _. ⌜ now (cells .exit) ≡ record-of.recordOf l ⌝ }
+{
+    let state = l.state;
+    lay(cells, fields_for(state));
+}
+
+fn packed(number: u8, place: u16, size: u16, taken: usize) -> u64
+    requires { ⌜ taken ≤ 258 ⌝ }
+    ensures { λ r. ⌜ r ≡ word.packed number place size taken ⌝ }
+{
+    number as u64 + 256 * (place as u64) + 16777216 * (size as u64) + 1099511627776 * (taken as u64)
+}
+
+fn word_of(a: Answer, taken: usize) -> u64
+    requires { ⌜ taken ≤ 258 ⌝ }
+    ensures { λ r. ⌜ r ≡ word.packed (numberOf a) (placeOf a) (sizeOf a) taken ⌝ }
+{
+    match a {
+        Answer::Waits => packed(0, 0, 0, taken),
+        Answer::Message(n) => packed(0, 0, n, taken),
+        Answer::Refused(f) => packed(f.number, f.place, 0, taken),
+    }
+}
+
+// What a call leaves: the listener, and the answer as a word.
+struct Outcome {
+    listener: Listener,
+    word: u64,
+}
+
+fn hear(l: Listener, octets: &[u8]) -> Outcome
+    ensures { λ r. ⌜ r ≡ exports.outcomeOf l (now (octets .entry)) ⌝ }
+{
+    let heard = listener::listen(l, octets);
+    let listener = heard.listener;
+    let answer = heard.answer;
+    let word = word_of(answer, heard.taken);
+    Outcome { listener, word }
+}
+
+// Makes the record that of a new listener, whatever it holds; another size than 16 is 17.
+#[no_mangle]
+pub extern "C" fn anthercup_reset(cells: &mut [u8]) -> u64
+    ensures { λ r. ⌜ (r ≡ exports.resetAnswer (now (cells .entry))) × (now (cells .exit) ≡ exports.resetRecord (now (cells .entry))) ⌝ }
+{
+    if cells.len() == LISTENER {
+        encode(cells, listener::reset());
+        packed(0, 0, 0, 0)
+    } else {
+        packed(17, 0, 0, 0)
+    }
+}
+
+// Takes a run of octets. A record of another size, or with a code or number out of range, is 17 and stays as it is.
+#[no_mangle]
+pub extern "C" fn anthercup_listen(cells: &mut [u8], octets: &[u8]) -> u64
+    ensures { λ r. ⌜ (r ≡ exports.listenAnswer (now (cells .entry)) (now (octets .entry))) × (now (cells .exit) ≡ exports.listenRecord (now (cells .entry)) (now (octets .entry))) ⌝ }
+{
+    let got = decode(cells);
+    match got {
+        Decoded::Known(l) => {
+            let done = hear(l, octets);
+            let listener = done.listener;
+            encode(cells, listener);
+            done.word
+        }
+        Decoded::Unknown => packed(17, 0, 0, 0),
+    }
+}

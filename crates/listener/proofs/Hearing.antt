@@ -1,0 +1,68 @@
+-- Demand 3 over the promises of `reset` and `listen`: whatever outcomes they allow, call after call (document 01, Listening).
+-- Assumes nothing.
+use Prim.Native.Nat.{ℕ, _+_}
+use mathlib.Core.Path.{_≡_, refl, sym, _∙_, ap, subst}
+use mathlib.Core.Bool.{true}
+use mathlib.Core.Logic.{_⊎_}
+use mathlib.Core.List.{List, [], _++_}
+use lib.ListN.{take}
+use lib.Dec.{T}
+use Rattle.rules.specs.Octets.{Octets}
+use Rattle.rules.specs.Contents.{within}
+use Rattle.rules.specs.Table.{document01}
+use Rattle.rules.specs.Machine.{run}
+use Rattle.rules.specs.Judge.{machine, inRange}
+use Rattle.rules.specs.declared.Fault.{Fault}
+use Rattle.listener.specs.declared.Listener.{Listener}
+use Rattle.listener.specs.declared.Heard as heard
+use Rattle.listener.specs.declared.Answer.the-variants.{Refused}
+use Rattle.listener.specs.Heard.{stopped, answerOf, outOfRange, heardOf, newListener}
+use Rattle.listener.specs.Hears as hears
+use Rattle.listener.specs.Hears.{Hears, Stands, new-stands, stands-in-range, stands-on, in-range-heard, out-of-range-heard}
+use Rattle.listener.proofs.reset.Reads as reset
+use Rattle.listener.proofs.listen.Reads as listen
+
+-- l has heard the octets h since it was reset: whatever the promises allow, call after call, the octets taken added to h
+pub data Heard : Listener → List ℕ → Type 1 where
+  new : (κs : _) (a : _) (r : _) (s : _) → reset.Post κs a r s → Heard r []
+  more : (κs : _) (a : _) (r : _) (s : _) {h : List ℕ} → listen.Post κs a r s → Heard (a .0) h → Octets (a .1 .0 .now) → Heard (r .listener) (h ++ take (r .taken) (a .1 .0 .now))
+
+pub stands : {l : Listener} {h : List ℕ} → Heard l h → Stands l h
+stands (new κs a r s p) = subst (λ (l : Listener). Stands l []) (sym p) new-stands
+stands (more κs a r s p d o) = stands-on (a .0) _ (stands d) (a .1 .0 .now) o r p
+
+-- demand 3 in all its sentences, the octets taken too
+pub demand3 : (κs : _) (a : _) (r : _) (s : _) {h : List ℕ} → listen.Post κs a r s → Heard (a .0) h → Octets (a .1 .0 .now) → Hears h (a .1 .0 .now) r
+demand3 κs a r s p d o = hears.hears (a .0) _ (stands d) (a .1 .0 .now) o r p
+
+-- after an answer it takes none, says the same again and stays as it was
+pub says-it-again : (κs : _) (a : _) (r : _) (s : _) {h : List ℕ} → listen.Post κs a r s → Heard (a .0) h → stopped (a .0 .state) ≡ true → r ≡ record { listener = a .0; answer = answerOf (a .0 .state); taken = 0 }
+says-it-again κs a r s p d e = hears.says-it-again (a .0) (a .1 .0 .now) r (stands-in-range (a .0) _ (stands d)) e p
+
+-- a listener from a reset and any octets never gets 17: its numbers are 1 to 6
+pub never-17 : (κs : _) (a : _) (r : _) (s : _) {h : List ℕ} → listen.Post κs a r s → Heard (a .0) h → Octets (a .1 .0 .now) → (f : Fault) → r .answer ≡ Refused f → T (within (1, 6) (f .number))
+never-17 κs a r s p d o f e = hears.in-range-number (a .0) (a .1 .0 .now) o (stands-in-range (a .0) _ (stands d)) r p f e
+
+-- any listener at all gives 1 to 6, or 17 at 0
+pub numbers : (κs : _) (a : _) (r : _) (s : _) → listen.Post κs a r s → Octets (a .1 .0 .now) → (f : Fault) → r .answer ≡ Refused f → T (within (1, 6) (f .number)) ⊎ (f ≡ record { number = 17; place = 0 })
+numbers κs a r s p o f e = hears.numbers (a .0) (a .1 .0 .now) o r p f e
+
+-- one in range, also where no octets lead to it, is stepped by the written rule
+pub by-the-rule : (κs : _) (a : _) (r : _) (s : _) → listen.Post κs a r s → T (inRange document01 (a .0 .state)) → r .listener .state ≡ run (machine document01) (a .0 .state) (a .1 .0 .now)
+by-the-rule κs a r s p t = ap (λ (x : heard.Heard). x .listener .state) (p ∙ in-range-heard (a .0) (a .1 .0 .now) t)
+
+-- one out of range gets 17, takes nothing and comes back as it was
+pub out-of-range : (κs : _) (a : _) (r : _) (s : _) → listen.Post κs a r s → (T (inRange document01 (a .0 .state)) → ⊥) → r ≡ outOfRange (a .0)
+out-of-range κs a r s p n = p ∙ out-of-range-heard (a .0) (a .1 .0 .now) n
+
+-- any cutting ends as one run does: c is the call on the whole run, a and b those on its parts
+pub cut-anywhere : (κs₀ : _) (c : _) (r : _) (s₀ : _) → listen.Post κs₀ c r s₀ → (κs₁ : _) (a : _) (r₁ : _) (s₁ : _) → listen.Post κs₁ a r₁ s₁ → (κs₂ : _) (b : _) (r₂ : _) (s₂ : _) → listen.Post κs₂ b r₂ s₂ → c .0 ≡ a .0 → b .0 ≡ r₁ .listener → c .1 .0 .now ≡ a .1 .0 .now ++ b .1 .0 .now → Octets (a .1 .0 .now) → (r .listener ≡ r₂ .listener) × (r .answer ≡ r₂ .answer) × (r .taken ≡ r₁ .taken + r₂ .taken)
+cut-anywhere κs₀ c r s₀ p κs₁ a r₁ s₁ p₁ κs₂ b r₂ s₂ p₂ e₁ e₂ w o =
+    hears.cut-anywhere (a .0) (a .1 .0 .now) (b .1 .0 .now) o r r₁ r₂
+    (p ∙ ap (λ (l : Listener). heardOf document01 l (c .1 .0 .now)) e₁ ∙ ap (heardOf document01 (a .0)) w)
+    p₁
+    (p₂ ∙ ap (λ (l : Listener). heardOf document01 l (b .1 .0 .now)) e₂)
+
+-- a reset listener equals a new one
+pub reset-is-new : (κs : _) (a : _) (r : _) (s : _) → reset.Post κs a r s → r ≡ newListener
+reset-is-new κs a r s p = p

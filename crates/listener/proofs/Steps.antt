@@ -1,0 +1,73 @@
+-- What an arm of the step wants: a way of the machine's step from what the tests gave.
+-- Assumes nothing.
+use mathlib.Core.Path.{_≡_, refl, sym, _∙_, ap, ap₂}
+use mathlib.Core.Bool.{Bool, true, false}
+use Prim.Native.Nat.{ℕ, zero, suc, _+_, _-_, _%_, _≤_, _<_}
+use native.Mathlib.Omega.{arith}
+use lib.Dec.{T}
+use Rattle.rules.specs.Tests.{_=?_, pick, both, le-of, pick-case}
+use Rattle.rules.specs.Octets.{checksum}
+use Rattle.rules.specs.Table.{Rules, listed, classOf, shapeOf, typeFault, shape01, document01}
+use Rattle.rules.specs.Machine.{Machine, moved, declined, step}
+use Rattle.rules.specs.Judge.{final, fits, contents, after, fault, machine, inRange, roomFits, possible}
+use Rattle.rules.specs.Remaining.{fits-room}
+use Rattle.rules.specs.InRange.{near}
+use Rattle.rules.specs.Returns.{pick-t, pick-f, yes-eq, no-eq}
+use Rattle.rules.specs.declared.Class.{Class}
+use Rattle.rules.specs.declared.Stage.{Stage}
+use Rattle.rules.specs.declared.Stage.the-variants.{Header, Length, Content}
+use Rattle.rules.specs.declared.Spot.{Spot}
+use Rattle.rules.specs.declared.State.{State}
+use Rattle.rules.specs.declared.State.the-variants.{Waiting, Message}
+
+module _ (R : Rules) (s : Stage) (q : Spot) (x : ℕ) where
+  pub takes : (n : Stage) (p : Spot) → final s ≡ false → fits R s x ≡ true → n ≡ after R s x → p ≡ moved (machine R) s q x → Waiting n p ≡ step (machine R) (Waiting s q) x
+  unfolding step machine
+  takes n p f k e u = pick-f _ _ _ _ f (pick-t _ _ _ _ k (ap₂ Waiting e u))
+
+  pub declines : (w : State) → final s ≡ false → fits R s x ≡ false → w ≡ declined (machine R) s (fault R s x) q → w ≡ step (machine R) (Waiting s q) x
+  unfolding step machine
+  declines w f k e = pick-f _ _ _ _ f (pick-f _ _ _ _ k e)
+
+-- the checksum wanted is a wrapping subtract from zero
+module _ (R : Rules) (q : Spot) (x c : ℕ) (e : (c + q .sum) % 256 ≡ 0) (l : c < 256) (s : q .sum < 256) where
+  sealed : c ≡ checksum (q .sum)
+  unfolding checksum
+  sealed = omega arith
+
+  pub seals : x ≡ c → Message (q .place + 1) ≡ step (machine R) (Waiting (Header 0) q) x
+  unfolding step machine final
+  seals k = pick-t _ _ _ _ (yes-eq _ _ refl) (pick-t _ _ _ _ (yes-eq _ _ (k ∙ sealed)) (ap Message (omega arith)))
+
+  pub spoils : (w : State) → (x ≡ c → ⊥) → w ≡ declined (machine R) (Header 0) 6 q → w ≡ step (machine R) (Waiting (Header 0) q) x
+  unfolding step machine final
+  spoils w k e = pick-t _ _ _ _ (yes-eq _ _ refl) (pick-f _ _ _ _ (no-eq _ _ (λ z. k (z ∙ sym sealed))) e)
+
+pub place-small : (s : Stage) (q : Spot) → T (inRange document01 (Waiting s q)) → q .place < 65535
+place-small s q t = omega (arith, near document01 s q t)
+
+pub index-small : (c : Class) (n i m r : ℕ) (q : Spot) → T (inRange document01 (Waiting (Content c n i m r) q)) → n < 256 → i < 255
+unfolding inRange
+index-small c n i m r q t h = omega (arith, le-of _ _ (both _ _ t .0))
+
+pub room-left : (n r : ℕ) → T (roomFits n r) → n + 2 ≤ r
+room-left n r t = omega (arith, fits-room n r t .0)
+
+-- document 01 has one number for every type that cannot stand in its room
+pub three : (x : ℕ) → typeFault document01 x ≡ 3
+unfolding typeFault document01
+three x = pick-case (λ (k : ℕ). k ≡ 3) (listed document01 x) 3 3 (λ _. refl) (λ _. refl)
+
+-- a parameter type, whose class c the code has looked up
+module _ (r : ℕ) (q : Spot) (x : ℕ) (c : Class) (some : r ≡ 0 → ⊥) (e : c ≡ classOf document01 x) where
+  stands : (b : Bool) → possible (shape01 c) r ≡ b → fits document01 (Header r) x ≡ b
+  unfolding fits shapeOf document01
+  stands b k = ap (λ (d : Class). possible (shape01 d) r) (sym e) ∙ k
+
+  pub type-taken : (p : Spot) → possible (shape01 c) r ≡ true → p ≡ moved (machine document01) (Header r) q x → Waiting (Length c r) p ≡ step (machine document01) (Waiting (Header r) q) x
+  unfolding final after
+  type-taken p k u = takes document01 (Header r) q x _ p (no-eq _ _ some) (stands true k) (ap (λ (d : Class). Length d r) e) u
+
+  pub type-declined : (w : State) → possible (shape01 c) r ≡ false → w ≡ declined (machine document01) (Header r) 3 q → w ≡ step (machine document01) (Waiting (Header r) q) x
+  unfolding final fault
+  type-declined w k u = declines document01 (Header r) q x w (no-eq _ _ some) (stands false k) (rw three u)

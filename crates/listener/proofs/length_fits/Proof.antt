@@ -1,0 +1,25 @@
+-- `listener::length_fits` meets its contract: a length of the class that fits the room.
+-- Assumes nothing.
+use Rattle.rules.specs.Judge.{fits}
+use Rattle.rules.specs.Table.{document01}
+use Rattle.rules.specs.Returns.{tests}
+use borrow.Author.Needs.{needs}
+use Rattle.listener.proofs.length_fits.Statement.{statement}
+use Rattle.listener.proofs.length_fits.Tie as tie
+
+length-ok-requires : tie.Need-length-ok-requires
+length-ok-requires c κs = search needs
+
+room-ok-requires : tie.Need-room-ok-requires
+room-ok-requires c κs = search needs
+
+returns : tie.Need-returns
+unfolding fits document01
+returns c = search tests
+
+returns-2 : tie.Need-returns-2
+unfolding fits document01
+returns-2 c = search tests
+
+pub length-fits-spec : {M : Type 1} → statement M
+length-fits-spec = tie.close (tie.spec length-ok-requires room-ok-requires returns returns-2)

@@ -1,0 +1,18 @@
+-- `listener::moved` meets its contract: the sum is a wrapping add.
+-- Assumes nothing.
+use native.Mathlib.Numerals.{add-one}
+use borrow.Author.Needs.{needs}
+use Rattle.listener.proofs.moved.Statement.{statement}
+use Rattle.listener.proofs.moved.Tie as tie
+
+wrapping-add-u8-requires : tie.Need-wrapping-add-u8-requires
+wrapping-add-u8-requires c κs = search needs
+
+add-t5 : tie.Need-add-t5
+add-t5 c = search needs
+
+returns : tie.Need-returns
+returns c = rw (c .before .wrapping-add-u8 .ensures, add-one)
+
+pub moved-spec : {M : Type 1} → statement M
+moved-spec = tie.close (tie.spec wrapping-add-u8-requires add-t5 returns)

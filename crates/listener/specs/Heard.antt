@@ -1,0 +1,64 @@
+-- What a call of the listener gives (document 01, Listening): the state after the octets, the answer, the octets taken; 17 for a listener out of range.
+-- Assumes nothing.
+use Prim.Native.Nat.{ℕ, suc, _+_}
+use mathlib.Core.Bool.{Bool, true, false}
+use mathlib.Core.List.{List, [], _∷_}
+use Rattle.rules.specs.Tests.{pick}
+use Rattle.rules.specs.Table.{Rules, document01}
+use Rattle.rules.specs.Machine.{Machine, step, run, start}
+use Rattle.rules.specs.Judge.{machine, inRange}
+use Rattle.rules.specs.declared.State.{State}
+use Rattle.rules.specs.declared.State.the-variants as state
+use Rattle.listener.specs.declared.Listener.{Listener}
+use Rattle.listener.specs.declared.Answer.{Answer}
+use Rattle.listener.specs.declared.Answer.the-variants.{Waits, Message, Refused}
+use Rattle.listener.specs.declared.Heard.{Heard}
+use Rattle.listener.specs.declared.Ran.{Ran}
+
+-- it has its answer
+unfoldable pub stopped : State → Bool
+stopped (state.Waiting s q) = false
+stopped (state.Message n) = true
+stopped (state.Refused f) = true
+
+-- octets taken: none after an answer
+unfoldable pub taken : Machine → State → List ℕ → ℕ
+taken M w [] = 0
+taken M w (x ∷ h) = pick (stopped w) 0 (suc (taken M (step M w x) h))
+
+unfoldable pub answerOf : State → Answer
+answerOf (state.Waiting s q) = Waits
+answerOf (state.Message n) = Message n
+answerOf (state.Refused f) = Refused f
+
+-- ---- this paper's number, place and size for each answer (0 where there is none)
+unfoldable pub numberOf : Answer → ℕ
+numberOf Waits = 0
+numberOf (Message n) = 0
+numberOf (Refused f) = f .number
+
+unfoldable pub placeOf : Answer → ℕ
+placeOf Waits = 0
+placeOf (Message n) = 0
+placeOf (Refused f) = f .place
+
+unfoldable pub sizeOf : Answer → ℕ
+sizeOf Waits = 0
+sizeOf (Message n) = n
+sizeOf (Refused f) = 0
+
+unfoldable pub runOf : Machine → State → List ℕ → Ran
+runOf M w h = record { state = run M w h; taken = taken M w h }
+
+-- out of range: number 17, nothing taken, and the listener as it was
+abbrev pub outOfRange : Listener → Heard
+outOfRange l = record { listener = l; answer = Refused (record { number = 17; place = 0 }); taken = 0 }
+
+unfoldable pub heardOf : Rules → Listener → List ℕ → Heard
+heardOf R l h =
+    pick (inRange R (l .state))
+    (record { listener = record { state = run (machine R) (l .state) h }; answer = answerOf (run (machine R) (l .state) h); taken = taken (machine R) (l .state) h })
+    (outOfRange l)
+
+unfoldable pub newListener : Listener
+newListener = record { state = start (machine document01) }

@@ -1,0 +1,4 @@
+-- The root of what the listener promises.
+pub mod Heard
+pub mod Runs
+pub mod Hears

@@ -1,0 +1,342 @@
+// The listener: it takes octets in runs of any cut, and waits, has a message of a stated size, or refuses (document 01, Listening).
+// It goes in by value and comes back by value, and keeps no octets.
+use rules::Class;
+use rules::Fault;
+use rules::Spot;
+use rules::Stage;
+use rules::State;
+ghost use mathlib.Core.Path.{_≡_};
+ghost use Prim.Native.Nat.{_<_};
+ghost use lib.Dec.{T};
+ghost use Rattle.rules.specs.Contents.{within};
+ghost use Rattle.rules.specs.Table.{document01, typeFault};
+ghost use Rattle.rules.specs.Machine as machine;
+ghost use Rattle.rules.specs.Judge.{given, inRange};
+ghost use Rattle.rules.specs.Judge as judge;
+ghost use Rattle.rules.specs.declared.State.the-variants as state;
+ghost use Rattle.rules.specs.declared.Stage.the-variants as stage;
+ghost use Rattle.listener.specs.Heard.{stopped, answerOf, runOf, heardOf, newListener};
+
+pub struct Listener {
+    pub state: State,
+}
+
+pub enum Answer {
+    Waits,
+    Message(u16),
+    Refused(Fault),
+}
+
+// The listener as it then stands, its answer, and how many octets of the run it took, the spoiling one counted.
+pub struct Heard {
+    pub listener: Listener,
+    pub answer: Answer,
+    pub taken: usize,
+}
+
+// Where a run left a state, and how many octets it took.
+struct Ran {
+    state: State,
+    taken: usize,
+}
+
+fn moved(stage: Stage, q: Spot, x: u8) -> Spot
+    requires { ⌜ q .place < 65535 ⌝ }
+    ensures { λ r. ⌜ r ≡ machine.moved (judge.machine document01) stage q x ⌝ }
+{
+    let sum = std::num::wrapping_add_u8(q.sum, x);
+    Spot {
+        sum,
+        place: q.place + 1,
+    }
+}
+
+fn declined(stage: Stage, number: u8, q: Spot) -> State
+    ensures { λ r. ⌜ r ≡ machine.declined (judge.machine document01) stage number q ⌝ }
+{
+    State::Refused(Fault {
+        number,
+        place: q.place,
+    })
+}
+
+// The octet at this index is to come; after the last of them a header, or the checksum.
+fn contents(class: Class, length: u8, index: u8, memory: u8, room: u8) -> Stage
+    ensures { λ r. ⌜ r ≡ judge.contents class length index memory room ⌝ }
+{
+    if index == length {
+        Stage::Header { room }
+    } else {
+        Stage::Content {
+            class,
+            length,
+            index,
+            memory,
+            room,
+        }
+    }
+}
+
+fn at_kind(q: Spot, x: u8) -> State
+    requires { ⌜ q .place < 65535 ⌝ }
+    ensures { λ r. ⌜ r ≡ machine.step (judge.machine document01) (state.Waiting stage.Kind q) x ⌝ }
+{
+    if rules::message_kind(x) {
+        State::Waiting(Stage::Size, moved(Stage::Kind, q, x))
+    } else {
+        declined(Stage::Kind, 1, q)
+    }
+}
+
+fn at_size(q: Spot, x: u8) -> State
+    requires { ⌜ q .place < 65535 ⌝ }
+    ensures { λ r. ⌜ r ≡ machine.step (judge.machine document01) (state.Waiting stage.Size q) x ⌝ }
+{
+    if 3 <= x {
+        State::Waiting(Stage::Header { room: x }, moved(Stage::Size, q, x))
+    } else {
+        declined(Stage::Size, 2, q)
+    }
+}
+
+fn at_check(q: Spot, x: u8) -> State
+    requires { ⌜ q .place < 65535 ⌝ }
+    ensures { λ r. ⌜ r ≡ machine.step (judge.machine document01) (state.Waiting (stage.Header 0) q) x ⌝ }
+{
+    if x == std::num::wrapping_sub_u8(0, q.sum) {
+        State::Message(q.place + 1)
+    } else {
+        declined(Stage::Header { room: 0 }, 6, q)
+    }
+}
+
+fn at_header(room: u8, q: Spot, x: u8) -> State
+    requires { ⌜ q .place < 65535 ⌝ }
+    ensures { λ r. ⌜ r ≡ machine.step (judge.machine document01) (state.Waiting (stage.Header room) q) x ⌝ }
+{
+    if room == 0 {
+        at_check(q, x)
+    } else {
+        let class = rules::class_of(x);
+        if rules::possible(class, room) {
+            State::Waiting(
+                Stage::Length { class, room },
+                moved(Stage::Header { room }, q, x),
+            )
+        } else {
+            declined(Stage::Header { room }, 3, q)
+        }
+    }
+}
+
+fn length_fits(class: Class, room: u8, x: u8) -> bool
+    ensures { λ r. ⌜ r ≡ judge.fits document01 (stage.Length class room) x ⌝ }
+{
+    if rules::length_ok(class, x) {
+        rules::room_ok(x, room)
+    } else {
+        false
+    }
+}
+
+fn at_length(class: Class, room: u8, q: Spot, x: u8) -> State
+    requires { ⌜ q .place < 65535 ⌝ }
+    ensures { λ r. ⌜ r ≡ machine.step (judge.machine document01) (state.Waiting (stage.Length class room) q) x ⌝ }
+{
+    if length_fits(class, room, x) {
+        let next = contents(class, x, 0, 0, room - 2 - x);
+        State::Waiting(next, moved(Stage::Length { class, room }, q, x))
+    } else {
+        declined(Stage::Length { class, room }, 4, q)
+    }
+}
+
+fn at_content(class: Class, length: u8, index: u8, memory: u8, room: u8, q: Spot, x: u8) -> State
+    requires { ⌜ (q .place < 65535) × (index < 255) ⌝ }
+    ensures { λ r. ⌜ r ≡ machine.step (judge.machine document01) (state.Waiting (stage.Content class length index memory room) q) x ⌝ }
+{
+    let here = Stage::Content {
+        class,
+        length,
+        index,
+        memory,
+        room,
+    };
+    if rules::content_ok(class, length, index, memory, x) {
+        let kept = rules::remember(class, length, index, memory, x);
+        let next = contents(class, length, index + 1, kept, room);
+        State::Waiting(next, moved(here, q, x))
+    } else {
+        declined(here, 5, q)
+    }
+}
+
+fn judged(stage: Stage, q: Spot, x: u8) -> State
+    requires { ⌜ T (inRange document01 (state.Waiting stage q)) ⌝ }
+    ensures { λ r. ⌜ r ≡ machine.step (judge.machine document01) (state.Waiting stage q) x ⌝ }
+{
+    match stage {
+        Stage::Kind => at_kind(q, x),
+        Stage::Size => at_size(q, x),
+        Stage::Header { room } => at_header(room, q, x),
+        Stage::Length { class, room } => at_length(class, room, q, x),
+        Stage::Content {
+            class,
+            length,
+            index,
+            memory,
+            room,
+        } => at_content(class, length, index, memory, room, q, x),
+    }
+}
+
+fn step(s: State, x: u8) -> State
+    requires { ⌜ T (inRange document01 s) ⌝ }
+    ensures { λ r. ⌜ r ≡ machine.step (judge.machine document01) s x ⌝ }
+{
+    match s {
+        State::Waiting(stage, q) => judged(stage, q, x),
+        State::Message(_) => s,
+        State::Refused(_) => s,
+    }
+}
+
+fn between(lo: u32, hi: u32, x: u32) -> bool
+    ensures { λ r. ⌜ r ≡ within (lo, hi) x ⌝ }
+{
+    lo <= x && x <= hi
+}
+
+fn known_number(k: u8) -> bool
+    ensures { λ r. ⌜ r ≡ given document01 k ⌝ }
+{
+    if between(1, 6, k as u32) {
+        true
+    } else {
+        k == 3
+    }
+}
+
+fn spot_in_range(stage: Stage, q: Spot) -> bool
+    ensures { λ r. ⌜ r ≡ inRange document01 (state.Waiting stage q) ⌝ }
+{
+    let place = q.place as u32;
+    match stage {
+        Stage::Kind => q.place == 0,
+        Stage::Size => q.place == 1,
+        Stage::Header { room } => between(5, 257, place + room as u32),
+        Stage::Length { class: _, room } => {
+            if 1 <= room {
+                between(6, 258, place + room as u32)
+            } else {
+                false
+            }
+        }
+        Stage::Content {
+            class: _,
+            length,
+            index,
+            memory: _,
+            room,
+        } => {
+            let i = index as u32;
+            if index < length {
+                between(5 + i, 257 + i, place + length as u32 + room as u32)
+            } else {
+                false
+            }
+        }
+    }
+}
+
+fn in_range(s: State) -> bool
+    ensures { λ r. ⌜ r ≡ inRange document01 s ⌝ }
+{
+    match s {
+        State::Waiting(stage, q) => spot_in_range(stage, q),
+        State::Message(n) => between(6, 258, n as u32),
+        State::Refused(f) => {
+            if known_number(f.number) {
+                f.place <= 257
+            } else {
+                false
+            }
+        }
+    }
+}
+
+fn is_stopped(s: State) -> bool
+    ensures { λ r. ⌜ r ≡ stopped s ⌝ }
+{
+    match s {
+        State::Waiting(_, _) => false,
+        State::Message(_) => true,
+        State::Refused(_) => true,
+    }
+}
+
+fn run(s: State, octets: &[u8]) -> Ran
+    requires { ⌜ T (inRange document01 s) ⌝ }
+    ensures { λ r. ⌜ r ≡ runOf (judge.machine document01) s (now (octets .entry)) ⌝ }
+{
+    let mut cur = s;
+    let mut i = 0;
+    while i < octets.len() {
+        if is_stopped(cur) {
+            return Ran {
+                state: cur,
+                taken: i,
+            };
+        }
+        cur = step(cur, octets[i]);
+        i += 1;
+    }
+    Ran {
+        state: cur,
+        taken: i,
+    }
+}
+
+fn answer_of(s: State) -> Answer
+    ensures { λ r. ⌜ r ≡ answerOf s ⌝ }
+{
+    match s {
+        State::Waiting(_, _) => Answer::Waits,
+        State::Message(n) => Answer::Message(n),
+        State::Refused(f) => Answer::Refused(f),
+    }
+}
+
+// A new listener; a listener is reset by putting a new one in its place.
+pub fn reset() -> Listener
+    ensures { λ r. ⌜ r ≡ newListener ⌝ }
+{
+    Listener {
+        state: State::Waiting(Stage::Kind, Spot { sum: 0, place: 0 }),
+    }
+}
+
+// Takes a run of octets, none included. A listener out of range gets 17 and comes back as it was.
+pub fn listen(l: Listener, octets: &[u8]) -> Heard
+    ensures { λ r. ⌜ r ≡ heardOf document01 l (now (octets .entry)) ⌝ }
+{
+    let state = l.state;
+    if in_range(state) {
+        let ran = run(state, octets);
+        let now_at = ran.state;
+        Heard {
+            listener: Listener { state: now_at },
+            answer: answer_of(now_at),
+            taken: ran.taken,
+        }
+    } else {
+        Heard {
+            listener: l,
+            answer: Answer::Refused(Fault {
+                number: 17,
+                place: 0,
+            }),
+            taken: 0,
+        }
+    }
+}
