@@ -1,0 +1,129 @@
+/* Document 01's rows through the archive, as the firmware calls it: whole, octet by octet and cut in two everywhere; and records that are no listener's.
+ * Says how many answers it compared; the first that differs ends it with status 1. */
+#include <stdio.h>
+#include <stdlib.h>
+#include <string.h>
+
+#include "anthercup.h"
+
+/* octets in hex; what the listener says of them: its number and place, or the size, or nothing while it waits */
+static const struct row {
+    const char *octets;
+    unsigned number, place, size;
+} rows[] = {
+    {"", 0, 0, 0},
+    {"81", 1, 0, 0},
+    {"8002", 2, 1, 0},
+    {"8003", 0, 0, 0},
+    {"800B01", 3, 2, 0},
+    {"800A01", 0, 0, 0},
+    {"800C01", 3, 2, 0},
+    {"800D01", 0, 0, 0},
+    {"80160214", 0, 0, 0},
+    {"80170214", 4, 3, 0},
+    {"80170215", 4, 3, 0},
+    {"80FF05FD", 0, 0, 0},
+    {"80FF05FC", 4, 3, 0},
+    {"800A01083133", 5, 5, 0},
+    {"82030B0180", 5, 4, 0},
+    {"82030B01FF70", 0, 0, 6},
+    {"82030B01FF71", 6, 5, 0},
+    {"82030B01FF7000", 0, 0, 6},
+    {"820313010265", 0, 0, 6},
+    {"820613010213010549", 0, 0, 9},
+    {"8006040150020137EB", 0, 0, 9},
+    {"801101083036313531343330020534303931 32CB", 0, 0, 20},
+    {"800404", 3, 2, 0},
+    {"800405", 0, 0, 0},
+    {"80030500", 4, 3, 0},
+};
+
+static unsigned long compared;
+
+static void same(const char *what, unsigned long got, unsigned long wanted) {
+    compared++;
+    if (got != wanted) {
+        printf("rows: %s: got %lu, wanted %lu\n", what, got, wanted);
+        exit(1);
+    }
+}
+
+static size_t octets_of(const char *hex, uint8_t *out) {
+    size_t n = 0;
+    unsigned v;
+    while (*hex) {
+        if (*hex == ' ') { hex++; continue; }
+        if (sscanf(hex, "%2x", &v) != 1) exit(2);
+        out[n++] = (uint8_t)v;
+        hex += 2;
+    }
+    return n;
+}
+
+/* the octets that a listener takes of a row in all */
+static size_t taken_of(const struct row *r, size_t n) {
+    if (r->number) return r->place + 1;
+    return r->size ? r->size : n;
+}
+
+static void answer_is(const struct row *r, uint64_t answer) {
+    same(r->octets, anthercup_number(answer), r->number);
+    same(r->octets, anthercup_place(answer), r->place);
+    same(r->octets, anthercup_size(answer), r->size);
+    same(r->octets, (unsigned long)(answer >> 56), 0);
+}
+
+static void heard_in_runs(const struct row *r, const uint8_t *o, size_t n, size_t first, size_t then) {
+    uint8_t l[ANTHERCUP_LISTENER];
+    size_t at = 0, taken = 0;
+    uint64_t answer = anthercup_reset(l, sizeof l);
+    same("reset", (unsigned long)answer, 0);
+    answer = anthercup_listen(l, sizeof l, o, first);
+    taken = anthercup_taken(answer);
+    for (at = first; at < n; at += then) {
+        size_t run = then < n - at ? then : n - at;
+        answer = anthercup_listen(l, sizeof l, o + at, run);
+        taken += anthercup_taken(answer);
+    }
+    answer_is(r, answer);
+    same(r->octets, taken, taken_of(r, n));
+    answer_is(r, anthercup_listen(l, sizeof l, o, 0));
+}
+
+static void all_cuttings(const struct row *r) {
+    uint8_t o[300];
+    size_t n = octets_of(r->octets, o);
+    for (size_t first = 0; first <= n; first++) heard_in_runs(r, o, n, first, n - first ? n - first : 1);
+    heard_in_runs(r, o, n, 0, 1);
+}
+
+static void refused_as_it_was(uint8_t *record, size_t size) {
+    uint8_t before[64], octet = 0x80;
+    memcpy(before, record, size);
+    same("17", (unsigned long)anthercup_listen(record, size, &octet, 1), ANTHERCUP_RECORD);
+    same("a refused record", (unsigned long)memcmp(before, record, size), 0);
+}
+
+static void records_that_are_none(void) {
+    uint8_t l[64];
+    for (size_t size = 0; size < sizeof l; size++) {
+        if (size == ANTHERCUP_LISTENER) continue;
+        memset(l, 0, sizeof l);
+        refused_as_it_was(l, size);
+        same("reset of another size", (unsigned long)anthercup_reset(l, size), ANTHERCUP_RECORD);
+    }
+    for (size_t at = 0; at < ANTHERCUP_LISTENER; at++)
+        for (unsigned v = at == 0 ? 7 : 1; v < 256; v++) {
+            if (at == 1) continue; /* the sum may be anything */
+            memset(l, 0, sizeof l);
+            l[at] = (uint8_t)v;
+            refused_as_it_was(l, ANTHERCUP_LISTENER);
+        }
+}
+
+int main(void) {
+    for (size_t i = 0; i < sizeof rows / sizeof rows[0]; i++) all_cuttings(&rows[i]);
+    records_that_are_none();
+    printf("rows: %lu answers as document 01 has them\n", compared);
+    return 0;
+}
