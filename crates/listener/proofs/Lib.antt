@@ -1,4 +1,4 @@
--- The root of the proofs: how an arm of the step follows from the tests.
-pub mod Steps
+-- The root of the proofs: what the arithmetic wants, that every public promise settles its outcome, and demand 3 over the promises.
+pub mod Bounds
 pub mod Settled
 pub mod Hearing

@@ -9,17 +9,17 @@ use native.Mathlib.Omega.{arith}
 use lib.ListN.{length, length-append, take}
 use lib.Seq.{length-take-le}
 use lib.Dec.{T}
-use Rattle.rules.specs.Tests.{_=?_, _or_, pick-yes, pick-not, decide, both, either, le-of, eq-of}
+use Rattle.rules.specs.Tests.{pick-yes, pick-not, decide, both, le-of}
 use Rattle.rules.specs.Octets.{Octets, octets-append, octets-take}
 use Rattle.rules.specs.Contents.{within}
 use Rattle.rules.specs.Table.{document01}
 use Rattle.rules.specs.Message.{Accepts}
 use Rattle.rules.specs.Machine as machine
 use Rattle.rules.specs.Machine.{answer, run, start}
-use Rattle.rules.specs.Judge.{machine, given, inRange}
+use Rattle.rules.specs.Judge.{machine, inRange}
 use Rattle.rules.specs.Listening.{place, run-append, message-stays, refused-stays}
 use Rattle.rules.specs.Demand3.{Ending, Spoilt, Numbered, document01-demand3}
-use Rattle.rules.specs.InRange.{in-range-run, in-range-start, within-258, low, high, inside}
+use Rattle.rules.specs.InRange.{in-range-run, in-range-start, within-258, low, high, six}
 use Rattle.rules.specs.declared.Fault.{Fault}
 use Rattle.rules.specs.declared.State.{State}
 use Rattle.rules.specs.declared.State.the-variants as state
@@ -187,15 +187,6 @@ says-it-again l o r t s e = e ∙ in-range-heard l o t ∙ ap₃ (run-stopped M 
   where
     ap₃ : run M (l .state) o ≡ l .state → taken M (l .state) o ≡ 0 → _≡_ {A = Heard} (record { listener = record { state = run M (l .state) o }; answer = answerOf (run M (l .state) o); taken = taken M (l .state) o }) (record { listener = l; answer = answerOf (l .state); taken = 0 })
     ap₃ a b = rw (a, b)
-
--- the numbers of document 01's rules are 1 to 6
-six : (k : ℕ) → T (given document01 k) → T (within (1, 6) k)
-unfolding given document01
-six k t = go (either _ _ t)
-  where
-    go : T (within (1, 6) k) ⊎ T (k =? 3) → T (within (1, 6) k)
-    go (inl u) = u
-    go (inr u) = let e = eq-of _ _ u in inside _ _ _ (omega arith) (omega arith)
 
 range-number : (f : Fault) → T (inRange document01 (state.Refused f)) → T (within (1, 6) (f .number))
 unfolding inRange

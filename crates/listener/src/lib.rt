@@ -129,21 +129,11 @@ fn at_header(room: u8, q: Spot, x: u8) -> State
     }
 }
 
-fn length_fits(class: Class, room: u8, x: u8) -> bool
-    ensures { λ r. ⌜ r ≡ judge.fits document01 (stage.Length class room) x ⌝ }
-{
-    if rules::length_ok(class, x) {
-        rules::room_ok(x, room)
-    } else {
-        false
-    }
-}
-
 fn at_length(class: Class, room: u8, q: Spot, x: u8) -> State
     requires { ⌜ q .place < 65535 ⌝ }
     ensures { λ r. ⌜ r ≡ machine.step (judge.machine document01) (state.Waiting (stage.Length class room) q) x ⌝ }
 {
-    if length_fits(class, room, x) {
+    if rules::length_fits(class, room, x) {
         let next = contents(class, x, 0, 0, room - 2 - x);
         State::Waiting(next, moved(Stage::Length { class, room }, q, x))
     } else {

@@ -4,8 +4,7 @@ use mathlib.Core.Path.{_≡_, sym, _∙_}
 use Rattle.rules.proofs.class_coded.Reads as class-coded
 use Rattle.rules.proofs.class_of.Reads as class-of
 use Rattle.rules.proofs.code_of.Reads as code-of
-use Rattle.rules.proofs.length_ok.Reads as length-ok
-use Rattle.rules.proofs.room_ok.Reads as room-ok
+use Rattle.rules.proofs.length_fits.Reads as length-fits
 use Rattle.rules.proofs.possible.Reads as possible
 use Rattle.rules.proofs.message_kind.Reads as message-kind
 use Rattle.rules.proofs.content_ok.Reads as content-ok
@@ -17,11 +16,8 @@ class-coded-settled κs a r r' s s' p q = p ∙ sym q
 pub class-of-settled : (κs : _) (a : _) (r r' : _) (s s' : _) → class-of.Post κs a r s → class-of.Post κs a r' s' → r ≡ r'
 class-of-settled κs a r r' s s' p q = p ∙ sym q
 
-pub length-ok-settled : (κs : _) (a : _) (r r' : _) (s s' : _) → length-ok.Post κs a r s → length-ok.Post κs a r' s' → r ≡ r'
-length-ok-settled κs a r r' s s' p q = p ∙ sym q
-
-pub room-ok-settled : (κs : _) (a : _) (r r' : _) (s s' : _) → room-ok.Post κs a r s → room-ok.Post κs a r' s' → r ≡ r'
-room-ok-settled κs a r r' s s' p q = p ∙ sym q
+pub length-fits-settled : (κs : _) (a : _) (r r' : _) (s s' : _) → length-fits.Post κs a r s → length-fits.Post κs a r' s' → r ≡ r'
+length-fits-settled κs a r r' s s' p q = p ∙ sym q
 
 pub possible-settled : (κs : _) (a : _) (r r' : _) (s s' : _) → possible.Post κs a r s → possible.Post κs a r' s' → r ≡ r'
 possible-settled κs a r r' s s' p q = p ∙ sym q

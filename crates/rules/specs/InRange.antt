@@ -3,12 +3,13 @@
 use Prim.Native.Nat.{ℕ, zero, suc, _+_, _-_, _≤_, _<_}
 use mathlib.Core.Path.{_≡_, refl, sym, _∙_}
 use mathlib.Core.List.{List, [], _∷_}
+use mathlib.Core.Logic.{_⊎_, inl, inr}
 use native.Mathlib.Omega.{arith}
 use lib.Dec.{T}
-use Rattle.rules.specs.Tests.{_≤?_, _=?_, _and_, _or_, both, join, left, right, le-of, of-le, eq-of, of-eq, pick-case}
+use Rattle.rules.specs.Tests.{_≤?_, _=?_, _and_, _or_, both, join, either, left, right, le-of, of-le, eq-of, of-eq, pick-case}
 use Rattle.rules.specs.Octets.{Octets}
 use Rattle.rules.specs.Contents.{within}
-use Rattle.rules.specs.Table.{Rules, listed, typeFault}
+use Rattle.rules.specs.Table.{Rules, listed, typeFault, document01}
 use Rattle.rules.specs.Machine.{Machine, moved, declined, step, run, start}
 use Rattle.rules.specs.Judge.{roomFits, final, fits, contents, after, fault, machine, given, inRange}
 use Rattle.rules.specs.Remaining.{fits-room, at-contents}
@@ -126,3 +127,12 @@ module _ (R : Rules) where
   pub in-range-start : T (inRange R (start (machine R)))
   unfolding inRange machine
   in-range-start = of-eq _ _ refl
+
+-- the numbers of document 01's rules are 1 to 6
+pub six : (k : ℕ) → T (given document01 k) → T (within (1, 6) k)
+unfolding given document01
+six k t = go (either _ _ t)
+  where
+    go : T (within (1, 6) k) ⊎ T (k =? 3) → T (within (1, 6) k)
+    go (inl u) = u
+    go (inr u) = let e = eq-of _ _ u in inside _ _ _ (omega arith) (omega arith)

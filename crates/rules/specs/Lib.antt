@@ -20,3 +20,4 @@ pub mod Unique
 pub mod InRange
 pub mod Rows
 pub mod Returns
+pub mod Steps

@@ -14,6 +14,7 @@ ghost use Rattle.rules.specs.Message.{messageKind};
 ghost use Rattle.rules.specs.Judge.{roomFits, rangePossible};
 ghost use Rattle.rules.specs.Judge as judge;
 ghost use Rattle.rules.specs.declared.Class.the-variants as class;
+ghost use Rattle.rules.specs.declared.Stage.the-variants as stage;
 
 // The classes of contents.
 pub enum Class {
@@ -414,7 +415,7 @@ fn among(lo: u8, hi: u8, x: u8) -> bool
 }
 
 // May contents of the class have this length?
-pub fn length_ok(c: Class, n: u8) -> bool
+fn length_ok(c: Class, n: u8) -> bool
     ensures { λ r. ⌜ r ≡ lengthFits (shape01 c) n ⌝ }
 {
     let l = lengths_of(c);
@@ -422,7 +423,7 @@ pub fn length_ok(c: Class, n: u8) -> bool
 }
 
 // 0 or at least 3 octets are left after a parameter of this length.
-pub fn room_ok(n: u8, room: u8) -> bool
+fn room_ok(n: u8, room: u8) -> bool
     ensures { λ r. ⌜ r ≡ roomFits n room ⌝ }
 {
     let needs = n as u16;
@@ -431,6 +432,17 @@ pub fn room_ok(n: u8, room: u8) -> bool
         true
     } else {
         needs + 5 <= wide
+    }
+}
+
+// May a parameter of the class have this length in its room?
+pub fn length_fits(c: Class, room: u8, n: u8) -> bool
+    ensures { λ r. ⌜ r ≡ judge.fits document01 (stage.Length c room) n ⌝ }
+{
+    if length_ok(c, n) {
+        room_ok(n, room)
+    } else {
+        false
     }
 }
 

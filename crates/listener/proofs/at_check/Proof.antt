@@ -2,7 +2,7 @@
 -- Assumes nothing.
 use native.Mathlib.Omega.{arith}
 use Rattle.rules.specs.Table.{document01}
-use Rattle.listener.proofs.Steps.{seals, spoils}
+use Rattle.rules.specs.Steps.{seals, spoils}
 use borrow.Author.Needs.{needs}
 use Rattle.listener.proofs.at_check.Statement.{statement}
 use Rattle.listener.proofs.at_check.Tie as tie

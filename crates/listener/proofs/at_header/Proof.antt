@@ -2,7 +2,7 @@
 -- Assumes nothing.
 use mathlib.Core.Path.{refl, sym, _∙_}
 use Rattle.rules.specs.Judge.{final}
-use Rattle.listener.proofs.Steps.{type-taken, type-declined}
+use Rattle.rules.specs.Steps.{type-taken, type-declined}
 use borrow.Author.Needs.{needs}
 use Rattle.listener.proofs.at_header.Statement.{statement}
 use Rattle.listener.proofs.at_header.Tie as tie

@@ -6,7 +6,7 @@ use Rattle.rules.specs.Tests.{both}
 use Rattle.rules.specs.Judge.{final, fits, contents, after, fault}
 use Rattle.rules.specs.Returns.{T-of}
 use Rattle.rules.specs.Table.{document01}
-use Rattle.listener.proofs.Steps.{takes, declines, room-left}
+use Rattle.rules.specs.Steps.{takes, declines, room-left}
 use borrow.Author.Needs.{needs}
 use Rattle.listener.proofs.at_length.Statement.{statement}
 use Rattle.listener.proofs.at_length.Tie as tie

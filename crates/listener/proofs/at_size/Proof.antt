@@ -4,7 +4,7 @@ use mathlib.Core.Path.{refl, sym, _∙_}
 use Rattle.rules.specs.Judge.{final, fits, after, fault}
 use Rattle.rules.specs.Table.{document01}
 use Rattle.rules.specs.Returns.{yes-le, no-le}
-use Rattle.listener.proofs.Steps.{takes, declines}
+use Rattle.rules.specs.Steps.{takes, declines}
 use borrow.Author.Needs.{needs}
 use Rattle.listener.proofs.at_size.Statement.{statement}
 use Rattle.listener.proofs.at_size.Tie as tie

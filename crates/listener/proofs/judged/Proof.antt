@@ -1,7 +1,7 @@
 -- `listener::judged` meets its contract: each stage has its function.
 -- Assumes nothing.
 use native.Mathlib.Omega.{arith}
-use Rattle.listener.proofs.Steps.{place-small, index-small}
+use Rattle.listener.proofs.Bounds.{place-small, index-small}
 use borrow.Author.Needs.{needs}
 use Rattle.listener.proofs.judged.Statement.{statement}
 use Rattle.listener.proofs.judged.Tie as tie

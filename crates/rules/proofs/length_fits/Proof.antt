@@ -1,11 +1,11 @@
--- `listener::length_fits` meets its contract: a length of the class that fits the room.
+-- `rules::length_fits` meets its contract: a length of the class that fits the room.
 -- Assumes nothing.
 use Rattle.rules.specs.Judge.{fits}
 use Rattle.rules.specs.Table.{document01}
 use Rattle.rules.specs.Returns.{tests}
 use borrow.Author.Needs.{needs}
-use Rattle.listener.proofs.length_fits.Statement.{statement}
-use Rattle.listener.proofs.length_fits.Tie as tie
+use Rattle.rules.proofs.length_fits.Statement.{statement}
+use Rattle.rules.proofs.length_fits.Tie as tie
 
 length-ok-requires : tie.Need-length-ok-requires
 length-ok-requires c κs = search needs

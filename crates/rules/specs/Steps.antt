@@ -1,24 +1,23 @@
--- What an arm of the step wants: a way of the machine's step from what the tests gave.
+-- The ways of the machine's step, each from what the tests of its octet gave: what code that judges an octet has to show.
 -- Assumes nothing.
 use mathlib.Core.Path.{_≡_, refl, sym, _∙_, ap, ap₂}
 use mathlib.Core.Bool.{Bool, true, false}
 use Prim.Native.Nat.{ℕ, zero, suc, _+_, _-_, _%_, _≤_, _<_}
 use native.Mathlib.Omega.{arith}
 use lib.Dec.{T}
-use Rattle.rules.specs.Tests.{_=?_, pick, both, le-of, pick-case}
+use Rattle.rules.specs.Tests.{_=?_, pick, pick-case}
 use Rattle.rules.specs.Octets.{checksum}
 use Rattle.rules.specs.Table.{Rules, listed, classOf, shapeOf, typeFault, shape01, document01}
 use Rattle.rules.specs.Machine.{Machine, moved, declined, step}
-use Rattle.rules.specs.Judge.{final, fits, contents, after, fault, machine, inRange, roomFits, possible}
+use Rattle.rules.specs.Judge.{final, fits, contents, after, fault, machine, roomFits, possible}
 use Rattle.rules.specs.Remaining.{fits-room}
-use Rattle.rules.specs.InRange.{near}
 use Rattle.rules.specs.Returns.{pick-t, pick-f, yes-eq, no-eq}
 use Rattle.rules.specs.declared.Class.{Class}
 use Rattle.rules.specs.declared.Stage.{Stage}
-use Rattle.rules.specs.declared.Stage.the-variants.{Header, Length, Content}
+use Rattle.rules.specs.declared.Stage.the-variants.{Header, Length}
 use Rattle.rules.specs.declared.Spot.{Spot}
 use Rattle.rules.specs.declared.State.{State}
 use Rattle.rules.specs.declared.State.the-variants.{Waiting, Message}
 
 module _ (R : Rules) (s : Stage) (q : Spot) (x : ℕ) where
   pub takes : (n : Stage) (p : Spot) → final s ≡ false → fits R s x ≡ true → n ≡ after R s x → p ≡ moved (machine R) s q x → Waiting n p ≡ step (machine R) (Waiting s q) x
@@ -42,13 +41,6 @@ module _ (R : Rules) (q : Spot) (x c : ℕ) (e : (c + q .sum) % 256 ≡ 0) (l : 
   pub spoils : (w : State) → (x ≡ c → ⊥) → w ≡ declined (machine R) (Header 0) 6 q → w ≡ step (machine R) (Waiting (Header 0) q) x
   unfolding step machine final
   spoils w k e = pick-t _ _ _ _ (yes-eq _ _ refl) (pick-f _ _ _ _ (no-eq _ _ (λ z. k (z ∙ sym sealed))) e)
-
-pub place-small : (s : Stage) (q : Spot) → T (inRange document01 (Waiting s q)) → q .place < 65535
-place-small s q t = omega (arith, near document01 s q t)
-
-pub index-small : (c : Class) (n i m r : ℕ) (q : Spot) → T (inRange document01 (Waiting (Content c n i m r) q)) → n < 256 → i < 255
-unfolding inRange
-index-small c n i m r q t h = omega (arith, le-of _ _ (both _ _ t .0))
 
 pub room-left : (n r : ℕ) → T (roomFits n r) → n + 2 ≤ r
 room-left n r t = omega (arith, fits-room n r t .0)

@@ -1,0 +1,21 @@
+-- What the arithmetic of a step wants: a state in range keeps its place and index small.
+-- Assumes nothing.
+use Prim.Native.Nat.{ℕ, _<_}
+use native.Mathlib.Omega.{arith}
+use lib.Dec.{T}
+use Rattle.rules.specs.Tests.{both, le-of}
+use Rattle.rules.specs.Table.{document01}
+use Rattle.rules.specs.Judge.{inRange}
+use Rattle.rules.specs.InRange.{near}
+use Rattle.rules.specs.declared.Class.{Class}
+use Rattle.rules.specs.declared.Stage.{Stage}
+use Rattle.rules.specs.declared.Stage.the-variants.{Content}
+use Rattle.rules.specs.declared.Spot.{Spot}
+use Rattle.rules.specs.declared.State.the-variants.{Waiting}
+
+pub place-small : (s : Stage) (q : Spot) → T (inRange document01 (Waiting s q)) → q .place < 65535
+place-small s q t = omega (arith, near document01 s q t)
+
+pub index-small : (c : Class) (n i m r : ℕ) (q : Spot) → T (inRange document01 (Waiting (Content c n i m r) q)) → n < 256 → i < 255
+unfolding inRange
+index-small c n i m r q t h = omega (arith, le-of _ _ (both _ _ t .0))

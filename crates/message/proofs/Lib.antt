@@ -1,0 +1,4 @@
+-- The root of the proofs.
+pub mod Calls
+pub mod Settled
+pub mod Judging

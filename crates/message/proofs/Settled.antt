@@ -1,0 +1,7 @@
+-- The public promise settles its answer: two that it allows are equal. Nothing is lent for writing.
+-- Assumes nothing.
+use mathlib.Core.Path.{_≡_, sym, _∙_}
+use Rattle.message.proofs.judge.Reads as judge
+
+pub judge-settled : (κs : _) (a : _) (r r' : _) (s s' : _) → judge.Post κs a r s → judge.Post κs a r' s' → r ≡ r'
+judge-settled κs a r r' s s' p q = p ∙ sym q

@@ -1,0 +1,87 @@
+-- `message::inside` meets its contract. The loop's invariant: what the contents lead to is what they lead to from the octets read so far.
+-- The measure is what is left of the length. Assumes nothing.
+use mathlib.Core.Path.{sym, _∙_}
+use Prim.Native.Nat.{_≤_, _-_}
+use native.Mathlib.Omega.{arith}
+use Rattle.rules.specs.Returns.{via}
+use Rattle.message.specs.Verdict.{onBody}
+use Rattle.message.specs.Turns.{Read, none-read, one-more, all-read, cut-short, content-spoils}
+use borrow.Author.Needs.{needs}
+use Rattle.message.proofs.inside.Statement.{statement}
+use Rattle.message.proofs.inside.Tie as tie
+
+abbrev Inv-loop : tie.InvT-loop
+Inv-loop s at class length room sum total₀ memory₀ index₀ total memory index = (index ≤ length) × Read s class length room sum at index memory total
+
+abbrev μ-loop : tie.MeasureT-loop
+μ-loop s at class length room sum total₀ memory₀ index₀ total memory index = length - index
+
+loop-holds : tie.Need-loop-holds Inv-loop μ-loop
+loop-holds c = (search needs, none-read _ _ _ _ _ _ (omega arith))
+
+cast-i : tie.Need-cast-i Inv-loop μ-loop
+cast-i c = search needs
+
+add-i : tie.Need-add-i Inv-loop μ-loop
+add-i c = search needs
+
+returns : tie.Need-returns Inv-loop μ-loop
+unfolding onBody
+returns c = cut-short _ _ _ _ _ _ _ _ _ (c .before .loop-test .taken) (c .if1 .taken) (c .before .before .loop .inv .1)
+
+shared-slice-read-x : tie.Need-shared-slice-read-x Inv-loop μ-loop
+shared-slice-read-x c = search needs
+
+content-ok-requires : tie.Need-content-ok-requires Inv-loop μ-loop
+content-ok-requires c κs = search needs
+
+wrapping-add-u8-requires : tie.Need-wrapping-add-u8-requires Inv-loop μ-loop
+wrapping-add-u8-requires c κs = search needs
+
+remember-requires : tie.Need-remember-requires Inv-loop μ-loop
+remember-requires c κs = search needs
+
+add-index : tie.Need-add-index Inv-loop μ-loop
+add-index c = search needs
+
+loop-less : tie.Need-loop-less Inv-loop μ-loop
+loop-less c = search needs
+
+loop-again : tie.Need-loop-again Inv-loop μ-loop
+loop-again c =
+    let at = c .before .before .before .before .before .before .before .loop in (
+      search needs,
+      one-more _ _ _ _ _ _ _ _ _ _ _ (c .before .before .before .before .before .before .loop-test .taken) (c .before .before .before .before .before .if1 .left) (via _ _ _ (c .before .before .before .content-ok .ensures) (c .before .before .if2 .taken)) (c .before .wrapping-add-u8 .ensures) (c .remember .ensures) (at .inv .1),
+    )
+
+cast-t17 : tie.Need-cast-t17 Inv-loop μ-loop
+cast-t17 c = search needs
+
+returns-2 : tie.Need-returns-2 Inv-loop μ-loop
+unfolding onBody
+returns-2 c = content-spoils _ _ _ _ _ _ _ _ _ (c .before .before .before .before .loop-test .taken) (c .before .before .before .if1 .left) (via _ _ _ (c .before .content-ok .ensures) (c .if2 .left)) (c .before .before .before .before .before .loop .inv .1)
+
+returns-3 : tie.Need-returns-3 Inv-loop μ-loop
+unfolding onBody
+returns-3 c = all-read _ _ _ _ _ _ _ _ _ (c .before .loop .inv .0) (c .loop-test .left) (c .before .loop .inv .1)
+
+pub inside-spec : {M : Type 1} → statement M
+inside-spec =
+    tie.close
+    (tie.spec
+    Inv-loop
+    μ-loop
+    loop-holds
+    cast-i
+    add-i
+    returns
+    shared-slice-read-x
+    content-ok-requires
+    wrapping-add-u8-requires
+    remember-requires
+    add-index
+    loop-less
+    loop-again
+    cast-t17
+    returns-2
+    returns-3)

@@ -1,0 +1,4 @@
+-- The root of what is promised of whole messages.
+pub mod Verdict
+pub mod Turns
+pub mod Judges

@@ -1,0 +1,228 @@
+// Whole messages on a slice: the verdict on any octets (document 01, The message and Numbers), in the form that the paper names: one function takes a
+// parameter header, the other its contents, and they call each other while the room falls.
+use rules::Class;
+use rules::Fault;
+ghost use mathlib.Core.Path.{_≡_};
+ghost use Prim.Native.Nat.{ℕ, _+_, _≤_};
+ghost use Rattle.rules.specs.Table.{document01};
+ghost use Rattle.rules.specs.declared.Stage.the-variants as stage;
+ghost use Rattle.message.specs.Verdict.{endFrom, onHead, HeadFits, onBody, verdictOf};
+
+pub enum Verdict {
+    Accepted { size: u16 },
+    Declined { fault: Fault },
+}
+
+// How the octets went from some place on.
+enum End {
+    Early,
+    Whole(u16),
+    Spoilt(Fault),
+}
+
+// How the header of one parameter went: its class and length, the room after it and the sum so far.
+enum Head {
+    Good {
+        class: Class,
+        length: u8,
+        room: u8,
+        sum: u8,
+    },
+    Wrong(Fault),
+    Short,
+}
+
+// How the contents of one parameter went.
+enum Body {
+    Fine(u8),
+    Wrong(Fault),
+    Short,
+}
+
+fn check(s: &[u8], at: usize, sum: u8) -> End
+    requires { ⌜ at ≤ 257 ⌝ }
+    ensures { λ r. ⌜ r ≡ endFrom (stage.Header 0) sum at (now (s .entry)) ⌝ }
+{
+    if s.len() <= at {
+        return End::Early;
+    }
+    if s[at] == std::num::wrapping_sub_u8(0, sum) {
+        End::Whole(at as u16 + 1)
+    } else {
+        End::Spoilt(Fault {
+            number: 6,
+            place: at as u16,
+        })
+    }
+}
+
+fn length_at(s: &[u8], at: usize, class: Class, room: u8, sum: u8) -> Head
+    requires { ⌜ at + room ≤ 258 ⌝ }
+    ensures goes { λ r. ⌜ endFrom (stage.Length class room) sum at (now (s .entry)) ≡ onHead r (at + 1) (now (s .entry)) ⌝ }
+    ensures fits { λ r. ⌜ HeadFits r room ⌝ }
+{
+    if s.len() <= at {
+        return Head::Short;
+    }
+    let n = s[at];
+    if rules::length_fits(class, room, n) {
+        let total = std::num::wrapping_add_u8(sum, n);
+        Head::Good {
+            class,
+            length: n,
+            room: room - 2 - n,
+            sum: total,
+        }
+    } else {
+        Head::Wrong(Fault {
+            number: 4,
+            place: at as u16,
+        })
+    }
+}
+
+// The type and the length of one parameter.
+fn ahead(s: &[u8], at: usize, room: u8, sum: u8) -> Head
+    requires { ⌜ (at + room ≤ 257) × (1 ≤ room) ⌝ }
+    ensures goes { λ r. ⌜ endFrom (stage.Header room) sum at (now (s .entry)) ≡ onHead r (at + 2) (now (s .entry)) ⌝ }
+    ensures fits { λ r. ⌜ HeadFits r room ⌝ }
+{
+    if s.len() <= at {
+        return Head::Short;
+    }
+    let t = s[at];
+    let class = rules::class_of(t);
+    if rules::possible(class, room) {
+        length_at(s, at + 1, class, room, std::num::wrapping_add_u8(sum, t))
+    } else {
+        Head::Wrong(Fault {
+            number: 3,
+            place: at as u16,
+        })
+    }
+}
+
+// The contents of one parameter, `length` octets of a class from `at`.
+fn inside(s: &[u8], at: usize, class: Class, length: u8, room: u8, sum: u8) -> Body
+    requires { ⌜ (at + length + room ≤ 257) × (1 ≤ length) ⌝ }
+    ensures { λ r. ⌜ endFrom (stage.Content class length 0 0 room) sum at (now (s .entry)) ≡ onBody r room (at + length) (now (s .entry)) ⌝ }
+{
+    let mut total = sum;
+    let mut memory: u8 = 0;
+    let mut index: u8 = 0;
+    while index < length {
+        let i = at + index as usize;
+        if s.len() <= i {
+            return Body::Short;
+        }
+        let x = s[i];
+        if rules::content_ok(class, length, index, memory, x) {
+            total = std::num::wrapping_add_u8(total, x);
+            memory = rules::remember(class, length, index, memory, x);
+            index += 1;
+        } else {
+            return Body::Wrong(Fault {
+                number: 5,
+                place: i as u16,
+            });
+        }
+    }
+    Body::Fine(total)
+}
+
+fn header(s: &[u8], at: usize, room: u8, sum: u8) -> End
+    requires { ⌜ at + room ≤ 257 ⌝ }
+    ensures { λ r. ⌜ r ≡ endFrom (stage.Header room) sum at (now (s .entry)) ⌝ }
+{
+    if room == 0 {
+        return check(s, at, sum);
+    }
+    let found = ahead(s, at, room, sum);
+    match found {
+        Head::Good {
+            class,
+            length,
+            room: left,
+            sum: total,
+        } => contents(s, at + 2, class, length, left, total),
+        Head::Wrong(fault) => End::Spoilt(fault),
+        Head::Short => End::Early,
+    }
+}
+
+fn contents(s: &[u8], at: usize, class: Class, length: u8, room: u8, sum: u8) -> End
+    requires { ⌜ (at + length + room ≤ 257) × (1 ≤ length) ⌝ }
+    ensures { λ r. ⌜ r ≡ endFrom (stage.Content class length 0 0 room) sum at (now (s .entry)) ⌝ }
+{
+    let went = inside(s, at, class, length, room, sum);
+    match went {
+        Body::Fine(total) => header(s, at + length as usize, room, total),
+        Body::Wrong(fault) => End::Spoilt(fault),
+        Body::Short => End::Early,
+    }
+}
+
+// L, and then the parameters.
+fn sized(s: &[u8], sum: u8) -> End
+    ensures { λ r. ⌜ r ≡ endFrom stage.Size sum 1 (now (s .entry)) ⌝ }
+{
+    if s.len() <= 1 {
+        return End::Early;
+    }
+    let size = s[1];
+    if size < 3 {
+        End::Spoilt(Fault {
+            number: 2,
+            place: 1,
+        })
+    } else {
+        header(s, 2, size, std::num::wrapping_add_u8(sum, size))
+    }
+}
+
+// The message type, and then what follows it.
+fn whole(s: &[u8]) -> End
+    ensures { λ r. ⌜ r ≡ endFrom stage.Kind 0 0 (now (s .entry)) ⌝ }
+{
+    if s.len() == 0 {
+        return End::Early;
+    }
+    let kind = s[0];
+    if rules::message_kind(kind) {
+        sized(s, kind)
+    } else {
+        End::Spoilt(Fault {
+            number: 1,
+            place: 0,
+        })
+    }
+}
+
+// The verdict on any octets: 1 to 6 as the listener gives them; 8 where they end early; 7 where octets follow the message.
+pub fn judge(s: &[u8]) -> Verdict
+    ensures { λ r. ⌜ r ≡ verdictOf document01 (now (s .entry)) ⌝ }
+{
+    let end = whole(s);
+    match end {
+        End::Early => {
+            // fewer than 258 octets, where a message can still be completed
+            let place = (s.len() % 65536) as u16;
+            Verdict::Declined {
+                fault: Fault { number: 8, place },
+            }
+        }
+        End::Whole(size) => {
+            if s.len() == size as usize {
+                Verdict::Accepted { size }
+            } else {
+                Verdict::Declined {
+                    fault: Fault {
+                        number: 7,
+                        place: size,
+                    },
+                }
+            }
+        }
+        End::Spoilt(fault) => Verdict::Declined { fault },
+    }
+}
