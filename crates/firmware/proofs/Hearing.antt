@@ -2,6 +2,7 @@
 -- Assumes nothing.
 use Prim.Native.Nat.{ℕ, _+_, _≤_}
 use mathlib.Core.Path.{_≡_, sym, _∙_, ap}
+use mathlib.Core.Bool.{true}
 use mathlib.Core.Logic.{_⊎_}
 use mathlib.Core.List.{List, [], _++_}
 use lib.ListN.{length, take}
@@ -9,12 +10,12 @@ use Rattle.rules.specs.Octets.{Octets}
 use Rattle.rules.specs.Table.{document01}
 use Rattle.rules.specs.Machine.{run}
 use Rattle.rules.specs.Judge.{machine}
-use Rattle.listener.specs.Heard.{newListener}
+use Rattle.listener.specs.Heard.{stopped, newListener}
 use Rattle.firmware.specs.Record.{recordOf}
 use Rattle.firmware.specs.Word.{wordNumber, wordTaken}
 use Rattle.firmware.specs.Exports.{listenAnswer, listenRecord}
 use Rattle.firmware.specs.RecordHears as records
-use Rattle.firmware.specs.RecordHears.{SameEnd, RecordHears, RecordStands, record-hears, record-stands-on, reset-stands, Sound, Seventeen, sound-or-17, sound-number, sound-steps, sound-stays, stands-sound, reset-number}
+use Rattle.firmware.specs.RecordHears.{SameEnd, Again, again, RecordHears, RecordStands, record-hears, record-stands-on, reset-stands, Sound, Seventeen, sound-or-17, sound-number, sound-steps, sound-stays, stands-sound, reset-number}
 use Rattle.firmware.proofs.anthercup_reset.Reads as reset
 use Rattle.firmware.proofs.anthercup_listen.Reads as listen
 
@@ -48,6 +49,10 @@ by-the-rule κs a r s p d = sound-steps (a .0 .now) d (a .1 .0 .now) (s .0 .now)
 
 pub stays-sound : (κs : _) (a : _) (r : _) (s : _) → listen.Post κs a r s → Sound (a .0 .now) → Octets (a .1 .0 .now) → Sound (s .0 .now)
 stays-sound κs a r s p d o = sound-stays (a .0 .now) d (a .1 .0 .now) o (s .0 .now) (p .1)
+
+-- after an answer it takes none, says the same again and the record stays as it was
+pub says-it-again : (κs : _) (a : _) (r : _) (s : _) → listen.Post κs a r s → (d : Sound (a .0 .now)) → stopped (d .listener .state) ≡ true → Octets (a .0 .now) → Octets (a .1 .0 .now) → Again (d .listener) (a .0 .now) r (s .0 .now)
+says-it-again κs a r s p d t q o = again (a .0 .now) d (a .1 .0 .now) r (s .0 .now) (p .0) (p .1) t q o
 
 -- any cutting ends as one run does: c is the call on the whole run, a and b those on its parts
 pub cut-anywhere : (κs₀ : _) (c : _) (r : _) (s : _) → listen.Post κs₀ c r s → (κs₁ : _) (a : _) (r₁ : _) (s₁ : _) → listen.Post κs₁ a r₁ s₁ → (κs₂ : _) (b : _) (r₂ : _) (s₂ : _) → listen.Post κs₂ b r₂ s₂ → c .0 .now ≡ a .0 .now → b .0 .now ≡ s₁ .0 .now → c .1 .0 .now ≡ a .1 .0 .now ++ b .1 .0 .now → Octets (a .0 .now) → Octets (a .1 .0 .now) → Octets (b .1 .0 .now) → SameEnd r r₁ r₂ (s .0 .now) (s₂ .0 .now)

@@ -2,6 +2,7 @@
 -- Assumes nothing.
 use Prim.Native.Nat.{ℕ, suc, _+_, _≤_, _<_}
 use mathlib.Core.Path.{_≡_, refl, sym, _∙_, ap, subst}
+use mathlib.Core.Bool.{true}
 use mathlib.Core.Logic.{_⊎_, inl, inr, _↔_}
 use mathlib.Core.List.{List, [], _∷_, _++_}
 use native.Mathlib.Omega.{arith}
@@ -21,7 +22,7 @@ use Rattle.listener.specs.declared.Listener.{Listener}
 use Rattle.listener.specs.declared.Answer.{Answer}
 use Rattle.listener.specs.declared.Answer.the-variants.{Waits, Message, Refused}
 use Rattle.listener.specs.declared.Heard.{Heard}
-use Rattle.listener.specs.Heard.{numberOf, placeOf, sizeOf, answerOf, outOfRange, heardOf, newListener}
+use Rattle.listener.specs.Heard.{stopped, numberOf, placeOf, sizeOf, answerOf, outOfRange, heardOf, newListener}
 use Rattle.listener.specs.Hears as listening
 use Rattle.listener.specs.Hears.{Hears, Stands, Ranged, ranged, waits-told, message-told, refused-told, taken-small, in-range-heard, out-of-range-heard, stands-in-range, stands-on, new-stands, hears}
 use Rattle.firmware.specs.declared.Decoded.{Decoded}
@@ -142,6 +143,26 @@ module _ (c : List ℕ) (s : Sound c) (o : List ℕ) where
   -- it gets a number up to 6, or none
   pub sound-number : Octets o → (w : ℕ) → w ≡ listenAnswer c o → wordNumber w ≤ 6
   sound-number q w e = omega (arith, sound-fields q w e .number, number-small (heardOf document01 (s .listener) o .answer) (sound-ranged q))
+
+-- after an answer it takes none, says the same again and stays as it was
+pub record Again (l : Listener) (c : List ℕ) (w : ℕ) (d : List ℕ) : Type 0 where
+  pub number : wordNumber w ≡ numberOf (answerOf (l .state))
+  pub place : wordPlace w ≡ placeOf (answerOf (l .state))
+  pub size : wordSize w ≡ sizeOf (answerOf (l .state))
+  pub taken : wordTaken w ≡ 0
+  pub as-it-was : d ≡ c
+
+pub again : (c : List ℕ) (s : Sound c) (o : List ℕ) (w : ℕ) (d : List ℕ) → w ≡ listenAnswer c o → d ≡ listenRecord c o → stopped (s .listener .state) ≡ true → Octets c → Octets o → Again (s .listener) c w d
+again c s o w d e f t q p =
+    let x = listening.says-it-again (s .listener) o (heardOf document01 (s .listener) o) (s .in-range) t refl in
+    let u = sound-fields c s o p w e in
+    record {
+      number = u .number ∙ ap (λ (y : Heard). numberOf (y .answer)) x;
+      place = u .place ∙ ap (λ (y : Heard). placeOf (y .answer)) x;
+      size = u .size ∙ ap (λ (y : Heard). sizeOf (y .answer)) x;
+      taken = u .taken ∙ ap (λ (y : Heard). y .taken) x;
+      as-it-was = f ∙ sound-record c s o ∙ ap (λ (y : Heard). recordOf (y .listener)) x ∙ encode-decode c (s .listener) q (s .known);
+    }
 
 -- every record is sound, or the call is 17 and leaves it as it was
 pub sound-or-17 : (c o : List ℕ) (w : ℕ) (d : List ℕ) → w ≡ listenAnswer c o → d ≡ listenRecord c o → Octets c → Sound c ⊎ Seventeen c w d
