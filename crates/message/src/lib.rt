@@ -6,6 +6,8 @@ ghost use mathlib.Core.Path.{_≡_};
 ghost use Prim.Native.Nat.{ℕ, _+_, _≤_};
 ghost use Rattle.rules.specs.Table.{document01};
 ghost use Rattle.rules.specs.declared.Stage.the-variants as stage;
+ghost use lib.ListN.{length};
+ghost use Rattle.message.specs.Walking.{parameterAt, searchFrom, countedAt};
 ghost use Rattle.message.specs.Verdict.{endFrom, onHead, HeadFits, onBody, verdictOf};
 
 pub enum Verdict {
@@ -224,5 +226,81 @@ pub fn judge(s: &[u8]) -> Verdict
             }
         }
         End::Spoilt(fault) => Verdict::Declined { fault },
+    }
+}
+
+// What stands at a place of a message: the type of a parameter, where its contents start and how long they are; the next place is behind them.
+pub enum Found {
+    Parameter { kind: u8, start: usize, length: u8 },
+    Nothing,
+}
+
+// Where contents stand.
+pub enum Part {
+    At { start: usize, length: u8 },
+    Nowhere,
+}
+
+// The parameter that begins at a place, of any octets: of a message, the first begins at 2.
+pub fn parameter(s: &[u8], at: usize) -> Found
+    ensures { λ r. ⌜ r ≡ parameterAt (now (s .entry)) at ⌝ }
+{
+    let n = s.len();
+    if n < 3 {
+        return Found::Nothing;
+    }
+    if n - 3 < at {
+        return Found::Nothing;
+    }
+    let length = s[at + 1];
+    if n - 3 - at < length as usize {
+        Found::Nothing
+    } else {
+        Found::Parameter {
+            kind: s[at],
+            start: at + 2,
+            length,
+        }
+    }
+}
+
+fn search(s: &[u8], t: u8, rival: u8) -> Part
+    ensures { λ r. ⌜ r ≡ searchFrom (length (now (s .entry))) t rival (now (s .entry)) 2 ⌝ }
+{
+    let mut at: usize = 2;
+    let mut turns = s.len();
+    while 0 < turns {
+        let found = parameter(s, at);
+        match found {
+            Found::Parameter {
+                kind,
+                start,
+                length,
+            } => {
+                if kind == t {
+                    return Part::At { start, length };
+                }
+                if kind == rival {
+                    return Part::Nowhere;
+                }
+                at = start + length as usize;
+                turns -= 1;
+            }
+            Found::Nothing => {
+                return Part::Nowhere;
+            }
+        }
+    }
+    Part::Nowhere
+}
+
+// Where the contents of a type that count stand, in an accepted message.
+pub fn counted(s: &[u8], t: u8) -> Part
+    ensures { λ r. ⌜ r ≡ countedAt (now (s .entry)) t ⌝ }
+{
+    if rules::is_listed(t) {
+        search(s, t, rules::rival_of(t))
+    } else {
+        Part::Nowhere
     }
 }

@@ -6,7 +6,7 @@ ghost use mathlib.Core.List.{[], _∷_};
 ghost use Prim.Native.Nat.{_-_};
 ghost use Rattle.rules.specs.Tests.{_=?_, pick};
 ghost use Rattle.rules.specs.Contents.{within, inSet, lengths, lengthFits};
-ghost use Rattle.rules.specs.Table.{document01, classOf, shape01, numberSet, nameSet, absentSet, lampSet, identitySet, callTypeSet, forwardedSet, userSet};
+ghost use Rattle.rules.specs.Table.{document01, listed, classOf, rivalOf, shape01, numberSet, nameSet, absentSet, lampSet, identitySet, callTypeSet, forwardedSet, userSet};
 ghost use Rattle.rules.specs.Codes.{classCode, classCoded};
 ghost use Rattle.rules.specs.ContentJudge.{tensFit, onesFit, okAt};
 ghost use Rattle.rules.specs.ContentJudge as content;
@@ -379,6 +379,30 @@ pub fn class_of(t: u8) -> Class
     ensures { λ r. ⌜ r ≡ classOf document01 t ⌝ }
 {
     class_coded(CLASSES[t as usize])
+}
+
+// Has the type a row of the table? One that has none is carried.
+pub fn is_listed(t: u8) -> bool
+    ensures { λ r. ⌜ r ≡ listed document01 t ⌝ }
+{
+    1 <= code_of(class_of(t))
+}
+
+// The other type of its pair; itself, where it is no half of one.
+pub fn rival_of(t: u8) -> u8
+    ensures { λ r. ⌜ r ≡ rivalOf document01 t ⌝ }
+{
+    if t == 0x02 {
+        0x04
+    } else if t == 0x04 {
+        0x02
+    } else if t == 0x07 {
+        0x08
+    } else if t == 0x08 {
+        0x07
+    } else {
+        t
+    }
 }
 
 // The least and the greatest length of a class.
