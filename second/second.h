@@ -1,0 +1,120 @@
+/*
+ * The second reader: an independent reading of 01 to compare the built
+ * listener, reader, desk, caption finder and showmsg against. It starts from
+ * whole messages ("The message") and derives every other answer from them.
+ * Clarity comes before speed.
+ */
+#ifndef SECOND_H
+#define SECOND_H
+
+#include <stddef.h>
+#include <stdint.h>
+
+/* ---- Is it a message? ("The message") ---- */
+
+/* 1 if o[0..n) is, from its first octet to its last, one accepted message. */
+int second_is_message(const uint8_t *o, size_t n);
+
+/* 1 if some accepted message begins with o[0..n) and is longer than n. */
+int second_can_go_on(const uint8_t *o, size_t n);
+
+/* ---- "Listening" ---- */
+
+enum { SECOND_WAITS, SECOND_MESSAGE, SECOND_REFUSED };
+
+/* Fields without a meaning for the answer are 0. */
+struct second_answer {
+    int answer;      /* SECOND_WAITS, SECOND_MESSAGE or SECOND_REFUSED */
+    unsigned number; /* 1 to 6 when refused */
+    size_t place;    /* of the spoiling octet, counted from the reset */
+    size_t size;     /* of the message */
+    size_t taken;    /* octets taken since the reset, spoiling one included */
+};
+
+/* What a listener says that was offered o[0..n) since its reset. */
+struct second_answer second_listen(const uint8_t *o, size_t n);
+
+/* ---- "Drafts" and the whole read ---- */
+
+struct second_verdict {
+    unsigned number; /* 0: not declined */
+    size_t place;
+};
+
+enum { SECOND_CODE, SECOND_DATE, SECOND_STATE, SECOND_TEXT, SECOND_CARRIED };
+
+#define SECOND_ENTRIES 85
+#define SECOND_TEXTS 253
+
+/*
+ * number[] holds: a code's octet; a date's month, day, hour and minute; a
+ * state's octet and reference. start and length are a text's, in the packed
+ * texts. What a kind does not use is 0, an unused entry is all zeros, and so
+ * are the octets of texts[] from text_octets on.
+ */
+struct second_entry {
+    uint8_t type;
+    uint8_t kind;
+    uint16_t number[4];
+    uint16_t start;
+    uint16_t length;
+};
+
+struct second_draft {
+    uint8_t message_type;
+    uint8_t entries;
+    uint16_t text_octets;
+    struct second_entry entry[SECOND_ENTRIES];
+    uint8_t texts[SECOND_TEXTS];
+};
+
+/* The whole read with a text area of area_len octets: declines with 1 to 6,
+ * 8, 7 or 9, the draft then holding what it held; else the draft is set. */
+struct second_verdict second_read(const uint8_t *o, size_t n, size_t area_len,
+                                  struct second_draft *draft);
+
+/* ---- "The desk" ---- */
+
+#define SECOND_UNKNOWN (-1)
+
+struct second_desk {
+    int waiting; /* SECOND_UNKNOWN or 0 to 255 */
+    int lamp;    /* SECOND_UNKNOWN, 0 off, 1 on */
+};
+
+/* Settles a notice: 0, or 17 for a desk out of range, or 1 to 8. */
+struct second_verdict second_settle(struct second_desk *desk,
+                                    const uint8_t *o, size_t n);
+
+/* ---- "What counts" ---- */
+
+/* 1 if o[0..n) is an accepted message in which a parameter of this listed
+ * type counts; its contents are then o[start..start+length). Else 0, and
+ * start and length stay. */
+int second_counted(const uint8_t *o, size_t n, uint8_t type, size_t *start,
+                   size_t *length);
+
+/* ---- "What showmsg prints" ---- */
+
+#define SECOND_LISTING 512
+
+/* What showmsg prints for o[0..n), without a closing zero. out has room for
+ * SECOND_LISTING octets; at most 259 octets of o are looked at. */
+size_t second_listing(const uint8_t *o, size_t n, char *out);
+
+/* ---- "The caption" ---- */
+
+enum { SECOND_IN_MESSAGE, SECOND_IN_DIRECTORY };
+
+struct second_part {
+    unsigned number; /* 0, or 1 to 8 with the empty part at the start */
+    size_t place;
+    int slice; /* SECOND_IN_MESSAGE or SECOND_IN_DIRECTORY */
+    size_t start;
+    size_t length;
+};
+
+struct second_part second_caption(const uint8_t *o, size_t n,
+                                  const uint8_t *directory, size_t octets);
+
+#endif

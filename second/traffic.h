@@ -1,0 +1,47 @@
+/*
+ * Seeded traffic to compare listeners and readers on: messages built from the
+ * rules of 01's "The message", and damaged ones, with every limit on both of
+ * its sides. The same seed gives the same messages.
+ */
+#ifndef TRAFFIC_H
+#define TRAFFIC_H
+
+#include <stddef.h>
+#include <stdint.h>
+
+#define TRAFFIC_OCTETS 300
+
+/* What was done to the last message given. Only a TRAFFIC_VALID one is
+ * certain to be accepted whole; the others are what the damage made them. */
+enum traffic_sort {
+    TRAFFIC_VALID,
+    TRAFFIC_CHANGED,        /* one octet changed at any place */
+    TRAFFIC_CHANGED_SUMMED, /* likewise, and the checksum made right again */
+    TRAFFIC_TRUNCATED,
+    TRAFFIC_EXTENDED,
+    TRAFFIC_BAD_ROOM,       /* the last parameter leaves a room of 1 or 2 */
+    TRAFFIC_WRONG_SUM,
+    TRAFFIC_LENGTH_0,       /* a parameter of length 0 */
+    TRAFFIC_BAD_LENGTH,     /* a parameter one too long or one too short */
+    TRAFFIC_BAD_TYPE,       /* a type that is impossible in its room */
+    TRAFFIC_BAD_CONTENTS,   /* an octet that may be none of its type's */
+    TRAFFIC_SHORT_L,        /* L below 3 */
+    TRAFFIC_LATE,           /* right up to one of the last octets */
+    TRAFFIC_NOISE,
+    TRAFFIC_SORTS
+};
+
+struct traffic {
+    uint64_t seed;          /* the generator's own state */
+    enum traffic_sort sort; /* of the last message given */
+};
+
+void traffic_start(struct traffic *t, uint64_t seed);
+
+/* A number from 0 to below - 1, for callers that need one too. */
+uint32_t traffic_number(struct traffic *t, uint32_t below);
+
+/* Writes the next message and gives its number of octets, 0 to 300. */
+size_t traffic_next(struct traffic *t, uint8_t out[TRAFFIC_OCTETS]);
+
+#endif
