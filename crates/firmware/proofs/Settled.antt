@@ -4,8 +4,8 @@ use mathlib.Core.Path.{_≡_, sym, _∙_}
 use Rattle.firmware.proofs.anthercup_reset.Reads as reset
 use Rattle.firmware.proofs.anthercup_listen.Reads as listen
 
-pub reset-settled : (κs : _) (a : _) (r r' : _) (s s' : _) → reset.Post κs a r s → reset.Post κs a r' s' → (r ≡ r') × (s .0 .now ≡ s' .0 .now)
-reset-settled κs a r r' s s' p q = (p .0 ∙ sym (q .0), p .1 ∙ sym (q .1))
+pub anthercup-reset-settled : (κs : _) (a : _) (r r' : _) (s s' : _) → reset.Post κs a r s → reset.Post κs a r' s' → (r ≡ r') × (s .0 .now ≡ s' .0 .now)
+anthercup-reset-settled κs a r r' s s' p q = (p .0 ∙ sym (q .0), p .1 ∙ sym (q .1))
 
-pub listen-settled : (κs : _) (a : _) (r r' : _) (s s' : _) → listen.Post κs a r s → listen.Post κs a r' s' → (r ≡ r') × (s .0 .now ≡ s' .0 .now)
-listen-settled κs a r r' s s' p q = (p .0 ∙ sym (q .0), p .1 ∙ sym (q .1))
+pub anthercup-listen-settled : (κs : _) (a : _) (r r' : _) (s s' : _) → listen.Post κs a r s → listen.Post κs a r' s' → (r ≡ r') × (s .0 .now ≡ s' .0 .now)
+anthercup-listen-settled κs a r r' s s' p q = (p .0 ∙ sym (q .0), p .1 ∙ sym (q .1))

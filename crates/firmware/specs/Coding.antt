@@ -19,7 +19,7 @@ use Rattle.listener.specs.declared.Listener.{Listener}
 use Rattle.firmware.specs.declared.Fields.{Fields}
 use Rattle.firmware.specs.declared.Decoded.{Decoded}
 use Rattle.firmware.specs.declared.Decoded.the-variants.{Known, Unknown}
-use Rattle.firmware.specs.Record.{fieldsOf, fieldsAt, fieldsEnded, fieldsFor, laidFields, recordOf, known, spotOf, openingOf, parameterOf, endedOf, stateOf, decodeOf}
+use Rattle.firmware.specs.Record.{fieldsOf, fieldsWaiting, fieldsAt, fieldsEnded, fieldsFor, laidFields, recordOf, known, spotOf, openingOf, parameterOf, endedOf, stateOf, decodeOf}
 
 unknown-not : (l : Listener) → Unknown ≡ Known l → ⊥
 unknown-not l e = let z : _≡_ {A = ℕ} 0 1 = cc in omega arith
@@ -31,7 +31,7 @@ known-size c l e = picked-by (length c ≡ 16) _ _ _ _ e (λ t _. eq-of _ _ t) (
 
 -- ---- decode (encode l) is l
 state-fields : (s : State) → stateOf (fieldsFor s) ≡ Known (record { state = s })
-unfolding stateOf fieldsFor fieldsAt fieldsEnded openingOf parameterOf endedOf pick _≤?_ _=?_ known
+unfolding stateOf fieldsFor fieldsAt fieldsWaiting fieldsEnded openingOf parameterOf endedOf pick _≤?_ _=?_ known
 state-fields (Waiting Kind q) = refl
 state-fields (Waiting Size q) = refl
 state-fields (Waiting (Header r) q) = refl
@@ -49,7 +49,7 @@ fields-laid f e =
     λ i. record { stage = f .stage; sum = f .sum; place = p i; class = f .class; length = f .length; index = f .index; memory = f .memory; room = f .room; number = f .number; spare = sym e i }
 
 no-spare : (s : State) → fieldsFor s .spare ≡ 0
-unfolding fieldsFor fieldsAt fieldsEnded
+unfolding fieldsFor fieldsAt fieldsWaiting fieldsEnded
 no-spare (Waiting Kind q) = refl
 no-spare (Waiting Size q) = refl
 no-spare (Waiting (Header r) q) = refl
@@ -92,7 +92,7 @@ module _ (f : Fields) (l : Listener) where
   Back = fieldsFor (l .state) ≡ f
 
   opening-back : f .stage ≤ 2 → openingOf (f .stage) (spotOf f) (f .room) (f .class + f .length + f .index + f .memory + f .number + f .spare) ≡ Known l → Back
-  unfolding openingOf fieldsFor fieldsAt
+  unfolding openingOf fieldsFor fieldsAt fieldsWaiting
   opening-back h e =
       picked-by Back _ _ _ _ e
       (λ t e. let k = eq-of _ _ t in let n = known-is _ _ l e in rw (n .1) (same-fields _ f (omega arith) refl refl (omega arith) (omega arith) (omega arith) (omega arith) (omega arith) (omega arith) (omega arith)))
@@ -105,7 +105,7 @@ module _ (f : Fields) (l : Listener) where
       rw (n .1) (same-fields _ f (omega arith) refl refl (omega arith) (omega arith) (omega arith) (omega arith) refl (omega arith) (omega arith))))
 
   parameter-back : f .stage ≤ 4 → (f .stage ≤ 2 → ⊥) → parameterOf (f .stage) (spotOf f) (f .class) (f .length) (f .index) (f .memory) (f .room) (f .number + f .spare) ≡ Known l → Back
-  unfolding parameterOf fieldsFor fieldsAt
+  unfolding parameterOf fieldsFor fieldsAt fieldsWaiting
   parameter-back h g e =
       picked-by Back _ _ _ _ e
       (λ t e.

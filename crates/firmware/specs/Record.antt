@@ -33,12 +33,15 @@ fieldsOf c = record {
 }
 
 -- the fields of each state; what it does not use is 0
+unfoldable pub fieldsWaiting : ℕ → Spot → ℕ → ℕ → ℕ → ℕ → ℕ → Fields
+fieldsWaiting s q c n i m r = record { stage = s; sum = q .sum; place = q .place; class = c; length = n; index = i; memory = m; room = r; number = 0; spare = 0 }
+
 unfoldable pub fieldsAt : Stage → Spot → Fields
-fieldsAt Kind q = record { stage = 0; sum = q .sum; place = q .place; class = 0; length = 0; index = 0; memory = 0; room = 0; number = 0; spare = 0 }
-fieldsAt Size q = record { stage = 1; sum = q .sum; place = q .place; class = 0; length = 0; index = 0; memory = 0; room = 0; number = 0; spare = 0 }
-fieldsAt (Header r) q = record { stage = 2; sum = q .sum; place = q .place; class = 0; length = 0; index = 0; memory = 0; room = r; number = 0; spare = 0 }
-fieldsAt (Length c r) q = record { stage = 3; sum = q .sum; place = q .place; class = classCode c; length = 0; index = 0; memory = 0; room = r; number = 0; spare = 0 }
-fieldsAt (Content c n i m r) q = record { stage = 4; sum = q .sum; place = q .place; class = classCode c; length = n; index = i; memory = m; room = r; number = 0; spare = 0 }
+fieldsAt Kind q = fieldsWaiting 0 q 0 0 0 0 0
+fieldsAt Size q = fieldsWaiting 1 q 0 0 0 0 0
+fieldsAt (Header r) q = fieldsWaiting 2 q 0 0 0 0 r
+fieldsAt (Length c r) q = fieldsWaiting 3 q (classCode c) 0 0 0 r
+fieldsAt (Content c n i m r) q = fieldsWaiting 4 q (classCode c) n i m r
 
 unfoldable pub fieldsEnded : ℕ → ℕ → ℕ → Fields
 fieldsEnded s p k = record { stage = s; sum = 0; place = p; class = 0; length = 0; index = 0; memory = 0; room = 0; number = k; spare = 0 }

@@ -193,37 +193,41 @@ fn decode(cells: &[u8]) -> Decoded
     }
 }
 
+// The fields of a stage; what it does not use is 0.
+fn fields_waiting(
+    stage: u8,
+    q: Spot,
+    class: u8,
+    length: u8,
+    index: u8,
+    memory: u8,
+    room: u8,
+) -> Fields
+    ensures { λ r. ⌜ r ≡ record-of.fieldsWaiting stage q class length index memory room ⌝ }
+{
+    Fields {
+        stage,
+        sum: q.sum,
+        place: q.place,
+        class,
+        length,
+        index,
+        memory,
+        room,
+        number: 0,
+        spare: 0,
+    }
+}
+
 fn fields_at(stage: Stage, q: Spot) -> Fields
     ensures { λ r. ⌜ r ≡ record-of.fieldsAt stage q ⌝ }
 {
-    let mut f = Fields {
-        stage: 0,
-        sum: q.sum,
-        place: q.place,
-        class: 0,
-        length: 0,
-        index: 0,
-        memory: 0,
-        room: 0,
-        number: 0,
-        spare: 0,
-    };
     match stage {
-        Stage::Kind => f,
-        Stage::Size => {
-            f.stage = 1;
-            f
-        }
-        Stage::Header { room } => {
-            f.stage = 2;
-            f.room = room;
-            f
-        }
+        Stage::Kind => fields_waiting(0, q, 0, 0, 0, 0, 0),
+        Stage::Size => fields_waiting(1, q, 0, 0, 0, 0, 0),
+        Stage::Header { room } => fields_waiting(2, q, 0, 0, 0, 0, room),
         Stage::Length { class, room } => {
-            f.stage = 3;
-            f.class = rules::code_of(class);
-            f.room = room;
-            f
+            fields_waiting(3, q, rules::code_of(class), 0, 0, 0, room)
         }
         Stage::Content {
             class,
@@ -231,15 +235,7 @@ fn fields_at(stage: Stage, q: Spot) -> Fields
             index,
             memory,
             room,
-        } => {
-            f.stage = 4;
-            f.class = rules::code_of(class);
-            f.length = length;
-            f.index = index;
-            f.memory = memory;
-            f.room = room;
-            f
-        }
+        } => fields_waiting(4, q, rules::code_of(class), length, index, memory, room),
     }
 }
 
