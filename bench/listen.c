@@ -1,11 +1,11 @@
-/* Runs one listener on one message, many times, for counting instructions: nothing, ours or the plain one; the message whole, or octet by octet.
+/* Runs one listener on one message, many times, for counting instructions: nothing, ours or the peer; the message whole, or octet by octet.
  * The message has 258 octets and 85 parameters. */
 #include <stdio.h>
 #include <stdlib.h>
 #include <string.h>
 
 #include "anthercup.h"
-#include "plain.h"
+#include "peer.h"
 
 enum { PARAMETERS = 85, OCTETS = 3 + 3 * PARAMETERS };
 
@@ -30,12 +30,11 @@ static unsigned ours(const uint8_t *m, size_t run) {
     return anthercup_size(answer);
 }
 
-static unsigned plain(const uint8_t *m, size_t run) {
-    struct plain p;
-    struct plain_answer answer = {0, 0, 0, 0, 0};
-    plain_reset(&p);
-    for (size_t at = 0; at < OCTETS; at += run) answer = plain_listen(&p, m + at, run);
-    return answer.size;
+static unsigned peer(const uint8_t *m, size_t run) {
+    uint8_t l[ANTHERCUP_LISTENER];
+    uint64_t answer = peer_reset(l, sizeof l);
+    for (size_t at = 0; at < OCTETS; at += run) answer = peer_listen(l, sizeof l, m + at, run);
+    return anthercup_size(answer);
 }
 
 int main(int argc, char **argv) {
@@ -46,7 +45,7 @@ int main(int argc, char **argv) {
     make(m);
     for (int i = atoi(argv[3]); i > 0; i--) {
         if (strcmp(argv[1], "ours") == 0) size = ours(m, run);
-        if (strcmp(argv[1], "plain") == 0) size = plain(m, run);
+        if (strcmp(argv[1], "peer") == 0) size = peer(m, run);
     }
     printf("%u\n", size);
     return 0;

@@ -1,0 +1,176 @@
+/* A plain C listener as a firmware programmer would write it by hand, on the record that include/anthercup.h lays out: the record's size, every code and
+ * number, and that unused octets are 0, are judged at entry; every octet is judged by document 01's rules as it arrives. */
+#include "peer.h"
+
+#include <string.h>
+
+enum { KIND, SIZE, HEADER, LENGTH, CONTENT, MESSAGE, REFUSED };
+enum { CARRIED, DATE, NUMBER, ABSENT, NAME, LAMP, IDENTITY, CALL_TYPE, WAITING, FORWARDED, USER };
+
+struct state {
+    unsigned stage, sum, place, class, length, index, memory, room, number;
+};
+
+static const uint8_t class_of[256] = {
+    [0x01] = DATE, [0x02] = NUMBER, [0x03] = NUMBER, [0x04] = ABSENT, [0x07] = NAME, [0x08] = ABSENT, [0x0B] = LAMP, [0x0D] = IDENTITY,
+    [0x0E] = NUMBER, [0x11] = CALL_TYPE, [0x12] = NUMBER, [0x13] = WAITING, [0x15] = FORWARDED, [0x16] = USER,
+};
+static const uint8_t least[11] = {1, 8, 1, 1, 1, 1, 3, 1, 1, 1, 1};
+static const uint8_t most[11] = {253, 8, 20, 1, 50, 1, 3, 1, 1, 1, 1};
+static const uint8_t from[4] = {1, 1, 0, 0}, to[4] = {12, 31, 23, 59};
+
+static uint64_t word(unsigned number, unsigned place, unsigned size, size_t taken) {
+    return number | (uint64_t)place << 8 | (uint64_t)size << 24 | (uint64_t)taken << 40;
+}
+
+static int among(unsigned lo, unsigned hi, unsigned x) { return lo <= x && x <= hi; }
+
+static int in_range(const struct state *s) {
+    unsigned inner = s->class | s->length | s->index | s->memory;
+    switch (s->stage) {
+    case KIND: return (inner | s->room | s->number | s->place) == 0;
+    case SIZE: return (inner | s->room | s->number) == 0 && s->place == 1;
+    case HEADER: return (inner | s->number) == 0 && among(5, 257, s->place + s->room);
+    case LENGTH: return (s->length | s->index | s->memory | s->number) == 0 && s->class <= USER && s->room >= 1 && among(6, 258, s->place + s->room);
+    case CONTENT:
+        return s->number == 0 && s->class <= USER && s->index < s->length && among(5 + s->index, 257 + s->index, s->place + s->length + s->room);
+    case MESSAGE: return (inner | s->sum | s->room | s->number) == 0 && among(6, 258, s->place);
+    case REFUSED: return (inner | s->sum | s->room) == 0 && among(1, 6, s->number) && s->place <= 257;
+    default: return 0;
+    }
+}
+
+static int load(struct state *s, const uint8_t *r) {
+    if (r[10] | r[11] | r[12] | r[13] | r[14] | r[15]) return 0;
+    s->stage = r[0];
+    s->sum = r[1];
+    s->place = r[2] | (unsigned)r[3] << 8;
+    s->class = r[4];
+    s->length = r[5];
+    s->index = r[6];
+    s->memory = r[7];
+    s->room = r[8];
+    s->number = r[9];
+    return in_range(s);
+}
+
+static void store(const struct state *s, uint8_t *r) {
+    r[0] = (uint8_t)s->stage;
+    r[1] = (uint8_t)s->sum;
+    r[2] = (uint8_t)s->place;
+    r[3] = (uint8_t)(s->place >> 8);
+    r[4] = (uint8_t)s->class;
+    r[5] = (uint8_t)s->length;
+    r[6] = (uint8_t)s->index;
+    r[7] = (uint8_t)s->memory;
+    r[8] = (uint8_t)s->room;
+    r[9] = (uint8_t)s->number;
+    memset(r + 10, 0, 6);
+}
+
+static void ends(struct state *s, unsigned stage, unsigned place, unsigned number) {
+    memset(s, 0, sizeof *s);
+    s->stage = stage;
+    s->place = place;
+    s->number = number;
+}
+
+static int room_left(unsigned n, unsigned room) { return room == n + 2 || room >= n + 5; }
+
+static int possible(unsigned c, unsigned room) { return room >= least[c] + 2u && (room <= most[c] + 2u || room >= least[c] + 5u); }
+
+static int date_octet(const struct state *s, unsigned x) {
+    if (s->index >= 8) return 1;
+    unsigned pair = s->index >> 1, v = x - '0';
+    if (v > 9) return 0;
+    if (s->index & 1) return among(from[pair], to[pair], 10 * s->memory + v);
+    return from[pair] <= 10 * v + 9 && 10 * v <= to[pair];
+}
+
+static int content_octet(const struct state *s, unsigned x) {
+    switch (s->class) {
+    case DATE: return date_octet(s, x);
+    case NUMBER: return among('0', '9', x) || among('(', '*', x) || x == '#' || x == ' ' || x == '-';
+    case NAME: return among(0x20, 0x7E, x);
+    case ABSENT: return s->index || x == 'O' || x == 'P';
+    case LAMP: return s->index || x == 0x00 || x == 0xFF;
+    case IDENTITY: return s->index || x == 0x00 || x == 0x55 || x == 0xFF;
+    case CALL_TYPE: return s->index || among(1, 7, x) || among(0x10, 0x11, x) || among(0x50, 0x51, x) || x >= 0x81;
+    case FORWARDED: return s->index || x <= 6 || x >= 0x80;
+    case USER: return s->index || x <= 0x0F;
+    default: return 1;
+    }
+}
+
+static void at_content(struct state *s) {
+    if (s->index < s->length) {
+        s->stage = CONTENT;
+        return;
+    }
+    s->stage = HEADER;
+    s->class = s->length = s->index = s->memory = 0;
+}
+
+/* the number of a refused octet, 0 for one that is taken */
+static unsigned judge(struct state *s, unsigned x) {
+    switch (s->stage) {
+    case KIND:
+        if (x != 0x80 && x != 0x82) return 1;
+        s->stage = SIZE;
+        return 0;
+    case SIZE:
+        if (x < 3) return 2;
+        s->stage = HEADER;
+        s->room = x;
+        return 0;
+    case HEADER:
+        if (!possible(class_of[x], s->room)) return 3;
+        s->stage = LENGTH;
+        s->class = class_of[x];
+        return 0;
+    case LENGTH:
+        if (!among(least[s->class], most[s->class], x) || !room_left(x, s->room)) return 4;
+        s->length = x;
+        s->room -= x + 2;
+        at_content(s);
+        return 0;
+    default:
+        if (!content_octet(s, x)) return 5;
+        s->memory = s->class == DATE && x >= '0' ? x - '0' : 0;
+        s->index++;
+        at_content(s);
+        return 0;
+    }
+}
+
+static size_t hear(struct state *s, const uint8_t *o, size_t n) {
+    size_t taken = 0;
+    while (taken < n && s->stage < MESSAGE) {
+        unsigned x = o[taken++], number;
+        if (s->stage == HEADER && s->room == 0) {
+            if (((s->sum + x) & 0xff) == 0) ends(s, MESSAGE, s->place + 1, 0);
+            else ends(s, REFUSED, s->place, 6);
+        } else if ((number = judge(s, x)) != 0) {
+            ends(s, REFUSED, s->place, number);
+        } else {
+            s->sum = (s->sum + x) & 0xff;
+            s->place++;
+        }
+    }
+    return taken;
+}
+
+uint64_t peer_reset(uint8_t *record, size_t size) {
+    if (size != 16) return word(17, 0, 0, 0);
+    memset(record, 0, 16);
+    return 0;
+}
+
+uint64_t peer_listen(uint8_t *record, size_t size, const uint8_t *octets, size_t count) {
+    struct state s;
+    if (size != 16 || !load(&s, record)) return word(17, 0, 0, 0);
+    size_t taken = hear(&s, octets, count);
+    store(&s, record);
+    if (s.stage == REFUSED) return word(s.number, s.place, 0, taken);
+    return word(0, 0, s.stage == MESSAGE ? s.place : 0, taken);
+}
