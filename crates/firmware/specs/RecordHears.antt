@@ -3,7 +3,7 @@
 use Prim.Native.Nat.{ℕ, suc, _+_, _≤_, _<_}
 use mathlib.Core.Path.{_≡_, refl, sym, _∙_, ap, subst}
 use mathlib.Core.Bool.{true}
-use mathlib.Core.Logic.{_⊎_, inl, inr, _↔_}
+use mathlib.Core.Logic.{_⊎_, inl, inr, _↔_, Iff·trans}
 use mathlib.Core.List.{List, [], _∷_, _++_}
 use native.Mathlib.Omega.{arith}
 use lib.ListN.{length, take}
@@ -67,9 +67,6 @@ number-small (Refused f) g = g .1
 read-back : (x : Heard) → Ranged (x .answer) → x .taken ≤ 258 → Unpacked (numberOf (x .answer)) (placeOf (x .answer)) (sizeOf (x .answer)) (x .taken) (wordOf x)
 unfolding wordOf
 read-back x g t = let b = small-fields (x .answer) g in unpacked _ _ _ _ (b .0) (b .1) (b .2) (omega arith)
-
-iff-of : {A B C : Type 0} → (A ↔ B) → (B ↔ C) → A ↔ C
-iff-of f g = (λ a. g .0 (f .0 a), λ c. f .1 (g .1 c))
 
 -- ---- any record at all
 -- a record stands for a listener in range
@@ -229,9 +226,9 @@ module _ (c h : List ℕ) (s : RecordStands c h) (o : List ℕ) (q : Octets o) (
       let said = hears (s .listener) h (s .stands) o q heard refl in
       let g = sound-ranged c (stands-sound c h s) o q in
       record {
-        waits = rw (fields .number, fields .size) (iff-of (waits-told _ g) (said .waits));
-        has-message = λ n l. rw (fields .size) (iff-of (message-told _ n l) (said .has-message n));
-        refuses = λ f l. rw (fields .number, fields .place) (iff-of (refused-told _ f l) (said .refuses f));
+        waits = rw (fields .number, fields .size) (Iff·trans (waits-told _ g) (said .waits));
+        has-message = λ n l. rw (fields .size) (Iff·trans (message-told _ n l) (said .has-message n));
+        refuses = λ f l. rw (fields .number, fields .place) (Iff·trans (refused-told _ f l) (said .refuses f));
         taken-waiting = λ a b. fields .taken ∙ said .taken-waiting (waits-told _ g .0 (sym (fields .number) ∙ a, sym (fields .size) ∙ b));
         taken-message = λ n l a. ap (λ (t : ℕ). length h + t) (fields .taken) ∙ said .taken-message n (message-told _ n l .0 (sym (fields .size) ∙ a));
         taken-refused = λ l.

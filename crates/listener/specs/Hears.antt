@@ -19,7 +19,7 @@ use Rattle.rules.specs.Machine.{answer, run, start}
 use Rattle.rules.specs.Judge.{machine, inRange}
 use Rattle.rules.specs.Listening.{place, run-append, message-stays, refused-stays}
 use Rattle.rules.specs.Demand3.{Ending, Spoilt, Numbered, document01-demand3}
-use Rattle.rules.specs.InRange.{in-range-run, in-range-start, within-258, low, high, six}
+use Rattle.rules.specs.InRange.{in-range-run, in-range-start, within-258, low, high, refused-number}
 use Rattle.rules.specs.declared.Fault.{Fault}
 use Rattle.rules.specs.declared.State.{State}
 use Rattle.rules.specs.declared.State.the-variants as state
@@ -188,14 +188,10 @@ says-it-again l o r t s e = e ∙ in-range-heard l o t ∙ ap₃ (run-stopped M 
     ap₃ : run M (l .state) o ≡ l .state → taken M (l .state) o ≡ 0 → _≡_ {A = Heard} (record { listener = record { state = run M (l .state) o }; answer = answerOf (run M (l .state) o); taken = taken M (l .state) o }) (record { listener = l; answer = answerOf (l .state); taken = 0 })
     ap₃ a b = rw (a, b)
 
-range-number : (f : Fault) → T (inRange document01 (state.Refused f)) → T (within (1, 6) (f .number))
-unfolding inRange
-range-number f t = six _ (both _ _ t .0)
-
 pub in-range-number : (l : Listener) (o : List ℕ) → Octets o → T (inRange document01 (l .state)) → (r : Heard) → r ≡ heardOf document01 l o → (f : Fault) → r .answer ≡ Refused f → T (within (1, 6) (f .number))
 in-range-number l o q t r e f a =
     let w : run M (l .state) o ≡ state.Refused f = is-refused _ f (sym (ap (λ (x : Heard). x .answer) (e ∙ in-range-heard l o t)) ∙ a) in
-    range-number f (subst (λ (x : State). T (inRange document01 x)) w (in-range-run document01 (l .state) o q t))
+    refused-number f (subst (λ (x : State). T (inRange document01 x)) w (in-range-run document01 (l .state) o q t))
 
 -- it gives 1 to 6, or 17 at 0 where it is out of range
 pub numbers : (l : Listener) (o : List ℕ) → Octets o → (r : Heard) → r ≡ heardOf document01 l o → (f : Fault) → r .answer ≡ Refused f → T (within (1, 6) (f .number)) ⊎ (f ≡ record { number = 17; place = 0 })
@@ -224,7 +220,7 @@ pub ranged : (w : State) → T (inRange document01 w) → Ranged (answerOf w)
 unfolding answerOf inRange
 ranged (state.Waiting s q) t = tt
 ranged (state.Message n) t = (low _ _ _ t, high _ _ _ t)
-ranged (state.Refused f) t = let d = both _ _ t in let k = six _ (d .0) in (low _ _ _ k, high _ _ _ k, le-of _ _ (d .1))
+ranged (state.Refused f) t = let k = refused-number f t in (low _ _ _ k, high _ _ _ k, le-of _ _ (both _ _ t .1))
 
 pub waits-told : (a : Answer) → Ranged a → ((numberOf a ≡ 0) × (sizeOf a ≡ 0)) ↔ (a ≡ Waits)
 unfolding numberOf sizeOf

@@ -2,13 +2,13 @@
 -- Assumes nothing.
 use Prim.Native.Nat.{ℕ, suc, _≤_, _<_}
 use mathlib.Core.Path.{_≡_, refl, sym, _∙_, ap, subst}
-use mathlib.Core.Logic.{_↔_}
+use mathlib.Core.Logic.{_↔_, Iff·trans}
 use mathlib.Core.List.{List}
 use native.Mathlib.Omega.{arith}
 use lib.ListN.{length, take}
 use lib.Seq.{take-length}
 use lib.Dec.{T}
-use Rattle.rules.specs.Tests.{_=?_, both, pick-yes, pick-not, picked-by, of-eq, eq-of, le-of}
+use Rattle.rules.specs.Tests.{pick-yes, pick-not, picked-by, of-eq, eq-of}
 use Rattle.rules.specs.Octets.{Octets}
 use Rattle.rules.specs.Contents.{within}
 use Rattle.rules.specs.Table.{document01}
@@ -16,7 +16,7 @@ use Rattle.rules.specs.Message.{Accepts}
 use Rattle.rules.specs.Machine.{answer, start, Waits}
 use Rattle.rules.specs.Judge.{machine, inRange}
 use Rattle.rules.specs.Demand3.{Ending, Spoilt, Numbered, document01-demand3}
-use Rattle.rules.specs.InRange.{in-range-run, in-range-start, low, high, six}
+use Rattle.rules.specs.InRange.{in-range-run, in-range-start, low, high, refused-number}
 use Rattle.rules.specs.declared.Fault.{Fault}
 use Rattle.rules.specs.declared.State.{State}
 use Rattle.rules.specs.declared.State.the-variants.{Waiting, Message, Refused}
@@ -39,8 +39,7 @@ pub record Judges (o : List ℕ) (v : Verdict) : Type 0 where
   pub numbers : (f : Fault) → v ≡ Declined f → (1 ≤ f .number) × (f .number ≤ 8)
 
 refused-numbers : (f : Fault) → T (inRange document01 (Refused f)) → (1 ≤ f .number) × (f .number ≤ 6)
-unfolding inRange
-refused-numbers f t = let k = six _ (both _ _ t .0) in (low _ _ _ k, high _ _ _ k)
+refused-numbers f t = let k = refused-number f t in (low _ _ _ k, high _ _ _ k)
 
 not-both : (n : ℕ) (f : Fault) → Accepted n ≡ Declined f → ⊥
 not-both n f e = let z : _≡_ {A = ℕ} 0 1 = cc in omega arith
@@ -120,13 +119,10 @@ module _ (o : List ℕ) (q : Octets o) where
   pub judges : Judges o (verdictOf document01 o)
   unfolding verdictOf
   judges = record {
-    accepted = λ n. both-ways (accepted-state w n) (whole-of n);
-    spoilt = λ f l. both-ways (refused-state w f l) (document01-demand3 .refuses o q f);
+    accepted = λ n. Iff·trans (accepted-state w n) (whole-of n);
+    spoilt = λ f l. Iff·trans (refused-state w f l) (document01-demand3 .refuses o q f);
     as-the-listener = λ f l. refused-state w f l;
     early = λ p. let d = early-state w p ranged in let u = document01-demand3 .waits o q in (λ e. let a = d .0 e in (a .0, u .0 (a .1)), λ e. d .1 (e .0, u .1 (e .1)));
-    followed = λ p. both-ways (followed-state w p ranged) (behind-of p);
+    followed = λ p. Iff·trans (followed-state w p ranged) (behind-of p);
     numbers = λ f e. numbers-state w f ranged e;
   }
-    where
-      both-ways : {A B C : Type 0} → (A ↔ B) → (B ↔ C) → A ↔ C
-      both-ways f g = (λ a. g .0 (f .0 a), λ c. f .1 (g .1 c))

@@ -18,6 +18,7 @@ use Rattle.rules.specs.declared.Class.{Class}
 use Rattle.rules.specs.declared.Stage.{Stage}
 use Rattle.rules.specs.declared.Stage.the-variants.{Kind, Size, Header, Length, Content}
 use Rattle.rules.specs.declared.Spot.{Spot}
+use Rattle.rules.specs.declared.Fault.{Fault}
 use Rattle.rules.specs.declared.State.{State}
 use Rattle.rules.specs.declared.State.the-variants.{Waiting, Message, Refused}
 
@@ -136,3 +137,8 @@ six k t = go (either _ _ t)
     go : T (within (1, 6) k) ⊎ T (k =? 3) → T (within (1, 6) k)
     go (inl u) = u
     go (inr u) = let e = eq-of _ _ u in inside _ _ _ (omega arith) (omega arith)
+
+-- a refusal in range has one of them
+pub refused-number : (f : Fault) → T (inRange document01 (Refused f)) → T (within (1, 6) (f .number))
+unfolding inRange
+refused-number f t = six _ (both _ _ t .0)
