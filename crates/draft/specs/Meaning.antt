@@ -10,17 +10,19 @@ use lib.Dec.{T}
 use Rattle.rules.specs.Tests.{_=?_, _and_, both, le-of, eq-of}
 use Rattle.rules.specs.Octets.{Octets}
 use Rattle.rules.specs.Contents.{Range, Shape, pairs, columns, text, within, digit, pairFits, pairsFit, columnsFit, contentsFit}
-use Rattle.rules.specs.Table.{Form, dateValue, codeValue, stateValue, textValue, carriedValue, Rules, classOf, shapeOf, shape01, shapeNarrow, document01, narrow, formOf}
+use Rattle.rules.specs.Table.{Rules, classOf, shapeOf, shape01, shapeNarrow, document01, narrow, formOf}
+use Rattle.rules.specs.declared.Form.{Form}
+use Rattle.rules.specs.declared.Form.the-variants.{DateValue, CodeValue, StateValue, TextValue, CarriedValue}
 use Rattle.rules.specs.declared.Class.{Class}
 use Rattle.rules.specs.declared.Class.the-variants as class
 
 -- the number of a kind of value: 0 a code, 1 a date, 2 a state with a reference, 3 a text, 4 a carried text
 unfoldable pub formNumber : Form → ℕ
-formNumber codeValue = 0
-formNumber dateValue = 1
-formNumber stateValue = 2
-formNumber textValue = 3
-formNumber carriedValue = 4
+formNumber CodeValue = 0
+formNumber DateValue = 1
+formNumber StateValue = 2
+formNumber TextValue = 3
+formNumber CarriedValue = 4
 
 -- the kind of a type's value: carried is the kind of every unlisted type and of no other
 unfoldable pub kindOf : Rules → ℕ → Form
@@ -35,11 +37,11 @@ pub data Meaning : Type 0 where
   carriedIs : List ℕ → Meaning
 
 unfoldable pub formIs : Meaning → Form
-formIs (dateIs m d h n) = dateValue
-formIs (codeIs x) = codeValue
-formIs (stateIs s r) = stateValue
-formIs (textIs v) = textValue
-formIs (carriedIs v) = carriedValue
+formIs (dateIs m d h n) = DateValue
+formIs (codeIs x) = CodeValue
+formIs (stateIs s r) = StateValue
+formIs (textIs v) = TextValue
+formIs (carriedIs v) = CarriedValue
 
 -- the text of a value
 unfoldable pub textIn : Meaning → List ℕ
@@ -73,46 +75,46 @@ unfoldable pub pairAt : List ℕ → ℕ → ℕ
 pairAt v i = numberOf (getD v i 0) (getD v (suc i) 0)
 
 unfoldable pub meant : Form → List ℕ → Meaning
-meant dateValue v = dateIs (pairAt v 0) (pairAt v 2) (pairAt v 4) (pairAt v 6)
-meant codeValue v = codeIs (getD v 0 0)
-meant stateValue v = stateIs (getD v 0 0) (256 * getD v 1 0 + getD v 2 0)
-meant textValue v = textIs v
-meant carriedValue v = carriedIs v
+meant DateValue v = dateIs (pairAt v 0) (pairAt v 2) (pairAt v 4) (pairAt v 6)
+meant CodeValue v = codeIs (getD v 0 0)
+meant StateValue v = stateIs (getD v 0 0) (256 * getD v 1 0 + getD v 2 0)
+meant TextValue v = textIs v
+meant CarriedValue v = carriedIs v
 
 -- ---- kinds of value apart
 formAt : ℕ → Form
-formAt zero = codeValue
-formAt (suc zero) = dateValue
-formAt (suc (suc zero)) = stateValue
-formAt (suc (suc (suc zero))) = textValue
-formAt (suc (suc (suc (suc n)))) = carriedValue
+formAt zero = CodeValue
+formAt (suc zero) = DateValue
+formAt (suc (suc zero)) = StateValue
+formAt (suc (suc (suc zero))) = TextValue
+formAt (suc (suc (suc (suc n)))) = CarriedValue
 
 form-back : (f : Form) → formAt (formNumber f) ≡ f
 unfolding formNumber formAt
-form-back codeValue = refl
-form-back dateValue = refl
-form-back stateValue = refl
-form-back textValue = refl
-form-back carriedValue = refl
+form-back CodeValue = refl
+form-back DateValue = refl
+form-back StateValue = refl
+form-back TextValue = refl
+form-back CarriedValue = refl
 
 pub same-form : (f g : Form) → formNumber f ≡ formNumber g → f ≡ g
 same-form f g e = sym (form-back f) ∙ ap formAt e ∙ form-back g
 
 pub form-meant : (f : Form) (v : List ℕ) → formIs (meant f v) ≡ f
 unfolding formIs meant
-form-meant dateValue v = refl
-form-meant codeValue v = refl
-form-meant stateValue v = refl
-form-meant textValue v = refl
-form-meant carriedValue v = refl
+form-meant DateValue v = refl
+form-meant CodeValue v = refl
+form-meant StateValue v = refl
+form-meant TextValue v = refl
+form-meant CarriedValue v = refl
 
 -- ---- what the kinds of value ask of the rules: four pairs of digits, one column or three, texts
 pub data Drawn : Shape → Form → Type 0 where
-  date : {a b c d : Range} → Drawn (pairs (a ∷ b ∷ c ∷ d ∷ [])) dateValue
-  code : {a : List Range} → Drawn (columns (a ∷ [])) codeValue
-  state : {a b c : List Range} → Drawn (columns (a ∷ b ∷ c ∷ [])) stateValue
-  words : {ls s : List Range} → Drawn (text ls s) textValue
-  others : {ls s : List Range} → Drawn (text ls s) carriedValue
+  date : {a b c d : Range} → Drawn (pairs (a ∷ b ∷ c ∷ d ∷ [])) DateValue
+  code : {a : List Range} → Drawn (columns (a ∷ [])) CodeValue
+  state : {a b c : List Range} → Drawn (columns (a ∷ b ∷ c ∷ [])) StateValue
+  words : {ls s : List Range} → Drawn (text ls s) TextValue
+  others : {ls s : List Range} → Drawn (text ls s) CarriedValue
 
 -- the contents of each class are of the class's kind of value
 abbrev pub DrawnRules : Rules → Type 0
@@ -193,7 +195,7 @@ no-pairs [] t = refl
 no-pairs (x ∷ v) t = absurd t
 
 -- ---- contents read and said again
-date-back : (a b c d : Range) (v : List ℕ) → T (pairsFit (a ∷ b ∷ c ∷ d ∷ []) v) → spelled (meant dateValue v) ≡ v
+date-back : (a b c d : Range) (v : List ℕ) → T (pairsFit (a ∷ b ∷ c ∷ d ∷ []) v) → spelled (meant DateValue v) ≡ v
 unfolding meant spelled pairAt
 date-back a b c d v f =
     let p = peel _ _ v f in
@@ -201,7 +203,7 @@ date-back a b c d v f =
     let r = peel _ _ (q .rest) (q .fits) in
     let s = peel _ _ (r .rest) (r .fits) in
     let e : p .a ∷ p .b ∷ q .a ∷ q .b ∷ r .a ∷ r .b ∷ s .a ∷ s .b ∷ [] ≡ v = cc (no-pairs (s .rest) (s .fits)) in
-    subst (λ (v : List ℕ). spelled (meant dateValue v) ≡ v) e (cc)
+    subst (λ (v : List ℕ). spelled (meant DateValue v) ≡ v) e (cc)
 
 pub spelled-meant : {c : Shape} {s : Form} → Drawn c s → (v : List ℕ) → Octets v → T (contentsFit c v) → spelled (meant s v) ≡ v
 unfolding meant spelled contentsFit columnsFit
@@ -222,7 +224,7 @@ two : (n : ℕ) → tens n ≤ 57 → numberOf (tens n) (ones n) ≡ n
 unfolding tens ones numberOf
 two n h = ap₂ (λ (x y : ℕ). 10 * x + y) (low-half (48 + n / 10) (omega arith) h) (low-half (48 + n % 10) (omega arith) (omega arith)) ∙ omega arith
 
-date-said : (a b c d : Range) (m y h n : ℕ) → T (pairsFit (a ∷ b ∷ c ∷ d ∷ []) (spelled (dateIs m y h n))) → meant dateValue (spelled (dateIs m y h n)) ≡ dateIs m y h n
+date-said : (a b c d : Range) (m y h n : ℕ) → T (pairsFit (a ∷ b ∷ c ∷ d ∷ []) (spelled (dateIs m y h n))) → meant DateValue (spelled (dateIs m y h n)) ≡ dateIs m y h n
 unfolding meant spelled pairAt
 date-said a b c d m y h n f =
     let p = peel _ _ _ f in

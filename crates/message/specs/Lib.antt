@@ -4,3 +4,4 @@ pub mod Walking
 pub mod Turns
 pub mod Judges
 pub mod Searching
+pub mod Parameters

@@ -59,10 +59,18 @@ found-inside o at f k start n e p =
     (λ _ x. let z : _≡_ {A = ℕ} 0 1 = cc in absurd (omega arith)))
     (λ _ d. let z : _≡_ {A = ℕ} 0 1 = cc in absurd (omega arith))
 
+-- contents stand behind type and length
+pub found-behind : (o : List ℕ) (at : ℕ) (k start n : ℕ) → Parameter k start n ≡ parameterAt o at → at + 2 ≡ start
+unfolding parameterAt
+found-behind o at k start n e =
+    picked-by (at + 2 ≡ start) _ _ _ _ (sym e)
+    (λ _ d. picked-by (at + 2 ≡ start) _ _ _ _ d (λ _ x. cc) (λ _ x. let z : _≡_ {A = ℕ} 0 1 = cc in absurd (omega arith)))
+    (λ _ d. let z : _≡_ {A = ℕ} 0 1 = cc in absurd (omega arith))
+
 -- ---- the search on the octets of a message finds what the rules count
 module _ (o : List ℕ) (c : ℕ) where
   -- from the place where the parameters ps and then the checksum stand
-  abbrev Stand : ℕ → List message.Parameter → Type 0
+  abbrev pub Stand : ℕ → List message.Parameter → Type 0
   Stand at ps = drop at o ≡ body ps ++ c ∷ []
 
   part-pick : (b : Bool) (x y : Part) → partOf o (pick b x y) ≡ pick b (partOf o x) (partOf o y)
@@ -73,7 +81,7 @@ module _ (o : List ℕ) (c : ℕ) where
   room-of : (at : ℕ) (b : List ℕ) → drop at o ≡ b → 0 < length b → at + length b ≡ length o
   room-of at b e h = omega (arith, ap length e, length-drop at o)
 
-  at-end : (at : ℕ) → Stand at [] → parameterAt o at ≡ Nothing
+  pub at-end : (at : ℕ) → Stand at [] → parameterAt o at ≡ Nothing
   unfolding parameterAt body
   at-end at e = pick-not _ _ _ (λ t. omega (arith, le-of _ _ t, room-of at _ e (omega arith)))
 
@@ -93,7 +101,7 @@ module _ (o : List ℕ) (c : ℕ) where
     unfolding body
     length-is = sym (getD-drop at o 1 0) ∙ ap (λ (l : List ℕ). getD l 1 0) e
 
-    found-is : parameterAt o at ≡ Parameter (p .kind) (at + 2) (length (p .contents))
+    pub found-is : parameterAt o at ≡ Parameter (p .kind) (at + 2) (length (p .contents))
     unfolding parameterAt
     found-is =
         pick-yes _ _ _ (of-le _ _ (omega (arith, whole)))
@@ -104,10 +112,10 @@ module _ (o : List ℕ) (c : ℕ) where
     unfolding body
     behind = sym (drop-drop 2 at o) ∙ ap (drop 2) e ∙ append-assoc (p .contents) (body ps) (c ∷ [])
 
-    contents-are : take (length (p .contents)) (drop (at + 2) o) ≡ p .contents
+    pub contents-are : take (length (p .contents)) (drop (at + 2) o) ≡ p .contents
     contents-are = rw behind (take-append-seam (p .contents) (body ps ++ c ∷ []))
 
-    on : Stand (at + 2 + length (p .contents)) ps
+    pub on : Stand (at + 2 + length (p .contents)) ps
     on = sym (drop-drop (length (p .contents)) (at + 2) o) ∙ ap (drop (length (p .contents))) behind ∙ drop-append-seam (p .contents) (body ps ++ c ∷ [])
 
   search-counts : (turns t u at : ℕ) (ps : List message.Parameter) → Stand at ps → length ps ≤ turns → partOf o (searchFrom turns t u o at) ≡ firstOf t u ps

@@ -4,6 +4,7 @@ use mathlib.Core.Path.{_≡_, sym, _∙_}
 use Rattle.rules.proofs.class_coded.Reads as class-coded
 use Rattle.rules.proofs.class_of.Reads as class-of
 use Rattle.rules.proofs.code_of.Reads as code-of
+use Rattle.rules.proofs.form_of.Reads as form-of
 use Rattle.rules.proofs.rival_of.Reads as rival-of
 use Rattle.rules.proofs.is_listed.Reads as is-listed
 use Rattle.rules.proofs.length_fits.Reads as length-fits
@@ -35,6 +36,9 @@ remember-settled κs a r r' s s' p q = p ∙ sym q
 
 pub code-of-settled : (κs : _) (a : _) (r r' : _) (s s' : _) → code-of.Post κs a r s → code-of.Post κs a r' s' → r ≡ r'
 code-of-settled κs a r r' s s' p q = p ∙ sym q
+
+pub form-of-settled : (κs : _) (a : _) (r r' : _) (s s' : _) → form-of.Post κs a r s → form-of.Post κs a r' s' → r ≡ r'
+form-of-settled κs a r r' s s' p q = p ∙ sym q
 
 pub is-listed-settled : (κs : _) (a : _) (r r' : _) (s s' : _) → is-listed.Post κs a r s → is-listed.Post κs a r' s' → r ≡ r'
 is-listed-settled κs a r r' s s' p q = p ∙ sym q

@@ -8,6 +8,8 @@ use Prim.Native.String.{String, [] as nil, _∷_ as _then_}
 use Prim.Native.Char as char
 use mathlib.Core.Bool.{Bool, false}
 use mathlib.Core.List.{List, [], _∷_}
+use Rattle.rules.specs.declared.Form.{Form}
+use Rattle.rules.specs.declared.Form.the-variants.{DateValue, CodeValue, StateValue, TextValue, CarriedValue}
 use Rattle.rules.specs.declared.Class.{Class}
 use Rattle.rules.specs.declared.Class.the-variants.{Date, Number, Absent, Name, Lamp, Identity, CallType, Waiting, Forwarded, User, Carried}
 
@@ -130,25 +132,18 @@ shape01 User = columns (userSet ∷ [])
 shape01 Carried = text ((1, 253) ∷ []) anyOctet
 
 -- ---- what a draft holds of a class (Drafts): the numbers of a date, a code, a state with a reference, a text, a carried text
-pub data Form : Type 0 where
-  dateValue : Form
-  codeValue : Form
-  stateValue : Form
-  textValue : Form
-  carriedValue : Form
-
 unfoldable pub formOf : Class → Form
-formOf Date = dateValue
-formOf Number = textValue
-formOf Absent = codeValue
-formOf Name = textValue
-formOf Lamp = codeValue
-formOf Identity = stateValue
-formOf CallType = codeValue
-formOf Waiting = codeValue
-formOf Forwarded = codeValue
-formOf User = codeValue
-formOf Carried = carriedValue
+formOf Date = DateValue
+formOf Number = TextValue
+formOf Absent = CodeValue
+formOf Name = TextValue
+formOf Lamp = CodeValue
+formOf Identity = StateValue
+formOf CallType = CodeValue
+formOf Waiting = CodeValue
+formOf Forwarded = CodeValue
+formOf User = CodeValue
+formOf Carried = CarriedValue
 
 -- ---- how a listing prints a class (What showmsg prints): MM-DD HH:MM; the octets as they are; off or on; a state and its reference; a number in decimal;
 -- two hex digits; not at all, but numbered

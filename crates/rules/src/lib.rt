@@ -6,7 +6,7 @@ ghost use mathlib.Core.List.{[], _∷_};
 ghost use Prim.Native.Nat.{_-_};
 ghost use Rattle.rules.specs.Tests.{_=?_, pick};
 ghost use Rattle.rules.specs.Contents.{within, inSet, lengths, lengthFits};
-ghost use Rattle.rules.specs.Table.{document01, listed, classOf, rivalOf, shape01, numberSet, nameSet, absentSet, lampSet, identitySet, callTypeSet, forwardedSet, userSet};
+ghost use Rattle.rules.specs.Table.{document01, listed, classOf, rivalOf, formOf, shape01, numberSet, nameSet, absentSet, lampSet, identitySet, callTypeSet, forwardedSet, userSet};
 ghost use Rattle.rules.specs.Codes.{classCode, classCoded};
 ghost use Rattle.rules.specs.ContentJudge.{tensFit, onesFit, okAt};
 ghost use Rattle.rules.specs.ContentJudge as content;
@@ -29,6 +29,15 @@ pub enum Class {
     Forwarded,
     User,
     Carried,
+}
+
+// The kinds of value that a draft holds (document 01, Drafts): the numbers of a date, a code, a state with a reference, a text, a carried text.
+pub enum Form {
+    DateValue,
+    CodeValue,
+    StateValue,
+    TextValue,
+    CarriedValue,
 }
 
 // What the next octet is: the message type, the length L, a parameter type or (no room left) the checksum, a parameter length, an octet of contents.
@@ -148,6 +157,24 @@ pub fn code_of(c: Class) -> u8
         Class::Waiting => 8,
         Class::Forwarded => 9,
         Class::User => 10,
+    }
+}
+
+pub fn form_of(c: Class) -> Form
+    ensures { λ r. ⌜ r ≡ formOf c ⌝ }
+{
+    match c {
+        Class::Carried => Form::CarriedValue,
+        Class::Date => Form::DateValue,
+        Class::Number => Form::TextValue,
+        Class::Absent => Form::CodeValue,
+        Class::Name => Form::TextValue,
+        Class::Lamp => Form::CodeValue,
+        Class::Identity => Form::StateValue,
+        Class::CallType => Form::CodeValue,
+        Class::Waiting => Form::CodeValue,
+        Class::Forwarded => Form::CodeValue,
+        Class::User => Form::CodeValue,
     }
 }
 

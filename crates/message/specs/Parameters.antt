@@ -1,0 +1,82 @@
+-- The parameters that octets hold, from the first on, and that a message's octets hold exactly its parameters.
+-- Assumes nothing.
+use Prim.Native.Nat.{ℕ, zero, suc, _+_, _-_, _*_, _≤_, _<_}
+use mathlib.Core.Path.{_≡_, refl, sym, _∙_, ap, ap₂, subst}
+use mathlib.Core.List.{List, [], _∷_, _++_}
+use native.Mathlib.Omega.{arith}
+use lib.ListN.{length, length-append, take, drop, getD}
+use Rattle.rules.specs.Octets.{total, checksum}
+use Rattle.rules.specs.Table.{Rules, shapeOf, classOf}
+use Rattle.rules.specs.ContentLaw.{SoundRules, fit-length, some-length}
+use Rattle.rules.specs.Message as message
+use Rattle.rules.specs.Message.{body, front, octets, AllLegal, LegalMessage}
+use Rattle.message.specs.declared.Found.{Found}
+use Rattle.message.specs.declared.Found.the-variants.{Parameter, Nothing}
+use Rattle.message.specs.Walking.{parameterAt}
+use Rattle.message.specs.Searching.{Stand, at-end, found-is, contents-are, on, found-inside}
+
+-- the parameter found, and those behind it
+unfoldable pub found : List ℕ → Found → (ℕ → List message.Parameter) → List message.Parameter
+found o (Parameter k start n) behind = (record { kind = k; contents = take n (drop start o) }) ∷ behind (start + n)
+found o Nothing behind = []
+
+-- the parameters from a place on, as many as there are turns
+unfoldable pub parametersFrom : ℕ → List ℕ → ℕ → List message.Parameter
+parametersFrom zero o at = []
+parametersFrom (suc turns) o at = found o (parameterAt o at) (parametersFrom turns o)
+
+-- a message has 85 parameters at most, the first at octet 2
+unfoldable pub parametersIn : List ℕ → List message.Parameter
+parametersIn o = parametersFrom 85 o 2
+
+-- the message that accepted octets are
+unfoldable pub messageIn : List ℕ → message.Message
+messageIn o = record { kind = getD o 0 0; parameters = parametersIn o }
+
+-- ---- for loops: what the next turn finds
+module _ (turns : ℕ) (o : List ℕ) (at : ℕ) where
+  pub no-more : turns ≤ 0 → parametersFrom turns o at ≡ []
+  unfolding parametersFrom
+  no-more h = let z : turns ≡ 0 = omega arith in rw z
+
+  turned : 0 < turns → parametersFrom turns o at ≡ found o (parameterAt o at) (parametersFrom (turns - 1) o)
+  unfolding parametersFrom
+  turned h = let z : turns ≡ suc (turns - 1) = omega arith in ap (λ (n : ℕ). parametersFrom n o at) z
+
+  pub none-here : 0 < turns → Nothing ≡ parameterAt o at → parametersFrom turns o at ≡ []
+  unfolding found
+  none-here h e = turned h ∙ ap (λ (x : Found). found o x (parametersFrom (turns - 1) o)) (sym e)
+
+  pub one-here : 0 < turns → (k start n : ℕ) → Parameter k start n ≡ parameterAt o at → parametersFrom turns o at ≡ (record { kind = k; contents = take n (drop start o) }) ∷ parametersFrom (turns - 1) o (start + n)
+  unfolding found
+  one-here h k start n e = turned h ∙ ap (λ (x : Found). found o x (parametersFrom (turns - 1) o)) (sym e)
+
+-- ---- a message's octets hold its parameters
+pub parameters-are : (o : List ℕ) (c turns at : ℕ) (ps : List message.Parameter) → Stand o c at ps → length ps ≤ turns → parametersFrom turns o at ≡ ps
+unfolding parametersFrom found
+parameters-are o c zero at [] e h = refl
+parameters-are o c zero at (p ∷ ps) e h = absurd (omega arith)
+parameters-are o c (suc turns) at [] e h = ap (λ (f : Found). found o f (parametersFrom turns o)) (at-end o c at e)
+parameters-are o c (suc turns) at (p ∷ ps) e h =
+    ap (λ (f : Found). found o f (parametersFrom turns o)) (found-is o c at p ps e)
+    ∙ ap₂ (λ (v : List ℕ) (qs : List message.Parameter). (record { kind = p .kind; contents = v }) ∷ qs) (contents-are o c at p ps e)
+    (parameters-are o c turns (at + 2 + length (p .contents)) ps (on o c at p ps e) (omega arith))
+
+module _ (R : Rules) (S : SoundRules R) where
+  -- a parameter takes three octets at least
+  pub three-each : (ps : List message.Parameter) → AllLegal R ps → 3 * length ps ≤ length (body ps)
+  unfolding body shapeOf
+  three-each [] l = omega arith
+  three-each (p ∷ ps) l =
+      let n = some-length (R .shape (classOf R (p .kind))) (S .classes (classOf R (p .kind))) (length (p .contents)) (fit-length (R .shape (classOf R (p .kind))) (p .contents) (l .0 .fits)) in
+      omega (arith, three-each ps (l .1), length-append (p .contents) (body ps))
+
+  -- so 85 fill a message
+  pub few : (m : message.Message) → LegalMessage R m → length (m .parameters) ≤ 85
+  few m l = omega (arith, three-each (m .parameters) (l .parameters), l .short)
+
+  pub message-in : (m : message.Message) → LegalMessage R m → messageIn (octets m) ≡ m
+  unfolding messageIn parametersIn octets
+  message-in m l =
+      ap (λ (ps : List message.Parameter). record { kind = m .kind; parameters = ps })
+      (parameters-are (octets m) (checksum (total (front m))) 85 2 (m .parameters) refl (few m l))

@@ -1,0 +1,54 @@
+-- `reader::pack` meets its contract: the verdict, then 9, then the texts.
+-- Assumes nothing.
+use mathlib.Core.Path.{_≡_}
+use native.Mathlib.Omega.{arith}
+use Rattle.rules.specs.Table.{document01}
+use Rattle.reader.specs.Laying.{Packs, packs-declined, packs-short, packs-whole, size-small}
+use borrow.Author.Needs.{needs}
+use Rattle.reader.proofs.pack.Statement.{statement}
+use Rattle.reader.proofs.pack.Tie as tie
+
+judge-requires : tie.Need-judge-requires
+judge-requires c κs = search needs
+
+enum-known-verdict : tie.Need-enum-known-verdict
+enum-known-verdict c = search needs
+
+text-size-requires : tie.Need-text-size-requires
+text-size-requires c κs = search needs
+
+cast-place : tie.Need-cast-place
+cast-place c = omega (arith, size-small document01 (c .before .before .before .before .before .before .before .args .octets .now) (c .before .before .before .before .before .before .before .args .area .now) _ (c .before .before .before .before .judge .ensures) _ (c .before .before .verdict .given .1) _ (c .text-size .ensures), c .before .known-told .given)
+
+returns : tie.Need-returns
+returns c = let p = packs-short document01 (c .before .before .before .before .before .before .before .before .args .octets .now) (c .before .before .before .before .before .before .before .before .args .area .now) _ (c .before .before .before .before .before .judge .ensures) _ (c .before .before .before .verdict .given .1) _ (c .before .text-size .ensures) (c .if1 .taken) in (p .answer, p .area-is)
+
+lay-texts-requires : tie.Need-lay-texts-requires
+lay-texts-requires c κs = search needs
+
+enum-known-verdict-2 : tie.Need-enum-known-verdict-2
+enum-known-verdict-2 c = search needs
+
+same-length : tie.Need-same-length
+same-length c = search needs
+
+returns-2 : tie.Need-returns-2
+returns-2 c = let p = packs-whole document01 (c .before .before .before .before .before .before .before .before .before .before .before .before .args .octets .now) (c .before .before .before .before .before .before .before .before .before .before .before .before .args .area .now) _ (c .before .before .before .before .before .before .before .before .before .judge .ensures) _ (c .before .before .before .before .before .before .before .verdict .given .1) _ _ (c .before .before .before .before .before .text-size .ensures) (c .before .before .before .before .if1 .left) (c .before .before .lay-texts .ensures) in (p .answer, p .area-is)
+
+returns-3 : tie.Need-returns-3
+returns-3 c = let p = packs-declined document01 (c .before .before .before .before .before .before .args .octets .now) (c .before .before .before .before .before .before .args .area .now) _ (c .before .before .before .judge .ensures) _ (c .before .verdict2 .given .1) in (p .answer, p .area-is)
+
+pub pack-spec : {M : Type 1} → statement M
+pack-spec =
+    tie.close
+    (tie.spec
+    judge-requires
+    enum-known-verdict
+    text-size-requires
+    cast-place
+    returns
+    lay-texts-requires
+    enum-known-verdict-2
+    same-length
+    returns-2
+    returns-3)

@@ -1,0 +1,49 @@
+-- `reader::read` meets its contract: what becomes of the octets, and the draft to it.
+-- Assumes nothing.
+use mathlib.Core.Path.{_∙_, sym, ap}
+use Rattle.rules.specs.Table.{document01}
+use Rattle.reader.specs.Laying.{reads-whole, reads-refused}
+use borrow.Author.Needs.{needs}
+use Rattle.reader.proofs.read.Statement.{statement}
+use Rattle.reader.proofs.read.Tie as tie
+
+pack-requires : tie.Need-pack-requires
+pack-requires c κs = search needs
+
+enum-told : tie.Need-enum-told
+enum-told c = search needs
+
+draft-of-requires : tie.Need-draft-of-requires
+draft-of-requires c κs = search needs
+
+enum-told-2 : tie.Need-enum-told-2
+enum-told-2 c = search needs
+
+empty-requires : tie.Need-empty-requires
+empty-requires c κs = search needs
+
+same-length : tie.Need-same-length
+same-length c = search needs
+
+returns : tie.Need-returns
+returns c = (reads-whole document01 _ _ _ _ (c .before .before .before .before .before .pack .ensures .0) _ (c .before .enum-told .given .1) (c .draft-of .ensures), c .before .before .before .before .before .pack .ensures .1)
+
+same-length-2 : tie.Need-same-length-2
+same-length-2 c = search needs
+
+returns-2 : tie.Need-returns-2
+returns-2 c = (reads-refused document01 _ _ _ _ (c .before .before .before .before .before .pack .ensures .0) _ (c .before .enum-told2 .given .1) (c .empty .ensures), c .before .before .before .before .before .pack .ensures .1)
+
+pub read-spec : {M : Type 1} → statement M
+read-spec =
+    tie.close
+    (tie.spec
+    pack-requires
+    enum-told
+    draft-of-requires
+    enum-told-2
+    empty-requires
+    same-length
+    returns
+    same-length-2
+    returns-2)

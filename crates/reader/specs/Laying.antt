@@ -1,0 +1,244 @@
+-- How texts are laid down one behind the other, and entries taken one after the other: what holds between the turns of the loops.
+-- Assumes nothing.
+use Prim.Native.Nat.{ℕ, suc, _+_, _-_, _≤_, _<_}
+use mathlib.Core.Path.{_≡_, refl, sym, _∙_, ap, ap₂}
+use mathlib.Core.List.{List, [], _∷_, _++_, append-nil, append-assoc}
+use native.Mathlib.Numerals.{add-one}
+use native.Mathlib.Omega.{arith}
+use lib.ListN.{length, length-append, length-take, length-drop, length-set, length-replicate, take, drop, set, getD, replicate, take-append-drop}
+use lib.Seq.{take-at, drop-at, drop-drop, take-suc-set, drop-set-lt, take-all, length-take-le}
+use Rattle.rules.specs.Tests.{_≤?_, pick-yes, pick-not, le-of, of-le}
+use Rattle.rules.specs.Table.{Rules}
+use Rattle.rules.specs.declared.Fault.{Fault}
+use Rattle.message.specs.declared.Verdict.{Verdict}
+use Rattle.message.specs.declared.Verdict.the-variants.{Accepted, Declined}
+use Rattle.message.specs.Verdict.{verdictOf}
+use Rattle.rules.specs.Message.{Parameter}
+use Rattle.message.specs.Parameters.{parametersFrom, parametersIn, messageIn, no-more}
+use Rattle.draft.specs.declared.Entry.{Entry}
+use Rattle.draft.specs.declared.Draft.{Draft}
+use Rattle.draft.specs.Draft.{noEntry, emptyOf}
+use Rattle.draft.specs.Packing.{laid, textsOf, entriesOf, draftOf, entries-length}
+use Rattle.reader.specs.declared.Packed.{Packed}
+use Rattle.reader.specs.declared.Packed.the-variants as packed
+use Rattle.reader.specs.declared.Taken.the-variants as taken
+use Rattle.reader.specs.declared.Text.the-variants as text
+use Rattle.reader.specs.Read.{textSize, textAt, entryAt, packFrom, packOf, areaFrom, areaAfter, draftFrom, readOf}
+use Rattle.reader.specs.Taking.{TextHere, text-here, text-none, EntryHere, entry-here, entry-none, size-within, accepted-long}
+
+-- octets put over others at a place
+unfoldable pub placed : List ℕ → ℕ → List ℕ → List ℕ
+placed v at old = take at old ++ (v ++ drop (at + length v) old)
+
+-- the octets before the end of what was put, those behind it, and their number
+module _ (v : List ℕ) (at : ℕ) (old : List ℕ) (h : at + length v ≤ length old) where
+  before : length (take at old) ≡ at
+  before = length-take-le at old (omega arith)
+
+  pub placed-front : take (at + length v) (placed v at old) ≡ take at old ++ v
+  unfolding placed
+  placed-front =
+      ap (take (at + length v)) (sym (append-assoc (take at old) v (drop (at + length v) old)))
+      ∙ take-at (take at old ++ v) (drop (at + length v) old) (at + length v) (length-append (take at old) v ∙ ap (λ (n : ℕ). n + length v) before)
+
+  pub placed-behind : drop (at + length v) (placed v at old) ≡ drop (at + length v) old
+  unfolding placed
+  placed-behind =
+      ap (drop (at + length v)) (sym (append-assoc (take at old) v (drop (at + length v) old)))
+      ∙ drop-at (take at old ++ v) (drop (at + length v) old) (at + length v) (length-append (take at old) v ∙ ap (λ (n : ℕ). n + length v) before)
+
+  pub placed-length : length (placed v at old) ≡ length old
+  unfolding placed
+  placed-length = omega (arith, length-append (take at old) (v ++ drop (at + length v) old), length-append v (drop (at + length v) old), length-drop (at + length v) old, before)
+
+-- the parameters not yet taken
+abbrev pub left : List ℕ → ℕ → ℕ → List Parameter
+left o count at = parametersFrom (85 - count) o at
+
+-- none are left after 85, or where none stands
+pub left-full : (o : List ℕ) (count at : ℕ) → 85 ≤ count → left o count at ≡ []
+left-full o count at h = no-more (85 - count) o at (omega arith)
+
+pub left-none : (R : Rules) (o : List ℕ) (count at : ℕ) → count < 85 → text.End ≡ textAt R o at → left o count at ≡ []
+left-none R o count at h e = text-none R o (85 - count) at (omega arith) e
+
+pub left-ended : (R : Rules) (o : List ℕ) (count at used : ℕ) → count < 85 → taken.End ≡ entryAt R o at used → left o count at ≡ []
+left-ended R o count at used h e = entry-none R o (85 - count) at (omega arith) used e
+
+turn : (o : List ℕ) (count at : ℕ) → parametersFrom (85 - count - 1) o at ≡ left o (count + 1) at
+turn o count at = let z : 85 - count - 1 ≡ 85 - (count + 1) = omega arith in ap (λ (n : ℕ). parametersFrom n o at) z
+
+module _ (R : Rules) (o : List ℕ) where
+  size-is : textSize R o ≡ length (textsOf R (parametersIn o))
+  unfolding textSize
+  size-is = refl
+
+  -- ---- the size of the texts
+  pub record Sized (count at size : ℕ) : Type 0 where
+    pub few : count ≤ 85
+    pub sum : size + length (textsOf R (left o count at)) ≡ textSize R o
+
+  pub sized-first : Sized 0 2 0
+  unfolding textSize parametersIn
+  sized-first = record { few = omega arith; sum = omega arith }
+
+  module _ (count at size : ℕ) (s : Sized count at size) where
+    module _ (h : count < 85) (start n place : ℕ) (e : text.At start n place ≡ textAt R o at) where
+      here : TextHere R o (85 - count) at (omega arith) start n place
+      here = text-here R o (85 - count) at (omega arith) start n place e
+
+      text-long : length (take n (drop start o)) ≡ n
+      text-long = length-take-le n (drop start o) (omega (arith, length-drop start o, here .lies))
+
+      parted : length (textsOf R (left o count at)) ≡ n + length (textsOf R (left o (count + 1) place))
+      parted =
+          ap length (here .texts) ∙ length-append (take n (drop start o)) (textsOf R (parametersFrom (85 - count - 1) o place))
+          ∙ ap₂ (λ (a : ℕ) (ps : List Parameter). a + length (textsOf R ps)) text-long (turn o count place)
+
+      pub sized-more : Sized (count + 1) place (size + n)
+      sized-more = record { few = omega arith; sum = omega (arith, s .sum, parted) }
+
+      pub sized-small : size + n ≤ length o
+      sized-small = omega (arith, s .sum, parted, size-within R o)
+
+    pub sized-end : left o count at ≡ [] → size ≡ textSize R o
+    unfolding textsOf
+    sized-end e = omega (arith, s .sum, ap (λ (ps : List Parameter). length (textsOf R ps)) e)
+
+  -- ---- the texts laid down
+  pub record Laid (old : List ℕ) (count at used : ℕ) (area : List ℕ) : Type 0 where
+    pub sized : Sized count at used
+    pub long : length area ≡ length old
+    pub texts : take used area ++ textsOf R (left o count at) ≡ textsOf R (parametersIn o)
+    pub rest : drop used area ≡ drop used old
+
+  module _ (old : List ℕ) (room : textSize R o ≤ length old) where
+    pub laid-first : Laid old 0 2 0 old
+    unfolding parametersIn
+    laid-first = record { sized = sized-first; long = refl; texts = refl; rest = refl }
+
+    module _ (count at used : ℕ) (area : List ℕ) (w : Laid old count at used area) where
+      module _ (h : count < 85) (start n place : ℕ) (e : text.At start n place ≡ textAt R o at) where
+        pub laid-room : (start + n ≤ length o) × (used + n ≤ length area)
+        laid-room = (here count at used (w .sized) h start n place e .lies, omega (arith, w .sized .sum, parted count at used (w .sized) h start n place e, w .long))
+
+        pub laid-more : (next : List ℕ) → next ≡ placed (take n (drop start o)) used area → Laid old (count + 1) place (used + n) next
+        laid-more next p =
+            let v = take n (drop start o) in
+            let l : length v ≡ n = text-long count at used (w .sized) h start n place e in
+            let f : used + length v ≤ length area = omega (arith, laid-room .1) in
+            let z : used + n ≡ used + length v = omega arith in
+            record {
+              sized = sized-more count at used (w .sized) h start n place e;
+              long = ap length p ∙ placed-length v used area f ∙ w .long;
+              texts =
+                  ap₂ (λ (k : ℕ) (a : List ℕ). take k a ++ textsOf R (left o (count + 1) place)) z p
+                  ∙ ap (λ (a : List ℕ). a ++ textsOf R (left o (count + 1) place)) (placed-front v used area f)
+                  ∙ append-assoc (take used area) v (textsOf R (left o (count + 1) place))
+                  ∙ ap (λ (a : List ℕ). take used area ++ a) (ap (λ (ps : List Parameter). v ++ textsOf R ps) (sym (turn o count place)) ∙ sym (here count at used (w .sized) h start n place e .texts))
+                  ∙ w .texts;
+              rest =
+                  ap₂ drop z p
+                  ∙ placed-behind v used area f
+                  ∙ sym (drop-drop (length v) used area) ∙ ap (drop (length v)) (w .rest) ∙ drop-drop (length v) used old
+                  ∙ ap (λ (k : ℕ). drop k old) (sym z);
+            }
+
+      pub laid-end : left o count at ≡ [] → area ≡ laid (textsOf R (parametersIn o)) old
+      unfolding laid textsOf
+      laid-end e =
+          let t : take used area ≡ textsOf R (parametersIn o) = sym (append-nil (take used area)) ∙ ap (λ (ps : List Parameter). take used area ++ textsOf R ps) (sym e) ∙ w .texts in
+          let u : used ≡ textSize R o = sized-end count at used (w .sized) e in
+          sym (take-append-drop used area) ∙ ap₂ _++_ t (w .rest ∙ ap (λ (k : ℕ). drop k old) (u ∙ size-is))
+
+  -- ---- the entries taken
+  pub record Filled (count at used : ℕ) (entries : List Entry) : Type 0 where
+    pub few : count ≤ 85
+    pub long : length entries ≡ 85
+    pub used-small : used ≤ at
+    pub front : take count entries ++ entriesOf R used (left o count at) ≡ entriesOf R 0 (parametersIn o)
+    pub rest : drop count entries ≡ replicate (85 - count) noEntry
+
+  pub filled-first : Filled 0 2 0 (replicate 85 noEntry)
+  unfolding parametersIn
+  filled-first = record { few = omega arith; long = length-replicate 85 noEntry; used-small = omega arith; front = refl; rest = refl }
+
+  module _ (count at used : ℕ) (entries : List Entry) (w : Filled count at used entries) where
+    module _ (h : count < 85) (e : Entry) (n place : ℕ) (t : taken.Next e n place ≡ entryAt R o at used) where
+      entry-is : EntryHere R o (85 - count) at (omega arith) used e n place
+      entry-is = entry-here R o (85 - count) at (omega arith) used e n place t
+
+      pub filled-small : used + n ≤ length o
+      filled-small = omega (arith, w .used-small, entry-is .behind, entry-is .lies)
+
+      pub filled-more : Filled (count + 1) place (used + n) (set entries count e)
+      filled-more =
+          let f : count < length entries = omega (arith, w .long) in
+          record {
+            few = omega arith;
+            long = length-set entries count e ∙ w .long;
+            used-small = omega (arith, w .used-small, entry-is .behind);
+            front =
+                ap (λ (l : List Entry). l ++ entriesOf R (used + n) (left o (count + 1) place)) (ap (λ (k : ℕ). take k (set entries count e)) (add-one count) ∙ take-suc-set entries count e f)
+                ∙ append-assoc (take count entries) (e ∷ []) (entriesOf R (used + n) (left o (count + 1) place))
+                ∙ ap (λ (l : List Entry). take count entries ++ l) (ap (λ (ps : List Parameter). e ∷ entriesOf R (used + n) ps) (sym (turn o count place)) ∙ sym (entry-is .entries))
+                ∙ w .front;
+            rest =
+                drop-set-lt (count + 1) entries count e (omega arith)
+                ∙ sym (drop-drop 1 count entries)
+                ∙ ap (drop 1) (w .rest ∙ (let z : 85 - count ≡ suc (85 - (count + 1)) = omega arith in ap (λ (k : ℕ). replicate k noEntry) z));
+          }
+
+    pub filled-end : (d : Draft) → d .kind ≡ getD o 0 0 → d .count ≡ count → d .entries ≡ entries → left o count at ≡ [] → d ≡ draftOf R (messageIn o)
+    unfolding draftOf messageIn entriesOf
+    filled-end d k c s e =
+        let t : take count entries ≡ entriesOf R 0 (parametersIn o) = sym (append-nil (take count entries)) ∙ ap (λ (ps : List Parameter). take count entries ++ entriesOf R used ps) (sym e) ∙ w .front in
+        let n : count ≡ length (parametersIn o) = sym (length-take-le count entries (omega (arith, w .few, w .long))) ∙ ap length t ∙ entries-length R 0 (parametersIn o) in
+        let a : d .count ≡ length (parametersIn o) = c ∙ n in
+        let b : d .entries ≡ entriesOf R 0 (parametersIn o) ++ replicate (85 - length (parametersIn o)) noEntry =
+        s ∙ sym (take-append-drop count entries) ∙ ap₂ _++_ t (w .rest ∙ ap (λ (m : ℕ). replicate (85 - m) noEntry) n) in
+        λ i. record { kind = k i; count = a i; entries = b i }
+
+-- ---- the verdict, then 9, then the texts
+module _ (R : Rules) (o old : List ℕ) (v : Verdict) (e : v ≡ verdictOf R o) where
+  pub record Packs (r : Packed) (area : List ℕ) : Type 0 where
+    pub answer : r ≡ packOf R o (length old)
+    pub area-is : area ≡ areaAfter R o old
+
+  after : (r : Packed) (area : List ℕ) → r ≡ packOf R o (length old) → area ≡ areaFrom R o old r → Packs r area
+  unfolding areaAfter
+  after r area a b = record { answer = a; area-is = b ∙ ap (areaFrom R o old) a }
+
+  pub packs-declined : (f : Fault) → v ≡ Declined f → Packs (packed.Refused f) old
+  unfolding packOf packFrom areaFrom
+  packs-declined f q = after (packed.Refused f) old (ap (packFrom R o (length old)) (sym q ∙ e)) refl
+
+  module _ (n : ℕ) (q : v ≡ Accepted n) where
+    pub packs-short : (s : ℕ) → s ≡ textSize R o → length old < s → Packs (packed.Refused (record { number = 9; place = s })) old
+    unfolding packOf packFrom areaFrom
+    packs-short s z h =
+        after (packed.Refused (record { number = 9; place = s })) old
+        (ap (λ (k : ℕ). packed.Refused (record { number = 9; place = k })) z ∙ sym (pick-not (textSize R o ≤? length old) (packed.Texts (textSize R o)) (packed.Refused (record { number = 9; place = textSize R o })) (λ t. omega (arith, le-of _ _ t))) ∙ ap (packFrom R o (length old)) (sym q ∙ e)) refl
+
+    pub packs-whole : (s : ℕ) (area : List ℕ) → s ≡ textSize R o → s ≤ length old → area ≡ laid (textsOf R (parametersIn o)) old → Packs (packed.Texts s) area
+    unfolding packOf packFrom areaFrom
+    packs-whole s area z h a =
+        after (packed.Texts s) area
+        (ap packed.Texts z ∙ sym (pick-yes (textSize R o ≤? length old) (packed.Texts (textSize R o)) (packed.Refused (record { number = 9; place = textSize R o })) (of-le _ _ (omega arith))) ∙ ap (packFrom R o (length old)) (sym q ∙ e)) a
+
+    pub size-small : (s : ℕ) → s ≡ textSize R o → s ≤ n
+    size-small s z = omega (arith, accepted-long R o n (sym q ∙ e), size-within R o)
+
+-- ---- what becomes of the octets, and the draft to it
+module _ (R : Rules) (o : List ℕ) (room : ℕ) (p : Packed) (d : Draft) (e : p ≡ packOf R o room) where
+  reads : d ≡ draftFrom R o p → (record { answer = p; draft = d }) ≡ readOf R o room
+  unfolding readOf
+  reads q = let z = q ∙ ap (draftFrom R o) e in λ i. record { answer = e i; draft = z i }
+
+  pub reads-whole : (n : ℕ) → p ≡ packed.Texts n → d ≡ draftOf R (messageIn o) → (record { answer = p; draft = d }) ≡ readOf R o room
+  unfolding draftFrom
+  reads-whole n q f = reads (f ∙ ap (draftFrom R o) (sym q))
+
+  pub reads-refused : (f : Fault) → p ≡ packed.Refused f → d ≡ emptyOf 0 → (record { answer = p; draft = d }) ≡ readOf R o room
+  unfolding draftFrom
+  reads-refused f q g = reads (g ∙ ap (draftFrom R o) (sym q))

@@ -1,0 +1,86 @@
+-- What a read answers, and what the text area then holds (document 01, Drafts; Numbers: 1 to 6, then 8, then 7, then 9).
+-- Assumes nothing.
+use Prim.Native.Nat.{ℕ, _+_}
+use mathlib.Core.Bool.{Bool, true, false}
+use mathlib.Core.List.{List}
+use lib.ListN.{length, take, drop}
+use Rattle.rules.specs.Tests.{_≤?_, pick}
+use Rattle.rules.specs.Table.{Rules}
+use Rattle.rules.specs.Message.{Parameter}
+use Rattle.rules.specs.declared.Form.{Form}
+use Rattle.rules.specs.declared.Form.the-variants.{DateValue, CodeValue, StateValue, TextValue, CarriedValue}
+use Rattle.message.specs.Verdict.{verdictOf}
+use Rattle.message.specs.Walking.{parameterAt}
+use Rattle.message.specs.Parameters.{parametersIn, messageIn}
+use Rattle.message.specs.declared.Verdict.{Verdict}
+use Rattle.message.specs.declared.Verdict.the-variants.{Accepted, Declined}
+use Rattle.message.specs.declared.Found.{Found}
+use Rattle.message.specs.declared.Found.the-variants as found
+use Rattle.draft.specs.declared.Draft.{Draft}
+use Rattle.draft.specs.Draft.{emptyOf}
+use Rattle.draft.specs.Packing.{entryOf, textOf, textsOf, draftOf, laid}
+use Rattle.reader.specs.declared.Packed.{Packed}
+use Rattle.reader.specs.declared.Packed.the-variants as packed
+use Rattle.reader.specs.declared.Reading.{Reading}
+use Rattle.reader.specs.declared.Taken.{Taken}
+use Rattle.reader.specs.declared.Taken.the-variants as taken
+use Rattle.reader.specs.declared.Text.{Text}
+use Rattle.reader.specs.declared.Text.the-variants as text
+
+-- ---- the whole read
+-- the octets that the texts of all parameters take
+unfoldable pub textSize : Rules → List ℕ → ℕ
+textSize R o = length (textsOf R (parametersIn o))
+
+-- an accepted message's texts, if the area has room for them; else 9 with the text octets needed. Other octets are declined as the verdict says
+unfoldable pub packFrom : Rules → List ℕ → ℕ → Verdict → Packed
+packFrom R o room (Accepted n) = pick (textSize R o ≤? room) (packed.Texts (textSize R o)) (packed.Refused (record { number = 9; place = textSize R o }))
+packFrom R o room (Declined f) = packed.Refused f
+
+unfoldable pub packOf : Rules → List ℕ → ℕ → Packed
+packOf R o room = packFrom R o room (verdictOf R o)
+
+-- the area afterwards: the texts from octet 0 on, later octets as they were; with a refusal all of them
+unfoldable pub areaFrom : Rules → List ℕ → List ℕ → Packed → List ℕ
+areaFrom R o old (packed.Texts n) = laid (textsOf R (parametersIn o)) old
+areaFrom R o old (packed.Refused f) = old
+
+unfoldable pub areaAfter : Rules → List ℕ → List ℕ → List ℕ
+areaAfter R o old = areaFrom R o old (packOf R o (length old))
+
+-- the draft of the message; with a refusal the empty one
+unfoldable pub draftFrom : Rules → List ℕ → Packed → Draft
+draftFrom R o (packed.Texts n) = draftOf R (messageIn o)
+draftFrom R o (packed.Refused f) = emptyOf 0
+
+unfoldable pub readOf : Rules → List ℕ → ℕ → Reading
+readOf R o room = record { answer = packOf R o room; draft = draftFrom R o (packOf R o room) }
+
+-- ---- parameter by parameter
+-- the parameter of a type whose contents stand at a place
+abbrev pub standing : List ℕ → ℕ → ℕ → ℕ → Parameter
+standing o k start n = record { kind = k; contents = take n (drop start o) }
+
+-- the entry of the parameter at a place, its text to be packed at another; how long its text is; the place behind the parameter
+unfoldable pub entryFrom : Rules → List ℕ → ℕ → Found → Taken
+entryFrom R o used (found.Parameter k start n) = taken.Next (entryOf R used (standing o k start n)) (length (textOf R (standing o k start n))) (start + n)
+entryFrom R o used found.Nothing = taken.End
+
+unfoldable pub entryAt : Rules → List ℕ → ℕ → ℕ → Taken
+entryAt R o at used = entryFrom R o used (parameterAt o at)
+
+-- where the text of the parameter at a place stands, and the place behind the parameter
+unfoldable pub textFrom : Rules → List ℕ → Found → Text
+textFrom R o (found.Parameter k start n) = text.At start (length (textOf R (standing o k start n))) (start + n)
+textFrom R o found.Nothing = text.End
+
+unfoldable pub textAt : Rules → List ℕ → ℕ → Text
+textAt R o at = textFrom R o (parameterAt o at)
+
+-- values of this kind have a text
+unfoldable pub hasText : Form → Bool
+hasText DateValue = false
+hasText CodeValue = false
+hasText StateValue = false
+hasText TextValue = true
+hasText CarriedValue = true

@@ -1,0 +1,329 @@
+// Reading whole messages (document 01, Drafts): the draft of an accepted message and its texts, packed into a lent area. Nothing is written before the
+// verdict is known.
+use draft::Draft;
+use draft::Entry;
+use draft::Value;
+use message::Found;
+use message::Verdict;
+use rules::Fault;
+use rules::Form;
+ghost use mathlib.Core.Path.{_≡_};
+ghost use Prim.Native.Nat.{_+_, _≤_};
+ghost use lib.ListN.{length, getD, take, drop};
+ghost use lib.ListN.{length as long};
+ghost use Rattle.rules.specs.Tests.{pick};
+ghost use Rattle.rules.specs.Table.{document01};
+ghost use Rattle.rules.specs.declared.Form.the-variants as form;
+ghost use Rattle.message.specs.Parameters.{parametersIn, messageIn};
+ghost use Rattle.draft.specs.Meaning.{kindOf, numberOf, pairAt, meant};
+ghost use Rattle.draft.specs.Packing.{packed, draftOf, textsOf, laid};
+ghost use Rattle.reader.specs.Laying.{placed};
+ghost use Rattle.reader.specs.Read.{hasText, textSize, textAt, entryAt, packOf, areaAfter, readOf};
+
+// What becomes of the octets: how many text octets were laid down; or a number from 1 to 9 with its place.
+pub enum Packed {
+    Texts { octets: u16 },
+    Refused { fault: Fault },
+}
+
+// What a read answers; with a refusal the draft is the empty one.
+pub struct Reading {
+    pub answer: Packed,
+    pub draft: Draft,
+}
+
+// The entry of a parameter, how long its text is, and the place behind the parameter.
+pub enum Taken {
+    Next {
+        entry: Entry,
+        text: usize,
+        place: usize,
+    },
+    End,
+}
+
+// Where the text of a parameter stands, 0 octets long where it has none, and the place behind the parameter.
+enum Text {
+    At {
+        start: usize,
+        length: usize,
+        place: usize,
+    },
+    End,
+}
+
+fn octet(s: &[u8], i: usize) -> u8
+    ensures { λ r. ⌜ r ≡ getD (now (s .entry)) i 0 ⌝ }
+{
+    if i < s.len() { s[i] } else { 0 }
+}
+
+// The number of two digits.
+fn number_of(a: u8, b: u8) -> u8
+    ensures { λ r. ⌜ r ≡ numberOf a b ⌝ }
+{
+    10 * (a % 16) + b % 16
+}
+
+fn pair_at(contents: &[u8], i: usize) -> u8
+    requires { ⌜ i ≤ 6 ⌝ }
+    ensures { λ r. ⌜ r ≡ pairAt (now (contents .entry)) i ⌝ }
+{
+    number_of(octet(contents, i), octet(contents, i + 1))
+}
+
+fn date_of(contents: &[u8]) -> Value
+    ensures { λ r. ⌜ r ≡ packed 0 (meant form.DateValue (now (contents .entry))) ⌝ }
+{
+    let month = pair_at(contents, 0);
+    let day = pair_at(contents, 2);
+    let hour = pair_at(contents, 4);
+    let minute = pair_at(contents, 6);
+    Value::Date {
+        month,
+        day,
+        hour,
+        minute,
+    }
+}
+
+fn state_of(contents: &[u8]) -> Value
+    ensures { λ r. ⌜ r ≡ packed 0 (meant form.StateValue (now (contents .entry))) ⌝ }
+{
+    let state = octet(contents, 0);
+    let high = octet(contents, 1);
+    let low = octet(contents, 2);
+    Value::State {
+        state,
+        reference: 256 * (high as u16) + low as u16,
+    }
+}
+
+// The value that contents say, its text to be packed at a place.
+fn value_of(kind: Form, contents: &[u8], at: usize) -> Value
+    ensures { λ r. ⌜ r ≡ packed at (meant kind (now (contents .entry))) ⌝ }
+{
+    match kind {
+        Form::DateValue => date_of(contents),
+        Form::CodeValue => Value::Code(octet(contents, 0)),
+        Form::StateValue => state_of(contents),
+        Form::TextValue => Value::Text {
+            start: at,
+            length: contents.len(),
+        },
+        Form::CarriedValue => Value::Carried {
+            start: at,
+            length: contents.len(),
+        },
+    }
+}
+
+fn has_text(kind: Form) -> bool
+    ensures { λ r. ⌜ r ≡ hasText kind ⌝ }
+{
+    match kind {
+        Form::DateValue => false,
+        Form::CodeValue => false,
+        Form::StateValue => false,
+        Form::TextValue => true,
+        Form::CarriedValue => true,
+    }
+}
+
+// The kind of a type's value.
+fn form_at(kind: u8) -> Form
+    ensures { λ r. ⌜ r ≡ kindOf document01 kind ⌝ }
+{
+    rules::form_of(rules::class_of(kind))
+}
+
+// How long the text of a parameter is: its contents, or nothing.
+fn text_length(kind: u8, length: u8) -> usize
+    ensures { λ r. ⌜ r ≡ pick (hasText (kindOf document01 kind)) length 0 ⌝ }
+{
+    if has_text(form_at(kind)) {
+        length as usize
+    } else {
+        0
+    }
+}
+
+fn text_at(octets: &[u8], at: usize) -> Text
+    ensures { λ r. ⌜ r ≡ textAt document01 (now (octets .entry)) at ⌝ }
+{
+    let found = message::parameter(octets, at);
+    match found {
+        Found::Parameter {
+            kind,
+            start,
+            length,
+        } => Text::At {
+            start,
+            length: text_length(kind, length),
+            place: start + length as usize,
+        },
+        Found::Nothing => Text::End,
+    }
+}
+
+// The text octets of all parameters: repeats, those that do not count, carried contents too.
+fn text_size(octets: &[u8]) -> usize
+    ensures { λ r. ⌜ r ≡ textSize document01 (now (octets .entry)) ⌝ }
+{
+    let mut at: usize = 2;
+    let mut size: usize = 0;
+    let mut count: usize = 0;
+    while count < 85 {
+        let text = text_at(octets, at);
+        match text {
+            Text::At {
+                start: _,
+                length,
+                place,
+            } => {
+                size += length;
+                at = place;
+                count += 1;
+            }
+            Text::End => {
+                return size;
+            }
+        }
+    }
+    size
+}
+
+// A text of the octets, laid down at a place of the area.
+fn lay_text(octets: &[u8], start: usize, length: usize, area: &mut [u8], at: usize)
+    requires { ⌜ (start + length ≤ long (now octets)) × (at + length ≤ long (now area)) ⌝ }
+    ensures { λ r. ⌜ now (area .exit) ≡ placed (take length (drop start (now (octets .entry)))) at (now (area .entry)) ⌝ }
+{
+    let end = start + length;
+    bytes::copy(&octets[start..end], &mut area[at..]);
+}
+
+// Each text behind the one before it, from octet 0 of the area on.
+fn lay_texts(octets: &[u8], area: &mut [u8])
+    requires { ⌜ textSize document01 (now octets) ≤ length (now area) ⌝ }
+    ensures { λ r. ⌜ now (area .exit) ≡ laid (textsOf document01 (parametersIn (now (octets .entry)))) (now (area .entry)) ⌝ }
+{
+    let mut at: usize = 2;
+    let mut used: usize = 0;
+    let mut count: usize = 0;
+    while count < 85 {
+        let text = text_at(octets, at);
+        match text {
+            Text::At {
+                start,
+                length,
+                place,
+            } => {
+                lay_text(octets, start, length, area, used);
+                used += length;
+                at = place;
+                count += 1;
+            }
+            Text::End => {
+                return;
+            }
+        }
+    }
+}
+
+// The verdict, then 9, and only then the texts: with a refusal the area is not touched.
+pub fn pack(octets: &[u8], area: &mut [u8]) -> Packed
+    ensures answer { λ r. ⌜ r ≡ packOf document01 (now (octets .entry)) (length (now (area .entry))) ⌝ }
+    ensures area { λ r. ⌜ now (area .exit) ≡ areaAfter document01 (now (octets .entry)) (now (area .entry)) ⌝ }
+{
+    let verdict = message::judge(octets);
+    match verdict {
+        Verdict::Accepted { size: whole } => {
+            let size = text_size(octets);
+            let place = size as u16;
+            if area.len() < size {
+                return Packed::Refused {
+                    fault: Fault { number: 9, place },
+                };
+            }
+            lay_texts(octets, area);
+            Packed::Texts { octets: place }
+        }
+        Verdict::Declined { fault } => Packed::Refused { fault },
+    }
+}
+
+// The entry of the parameter at a place of a message, its text to be packed at a place of the area.
+pub fn entry(octets: &[u8], at: usize, used: usize) -> Taken
+    ensures { λ r. ⌜ r ≡ entryAt document01 (now (octets .entry)) at used ⌝ }
+{
+    let found = message::parameter(octets, at);
+    match found {
+        Found::Parameter {
+            kind,
+            start,
+            length,
+        } => {
+            let place = start + length as usize;
+            let value = value_of(form_at(kind), &octets[start..place], used);
+            Taken::Next {
+                entry: Entry { kind, value },
+                text: text_length(kind, length),
+                place,
+            }
+        }
+        Found::Nothing => Taken::End,
+    }
+}
+
+// An entry for each parameter; the other places are not used.
+fn draft_of(octets: &[u8]) -> Draft
+    ensures { λ r. ⌜ r ≡ draftOf document01 (messageIn (now (octets .entry))) ⌝ }
+{
+    let none = draft::no_entry();
+    let mut entries = [none; 85];
+    let kind = octet(octets, 0);
+    let mut at: usize = 2;
+    let mut used: usize = 0;
+    let mut count: usize = 0;
+    while count < 85 {
+        let taken = entry(octets, at, used);
+        match taken {
+            Taken::Next { entry, text, place } => {
+                entries[count] = entry;
+                used += text;
+                at = place;
+                count += 1;
+            }
+            Taken::End => {
+                return Draft {
+                    kind,
+                    count,
+                    entries,
+                };
+            }
+        }
+    }
+    Draft {
+        kind,
+        count,
+        entries,
+    }
+}
+
+// A whole read: the draft of the message, or one of 1 to 9 with its place.
+pub fn read(octets: &[u8], area: &mut [u8]) -> Reading
+    ensures answer { λ r. ⌜ r ≡ readOf document01 (now (octets .entry)) (length (now (area .entry))) ⌝ }
+    ensures area { λ r. ⌜ now (area .exit) ≡ areaAfter document01 (now (octets .entry)) (now (area .entry)) ⌝ }
+{
+    let answer = pack(octets, area);
+    match answer {
+        Packed::Texts { octets: _ } => Reading {
+            answer,
+            draft: draft_of(octets),
+        },
+        Packed::Refused { fault: _ } => Reading {
+            answer,
+            draft: draft::empty(0),
+        },
+    }
+}
