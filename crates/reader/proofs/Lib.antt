@@ -1,2 +1,4 @@
 -- The root of the proofs.
 pub mod Putting
+pub mod Settled
+pub mod Readings

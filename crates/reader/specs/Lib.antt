@@ -2,3 +2,4 @@
 pub mod Read
 pub mod Taking
 pub mod Laying
+pub mod Reads

@@ -1,11 +1,11 @@
 -- Tests and choices that stay shut, so that antt can read their arguments off a goal; and what each of them tells.
 -- Assumes nothing.
-use Prim.Native.Nat.{ℕ, _≤_}
+use Prim.Native.Nat.{ℕ, _≤_, _<_}
 use mathlib.Core.Path.{_≡_, subst, refl}
 use mathlib.Core.Bool.{Bool, true, false}
 use mathlib.Core.Logic.{_⊎_, inl, inr}
 use mathlib.Core.List.{List, [], _∷_}
-use lib.Dec.{T, leb, eqb, leb→le, le→leb, eqb→eq, eqb-refl}
+use lib.Dec.{T, leb, eqb, leb→le, le→leb, eqb→eq, eqb-refl, not-T, nleb→lt}
 
 infix 40 _≤?_ _=?_
 infixl 35 _and_
@@ -68,6 +68,10 @@ le-of a b t = leb→le a b t
 pub of-le : (a b : ℕ) → a ≤ b → T (a ≤? b)
 unfolding _≤?_
 of-le a b h = le→leb a b h
+
+pub not-le : (a b : ℕ) → (T (a ≤? b) → ⊥) → b < a
+unfolding _≤?_
+not-le a b n = nleb→lt a b (not-T (leb a b) n)
 
 pub eq-of : (a b : ℕ) → T (a =? b) → a ≡ b
 unfolding _=?_
