@@ -1,4 +1,6 @@
 -- The root of the proofs: what the decoding of a record wants.
 pub mod Decoding
+pub mod Drafting
 pub mod Settled
 pub mod Hearing
+pub mod Readings

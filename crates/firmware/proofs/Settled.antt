@@ -3,9 +3,13 @@
 use mathlib.Core.Path.{_≡_, sym, _∙_}
 use Rattle.firmware.proofs.anthercup_reset.Reads as reset
 use Rattle.firmware.proofs.anthercup_listen.Reads as listen
+use Rattle.firmware.proofs.anthercup_read.Reads as read
 
 pub anthercup-reset-settled : (κs : _) (a : _) (r r' : _) (s s' : _) → reset.Post κs a r s → reset.Post κs a r' s' → (r ≡ r') × (s .0 .now ≡ s' .0 .now)
 anthercup-reset-settled κs a r r' s s' p q = (p .0 ∙ sym (q .0), p .1 ∙ sym (q .1))
 
 pub anthercup-listen-settled : (κs : _) (a : _) (r r' : _) (s s' : _) → listen.Post κs a r s → listen.Post κs a r' s' → (r ≡ r') × (s .0 .now ≡ s' .0 .now)
 anthercup-listen-settled κs a r r' s s' p q = (p .0 ∙ sym (q .0), p .1 ∙ sym (q .1))
+
+pub anthercup-read-settled : (κs : _) (a : _) (r r' : _) (s s' : _) → read.Post κs a r s → read.Post κs a r' s' → (r ≡ r') × (s .1 .0 .now ≡ s' .1 .0 .now) × (s .1 .1 .0 .now ≡ s' .1 .1 .0 .now)
+anthercup-read-settled κs a r r' s s' p q = (p .0 ∙ sym (q .0), p .1 .0 ∙ sym (q .1 .0), p .1 .1 ∙ sym (q .1 .1))

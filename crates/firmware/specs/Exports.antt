@@ -8,6 +8,13 @@ use Rattle.rules.specs.Table.{document01}
 use Rattle.listener.specs.declared.Listener.{Listener}
 use Rattle.listener.specs.declared.Heard.{Heard}
 use Rattle.listener.specs.Heard.{numberOf, placeOf, sizeOf, heardOf, newListener}
+use Rattle.draft.specs.Packing.{draftOf}
+use Rattle.message.specs.Parameters.{messageIn}
+use Rattle.reader.specs.declared.Packed.{Packed}
+use Rattle.reader.specs.declared.Packed.the-variants.{Texts, Refused}
+use Rattle.reader.specs.Read.{packOf, areaAfter}
+use Rattle.reader.specs.Reads as reads
+use Rattle.firmware.specs.DraftRecord.{draftRecord}
 use Rattle.firmware.specs.declared.Outcome.{Outcome}
 use Rattle.firmware.specs.declared.Decoded.{Decoded}
 use Rattle.firmware.specs.declared.Decoded.the-variants.{Known, Unknown}
@@ -44,3 +51,21 @@ listenAnswer c o = answered (decodeOf c) o
 
 unfoldable pub listenRecord : List ℕ → List ℕ → List ℕ
 listenRecord c o = recorded (decodeOf c) c o
+
+-- ---- the whole read: the record is only written, so its size alone is judged; the answer's size is the text octets laid down
+unfoldable pub packedWord : Packed → ℕ
+packedWord p = packed (reads.numberOf p) (reads.placeOf p) (reads.sizeOf p) 0
+
+unfoldable pub readAnswer : List ℕ → List ℕ → List ℕ → ℕ
+readAnswer o c t = pick (length c =? 688) (packedWord (packOf document01 o (length t))) badRecord
+
+-- the record of the message's draft; as it was with a refusal
+unfoldable pub recordFrom : List ℕ → List ℕ → Packed → List ℕ
+recordFrom o c (Texts n) = draftRecord (draftOf document01 (messageIn o))
+recordFrom o c (Refused f) = c
+
+unfoldable pub readRecord : List ℕ → List ℕ → List ℕ → List ℕ
+readRecord o c t = pick (length c =? 688) (recordFrom o c (packOf document01 o (length t))) c
+
+unfoldable pub readTexts : List ℕ → List ℕ → List ℕ → List ℕ
+readTexts o c t = pick (length c =? 688) (areaAfter document01 o t) t

@@ -1,6 +1,8 @@
 -- The root of what the exports promise.
 pub mod Record
 pub mod Word
+pub mod DraftRecord
 pub mod Exports
 pub mod Coding
 pub mod RecordHears
+pub mod RecordReads

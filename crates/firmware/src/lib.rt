@@ -1,6 +1,9 @@
-// The listener for the boxes' firmware, which is C: records of octets, and answers packed into one word (include/anthercup.h says the same to C).
+// The listener and the reader for the boxes' firmware, which is C: records of octets, and answers packed into one word (include/anthercup.h says the same to C).
+mod drafts;
+
 use listener::Answer;
 use listener::Listener;
+use reader::Packed;
 use rules::Fault;
 use rules::Spot;
 use rules::Stage;
@@ -8,13 +11,18 @@ use rules::State;
 ghost use mathlib.Core.Path.{_≡_};
 ghost use Prim.Native.Nat.{_+_, _*_, _≤_};
 ghost use lib.ListN.{length};
+ghost use Rattle.rules.specs.Table.{document01};
 ghost use Rattle.listener.specs.Heard.{numberOf, placeOf, sizeOf};
+ghost use Rattle.reader.specs.Read.{packOf, areaAfter};
 ghost use Rattle.firmware.specs.Record as record-of;
 ghost use Rattle.firmware.specs.Word as word;
 ghost use Rattle.firmware.specs.Exports as exports;
 
 // The octets of a listener's record.
 const LISTENER: usize = 16;
+
+// The octets of a draft's record.
+const DRAFT: usize = 688;
 
 // The numbers that a listener's record holds; what a state does not use is 0.
 struct Fields {
@@ -332,6 +340,32 @@ fn hear(l: Listener, octets: &[u8]) -> Outcome
     Outcome { listener, word }
 }
 
+fn packed_word(p: Packed) -> u64
+    ensures { λ r. ⌜ r ≡ exports.packedWord p ⌝ }
+{
+    match p {
+        Packed::Texts { octets } => packed(0, 0, octets, 0),
+        Packed::Refused { fault } => packed(fault.number, fault.place, 0, 0),
+    }
+}
+
+// The texts, and the record where they were laid down.
+fn read_into(octets: &[u8], cells: &mut [u8], texts: &mut [u8]) -> u64
+    requires { ⌜ length (now cells) ≡ 688 ⌝ }
+    ensures answer { λ r. ⌜ r ≡ exports.packedWord (packOf document01 (now (octets .entry)) (length (now (texts .entry)))) ⌝ }
+    ensures cells { λ r. ⌜ now (cells .exit) ≡ exports.recordFrom (now (octets .entry)) (now (cells .entry)) (packOf document01 (now (octets .entry)) (length (now (texts .entry)))) ⌝ }
+    ensures texts { λ r. ⌜ now (texts .exit) ≡ areaAfter document01 (now (octets .entry)) (now (texts .entry)) ⌝ }
+{
+    let answer = reader::pack(octets, texts);
+    match answer {
+        Packed::Texts { octets: _ } => {
+            drafts::lay_draft(octets, cells);
+            packed_word(answer)
+        }
+        Packed::Refused { fault: _ } => packed_word(answer),
+    }
+}
+
 // Makes the record that of a new listener, whatever it holds; another size than 16 is 17.
 #[no_mangle]
 pub extern "C" fn anthercup_reset(cells: &mut [u8]) -> u64
@@ -359,5 +393,19 @@ pub extern "C" fn anthercup_listen(cells: &mut [u8], octets: &[u8]) -> u64
             done.word
         }
         Decoded::Unknown => packed(17, 0, 0, 0),
+    }
+}
+
+// A whole read: the draft's record and the texts, or one of 1 to 9 with its place and both as they were; a record of another size than 688 is 17.
+#[no_mangle]
+pub extern "C" fn anthercup_read(octets: &[u8], cells: &mut [u8], texts: &mut [u8]) -> u64
+    ensures answer { λ r. ⌜ r ≡ exports.readAnswer (now (octets .entry)) (now (cells .entry)) (now (texts .entry)) ⌝ }
+    ensures cells { λ r. ⌜ now (cells .exit) ≡ exports.readRecord (now (octets .entry)) (now (cells .entry)) (now (texts .entry)) ⌝ }
+    ensures texts { λ r. ⌜ now (texts .exit) ≡ exports.readTexts (now (octets .entry)) (now (cells .entry)) (now (texts .entry)) ⌝ }
+{
+    if cells.len() == DRAFT {
+        read_into(octets, cells, texts)
+    } else {
+        packed(17, 0, 0, 0)
     }
 }

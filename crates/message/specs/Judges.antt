@@ -8,7 +8,7 @@ use native.Mathlib.Omega.{arith}
 use lib.ListN.{length, take}
 use lib.Seq.{take-length}
 use lib.Dec.{T}
-use Rattle.rules.specs.Tests.{pick-yes, pick-not, picked-by, of-eq, eq-of}
+use Rattle.rules.specs.Tests.{pick-yes, pick-not, picked-by, of-eq, eq-of, le-of, both}
 use Rattle.rules.specs.Octets.{Octets}
 use Rattle.rules.specs.Contents.{within}
 use Rattle.rules.specs.Table.{document01}
@@ -37,6 +37,8 @@ pub record Judges (o : List ℕ) (v : Verdict) : Type 0 where
   pub followed : (p : ℕ) → (v ≡ Declined (record { number = 7; place = p })) ↔ ((p < length o) × Accepts document01 (take p o))
   -- and no other number
   pub numbers : (f : Fault) → v ≡ Declined f → (1 ≤ f .number) × (f .number ≤ 8)
+  -- no place lies beyond 258
+  pub near : (f : Fault) → v ≡ Declined f → f .place ≤ 258
 
 refused-numbers : (f : Fault) → T (inRange document01 (Refused f)) → (1 ≤ f .number) × (f .number ≤ 6)
 refused-numbers f t = let k = refused-number f t in (low _ _ _ k, high _ _ _ k)
@@ -97,6 +99,12 @@ module _ (o : List ℕ) (q : Octets o) where
   numbers-state (Message m) f t e = picked-by _ _ _ _ _ e (λ _ d. absurd (not-both _ _ d)) (λ _ d. let k = ap (λ (x : Fault). x .number) (fault-of _ _ d) in (omega arith, omega arith))
   numbers-state (Refused g) f t e = let k = ap (λ (x : Fault). x .number) (fault-of _ _ e) in let d = refused-numbers g t in (omega (arith, d .0), omega (arith, d .1))
 
+  near-state : (s : State) (f : Fault) → T (inRange document01 s) → (Waits s → length o < 258) → judged o s ≡ Declined f → f .place ≤ 258
+  unfolding judged inRange
+  near-state (Waiting s r) f t l e = let k = ap (λ (x : Fault). x .place) (fault-of _ _ e) in omega (arith, l tt)
+  near-state (Message m) f t l e = picked-by _ _ _ _ _ e (λ _ d. absurd (not-both _ _ d)) (λ _ d. let k = ap (λ (x : Fault). x .place) (fault-of _ _ d) in omega (arith, high 6 258 m t))
+  near-state (Refused g) f t l e = let k = ap (λ (x : Fault). x .place) (fault-of _ _ e) in omega (arith, le-of _ _ (both _ _ t .1))
+
   -- ---- and the rules
   message-of : (n : ℕ) → (w ≡ Message n) ↔ ((n ≤ length o) × Accepts document01 (take n o))
   message-of n = document01-demand3 .has-message o q n
@@ -125,4 +133,5 @@ module _ (o : List ℕ) (q : Octets o) where
     early = λ p. let d = early-state w p ranged in let u = document01-demand3 .waits o q in (λ e. let a = d .0 e in (a .0, u .0 (a .1)), λ e. d .1 (e .0, u .1 (e .1)));
     followed = λ p. Iff·trans (followed-state w p ranged) (behind-of p);
     numbers = λ f e. numbers-state w f ranged e;
+    near = λ f e. near-state w f ranged (document01-demand3 .answers-by-258 o q) e;
   }

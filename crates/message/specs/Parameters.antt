@@ -51,6 +51,16 @@ module _ (turns : ℕ) (o : List ℕ) (at : ℕ) where
   unfolding found
   one-here h k start n e = turned h ∙ ap (λ (x : Found). found o x (parametersFrom (turns - 1) o)) (sym e)
 
+-- no more than there are turns
+pub parameters-few : (turns : ℕ) (o : List ℕ) (at : ℕ) → length (parametersFrom turns o at) ≤ turns
+unfolding parametersFrom found
+parameters-few zero o at = omega arith
+parameters-few (suc turns) o at = go (parameters-few turns o) (parameterAt o at)
+  where
+    go : ((p : ℕ) → length (parametersFrom turns o p) ≤ turns) → (f : Found) → length (found o f (parametersFrom turns o)) ≤ suc turns
+    go ih (Parameter k s n) = omega (arith, ih (s + n))
+    go ih Nothing = omega arith
+
 -- ---- a message's octets hold its parameters
 pub parameters-are : (o : List ℕ) (c turns at : ℕ) (ps : List message.Parameter) → Stand o c at ps → length ps ≤ turns → parametersFrom turns o at ≡ ps
 unfolding parametersFrom found

@@ -6,13 +6,14 @@ use mathlib.Core.Logic.{_↔_, Iff·trans}
 use mathlib.Core.List.{List, _++_}
 use native.Mathlib.Omega.{arith}
 use lib.ListN.{length, take, drop}
-use Rattle.rules.specs.Tests.{_≤?_, pick-yes, pick-not, picked-by, le-of, of-le, not-le}
+use Rattle.rules.specs.Tests.{_≤?_, pick-case, pick-yes, pick-not, picked-by, le-of, of-le, not-le}
 use Rattle.rules.specs.Octets.{Octets}
 use Rattle.rules.specs.Table.{document01}
 use Rattle.rules.specs.ContentLaw.{document01-sound}
 use Rattle.rules.specs.Message.{Message, Parameter, octets, LegalMessage, Accepts}
 use Rattle.rules.specs.Machine.{answer}
 use Rattle.rules.specs.Judge.{machine}
+use Rattle.rules.specs.Unique.{document01-told}
 use Rattle.rules.specs.Demand3.{Ending, Spoilt, Numbered}
 use Rattle.rules.specs.declared.Fault.{Fault}
 use Rattle.rules.specs.declared.State.the-variants as state
@@ -27,6 +28,7 @@ use Rattle.draft.specs.Packing.{laid, textsOf, draftOf, draft-stands}
 use Rattle.reader.specs.declared.Packed.{Packed}
 use Rattle.reader.specs.declared.Packed.the-variants.{Texts, Refused}
 use Rattle.reader.specs.declared.Reading.{Reading}
+use Rattle.reader.specs.Taking.{size-within}
 use Rattle.reader.specs.Read.{textSize, packFrom, packOf, areaFrom, areaAfter, draftFrom, readOf}
 
 -- the number and place of a refusal; 0 and 0 where there is none
@@ -42,6 +44,11 @@ placeOf (Refused f) = f .place
 unfoldable pub sizeOf : Packed → ℕ
 sizeOf (Texts n) = n
 sizeOf (Refused f) = 0
+
+pub record Near (p : Packed) : Type 0 where
+  pub number : numberOf p ≤ 9
+  pub place : placeOf p ≤ 258
+  pub size : sizeOf p ≤ 258
 
 -- the text octets of all parameters of a message
 abbrev pub texts : Message → List ℕ
@@ -182,6 +189,19 @@ module _ (o old : List ℕ) (q : Octets o) where
   refused-number : (f : Fault) → packOf document01 o room ≡ Refused f → (1 ≤ f .number) × (f .number ≤ 9)
   unfolding packOf
   refused-number f e = numbers-of v f (j .numbers) e
+
+  -- numbers, places and sizes are small: a word has room for them
+  near-of : (w : Verdict) → ((g : Fault) → w ≡ Declined g → (g .number ≤ 8) × (g .place ≤ 258)) → ((n : ℕ) → w ≡ Accepted n → length o ≤ 258) → Near (packFrom document01 o room w)
+  unfolding packFrom numberOf placeOf sizeOf
+  near-of (Accepted n) b l =
+      let z = size-within document01 o in
+      let k = l n refl in
+      pick-case Near (textSize document01 o ≤? room) _ _ (λ _. record { number = omega arith; place = omega arith; size = omega arith }) (λ _. record { number = omega arith; place = omega arith; size = omega arith })
+  near-of (Declined g) b l = let x = b g refl in record { number = omega (arith, x .0); place = x .1; size = omega arith }
+
+  pub near : Near (packOf document01 o room)
+  unfolding packOf
+  near = near-of v (λ g e. (j .numbers g e .1, j .near g e)) (λ n e. document01-told .size o (j .accepted n .0 e .1) .1)
 
   only-message : (n : ℕ) → packOf document01 o room ≡ Texts n → Accepts document01 o
   unfolding packOf

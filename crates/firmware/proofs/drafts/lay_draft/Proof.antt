@@ -1,0 +1,50 @@
+-- `firmware::lay_draft` meets its contract: cleared, the entries, then the header.
+-- Assumes nothing.
+use Prim.Native.Nat.{ℕ}
+use mathlib.Core.Path.{_∙_, ap}
+use native.Mathlib.Omega.{arith}
+use lib.ListN.{length-set, replicate}
+use Rattle.rules.specs.Table.{document01}
+use Rattle.draft.specs.Packing.{draftOf}
+use Rattle.message.specs.Parameters.{messageIn}
+use Rattle.firmware.specs.DraftRecord.{headed, kind-of, count-small}
+use borrow.Author.Needs.{needs}
+use Rattle.firmware.proofs.drafts.lay_draft.Statement.{statement}
+use Rattle.firmware.proofs.drafts.lay_draft.Tie as tie
+
+clear-requires : tie.Need-clear-requires
+clear-requires c κs = search needs
+
+lay-entries-requires : tie.Need-lay-entries-requires
+lay-entries-requires c κs = c .before .before .before .clear .ensures ∙ ap (λ (k : ℕ). replicate {A = ℕ} k 0) (c .before .before .before .before .before .before .before .pre)
+
+first-requires : tie.Need-first-requires
+first-requires c κs = search needs
+
+slice-write-cells : tie.Need-slice-write-cells
+slice-write-cells c = search needs
+
+cast-cells : tie.Need-cast-cells
+cast-cells c = omega (arith, count-small (c .before .before .before .before .before .before .before .before .before .before .before .args .octets .now), c .before .before .before .lay-entries .ensures .0)
+
+slice-write-cells-2 : tie.Need-slice-write-cells-2
+slice-write-cells-2 c = simp length-set (omega arith)
+
+same-length : tie.Need-same-length
+same-length c = search needs
+
+returns : tie.Need-returns
+returns c = headed (draftOf document01 (messageIn (c .before .before .before .before .before .before .before .before .before .before .before .args .octets .now))) _ _ _ (c .first .ensures ∙ kind-of (c .before .before .before .before .before .before .before .before .before .before .before .args .octets .now)) (c .before .before .before .lay-entries .ensures .0) (c .before .before .before .lay-entries .ensures .1)
+
+pub lay-draft-spec : {M : Type 1} → statement M
+lay-draft-spec =
+    tie.close
+    (tie.spec
+    clear-requires
+    lay-entries-requires
+    first-requires
+    slice-write-cells
+    cast-cells
+    slice-write-cells-2
+    same-length
+    returns)

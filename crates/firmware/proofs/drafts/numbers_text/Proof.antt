@@ -1,0 +1,26 @@
+-- `firmware::numbers_text` meets its contract.
+-- Assumes nothing.
+use mathlib.Core.Path.{refl}
+use Rattle.firmware.specs.DraftRecord.{textNumbers}
+use borrow.Author.Needs.{needs}
+use Rattle.firmware.proofs.drafts.numbers_text.Statement.{statement}
+use Rattle.firmware.proofs.drafts.numbers_text.Tie as tie
+
+cast-t5 : tie.Need-cast-t5
+cast-t5 c = search needs
+
+cast-t8 : tie.Need-cast-t8
+cast-t8 c = search needs
+
+cast-t10 : tie.Need-cast-t10
+cast-t10 c = search needs
+
+cast-t13 : tie.Need-cast-t13
+cast-t13 c = search needs
+
+returns : tie.Need-returns
+unfolding textNumbers
+returns c = refl
+
+pub numbers-text-spec : {M : Type 1} → statement M
+numbers-text-spec = tie.close (tie.spec cast-t5 cast-t8 cast-t10 cast-t13 returns)

@@ -1,0 +1,137 @@
+// The draft's record (document 01, Drafts), laid down entry by entry from the octets of an accepted message: no draft by value stands on the stack.
+use draft::Entry;
+use draft::Value;
+use reader::Taken;
+ghost use mathlib.Core.Path.{_≡_};
+ghost use mathlib.Core.List.{_++_};
+ghost use Prim.Native.Nat.{_≤_};
+ghost use lib.ListN.{length, getD, replicate};
+ghost use Rattle.rules.specs.Table.{document01};
+ghost use Rattle.draft.specs.Packing.{laid, draftOf};
+ghost use Rattle.message.specs.Parameters.{messageIn};
+ghost use Rattle.firmware.specs.DraftRecord as record-of;
+
+// The kind of a value and its numbers.
+struct Numbers {
+    form: u8,
+    a: u8,
+    b: u8,
+    c: u8,
+    d: u8,
+}
+
+fn numbers_text(form: u8, start: usize, length: usize) -> Numbers
+    ensures { λ r. ⌜ r ≡ record-of.textNumbers form start length ⌝ }
+{
+    Numbers {
+        form,
+        a: (start % 256) as u8,
+        b: (start / 256 % 256) as u8,
+        c: (length % 256) as u8,
+        d: (length / 256 % 256) as u8,
+    }
+}
+
+fn numbers_of(v: Value) -> Numbers
+    ensures { λ r. ⌜ r ≡ record-of.numbersOf v ⌝ }
+{
+    match v {
+        Value::Date {
+            month,
+            day,
+            hour,
+            minute,
+        } => Numbers {
+            form: 1,
+            a: month,
+            b: day,
+            c: hour,
+            d: minute,
+        },
+        Value::Code(x) => Numbers {
+            form: 0,
+            a: x,
+            b: 0,
+            c: 0,
+            d: 0,
+        },
+        Value::State { state, reference } => Numbers {
+            form: 2,
+            a: state,
+            b: 0,
+            c: (reference % 256) as u8,
+            d: (reference / 256) as u8,
+        },
+        Value::Text { start, length } => numbers_text(3, start, length),
+        Value::Carried { start, length } => numbers_text(4, start, length),
+    }
+}
+
+// The eight octets of an entry, over the beginning of what is lent.
+fn lay_entry(cells: &mut [u8], e: Entry)
+    requires { ⌜ 8 ≤ length (now cells) ⌝ }
+    ensures { λ _. ⌜ now (cells .exit) ≡ laid (record-of.entryCells e) (now (cells .entry)) ⌝ }
+{
+    let v = e.value;
+    let f = numbers_of(v);
+    cells[0] = e.kind;
+    cells[1] = f.form;
+    cells[2] = f.a;
+    cells[3] = f.b;
+    cells[4] = f.c;
+    cells[5] = f.d;
+    cells[6] = 0;
+    cells[7] = 0;
+}
+
+fn clear(cells: &mut [u8])
+    ensures { λ _. ⌜ now (cells .exit) ≡ replicate (length (now (cells .entry))) 0 ⌝ }
+{
+    let mut i = 0;
+    while i < cells.len() {
+        cells[i] = 0;
+        i += 1;
+    }
+}
+
+// The entries of the message's parameters, each at its place; how many there are.
+fn lay_entries(octets: &[u8], cells: &mut [u8]) -> usize
+    requires { ⌜ now cells ≡ replicate 688 0 ⌝ }
+    ensures { λ r. ⌜ (r ≡ draftOf document01 (messageIn (now (octets .entry))) .count) × (now (cells .exit) ≡ replicate 8 0 ++ record-of.entriesCells (draftOf document01 (messageIn (now (octets .entry))) .entries)) ⌝ }
+{
+    let mut at: usize = 2;
+    let mut used: usize = 0;
+    let mut count: usize = 0;
+    while count < 85 {
+        let taken = reader::entry(octets, at, used);
+        match taken {
+            Taken::Next { entry, text, place } => {
+                lay_entry(&mut cells[8 + 8 * count..], entry);
+                used += text;
+                at = place;
+                count += 1;
+            }
+            Taken::End => {
+                return count;
+            }
+        }
+    }
+    count
+}
+
+fn first(octets: &[u8]) -> u8
+    ensures { λ r. ⌜ r ≡ getD (now (octets .entry)) 0 0 ⌝ }
+{
+    if octets.len() == 0 { 0 } else { octets[0] }
+}
+
+// The record of a message's draft, whatever it held.
+pub(crate) fn lay_draft(octets: &[u8], cells: &mut [u8])
+    requires { ⌜ length (now cells) ≡ 688 ⌝ }
+    ensures { λ _. ⌜ now (cells .exit) ≡ record-of.draftRecord (draftOf document01 (messageIn (now (octets .entry)))) ⌝ }
+{
+    clear(cells);
+    let count = lay_entries(octets, cells);
+    cells[0] = first(octets);
+    cells[1] = count as u8;
+}
