@@ -1,6 +1,7 @@
 /* Traffic through the archive and the second reader in one process: each message is heard whole, octet by octet and in runs of random cuts, and every
  * answer, place, size and count of octets taken is held to what the second reader says of the octets offered so far. Records are handed back after every
- * call, and records of random octets are refused with 17 as they were, or are stepped. Says how many answers it compared; a difference ends it with status 1. */
+ * call, and records of random octets are refused with 17 as they were, or are stepped. Each is read whole, with areas on both sides of what its texts need
+ * and records of other sizes: every entry, every text and all that must stay. Says how many answers it compared; a difference ends it with status 1. */
 #include <stdio.h>
 #include <stdlib.h>
 #include <string.h>
@@ -64,6 +65,72 @@ static void any_record(struct traffic *t) {
     }
 }
 
+/* an entry through the header's readers */
+static void entry_is(const uint8_t *o, size_t n, const uint8_t *draft, unsigned i, const struct second_entry *e) {
+    same("entry type", o, n, anthercup_entry_type(draft, i), e->type);
+    same("kind of value", o, n, anthercup_entry_kind(draft, i), e->kind);
+    switch (e->kind) {
+    case SECOND_CODE: same("code", o, n, anthercup_entry_code(draft, i), e->number[0]); break;
+    case SECOND_DATE:
+        same("month", o, n, anthercup_entry_month(draft, i), e->number[0]);
+        same("day", o, n, anthercup_entry_day(draft, i), e->number[1]);
+        same("hour", o, n, anthercup_entry_hour(draft, i), e->number[2]);
+        same("minute", o, n, anthercup_entry_minute(draft, i), e->number[3]);
+        break;
+    case SECOND_STATE:
+        same("state", o, n, anthercup_entry_state(draft, i), e->number[0]);
+        same("reference", o, n, anthercup_entry_reference(draft, i), e->number[1]);
+        break;
+    default:
+        same("start", o, n, anthercup_entry_start(draft, i), e->start);
+        same("length", o, n, anthercup_entry_length(draft, i), e->length);
+    }
+    same("octets of an entry kept at 0", o, n, (unsigned long)(anthercup_entry(draft, i)[6] | anthercup_entry(draft, i)[7]), 0);
+}
+
+/* a whole read into a record and an area that hold noise: what is not written must stay, all that is written must be as the second reader has it */
+static void read_as_second(struct traffic *t, const uint8_t *o, size_t n, size_t draft_len, size_t area) {
+    uint8_t draft[ANTHERCUP_DRAFT + 8], texts[300], draft_before[sizeof draft], texts_before[sizeof texts];
+    struct second_draft s;
+    memset(draft, (int)traffic_number(t, 256), sizeof draft);
+    memset(texts, (int)traffic_number(t, 256), sizeof texts);
+    memcpy(draft_before, draft, sizeof draft);
+    memcpy(texts_before, texts, sizeof texts);
+    uint64_t answer = anthercup_read(o, n, draft, draft_len, texts, area);
+    struct second_verdict v = second_read(o, n, area, &s);
+    size_t laid = 0;
+    if (draft_len != ANTHERCUP_DRAFT) {
+        v.number = ANTHERCUP_RECORD;
+        v.place = 0;
+    }
+    same("read: number", o, n, anthercup_number(answer), v.number);
+    same("read: place", o, n, anthercup_place(answer), v.place);
+    same("read: octets taken and octet 7", o, n, (unsigned long)(answer >> 40), 0);
+    if (v.number) {
+        same("read: size of a refusal", o, n, anthercup_size(answer), 0);
+        same("read: record of a refusal", o, n, (unsigned long)memcmp(draft, draft_before, sizeof draft), 0);
+    } else {
+        laid = s.text_octets;
+        same("read: text octets", o, n, anthercup_size(answer), laid);
+        same("read: texts", o, n, (unsigned long)memcmp(texts, s.texts, laid), 0);
+        same("read: message type", o, n, anthercup_message_type(draft), s.message_type);
+        same("read: entries", o, n, anthercup_entries(draft), s.entries);
+        for (size_t i = 2; i < 8; i++) same("read: header", o, n, draft[i], 0);
+        for (unsigned i = 0; i < ANTHERCUP_ENTRIES; i++) entry_is(o, n, draft, i, &s.entry[i]);
+        same("read: behind the record", o, n, (unsigned long)memcmp(draft + ANTHERCUP_DRAFT, draft_before + ANTHERCUP_DRAFT, sizeof draft - ANTHERCUP_DRAFT), 0);
+    }
+    same("read: the rest of the area", o, n, (unsigned long)memcmp(texts + laid, texts_before + laid, sizeof texts - laid), 0);
+}
+
+/* with room, with every area near the limit, and with records of other sizes */
+static void reads(struct traffic *t, const uint8_t *o, size_t n) {
+    struct second_draft s;
+    read_as_second(t, o, n, ANTHERCUP_DRAFT, ANTHERCUP_TEXTS);
+    if (second_read(o, n, ANTHERCUP_TEXTS, &s).number == 0)
+        for (size_t area = s.text_octets < 2 ? 0 : s.text_octets - 2u; area <= s.text_octets + 1u; area++) read_as_second(t, o, n, ANTHERCUP_DRAFT, area);
+    read_as_second(t, o, n, traffic_number(t, 2) ? traffic_number(t, ANTHERCUP_DRAFT) : ANTHERCUP_DRAFT - 2 + traffic_number(t, 5), traffic_number(t, 260));
+}
+
 int main(int argc, char **argv) {
     struct traffic t;
     uint8_t o[TRAFFIC_OCTETS];
@@ -75,6 +142,7 @@ int main(int argc, char **argv) {
         in_runs(&t, o, n, 40);
         if (i % 8 == 0) in_runs(&t, o, n, 1);
         any_record(&t);
+        reads(&t, o, n);
     }
     printf("traffic: %ld messages, %lu answers as the second reader has them\n", messages, compared);
     return 0;

@@ -1,4 +1,4 @@
-/* Anthercup for the boxes' firmware: the listener (document 01, Listening).
+/* Anthercup for the boxes' firmware: the listener and the reader (document 01, Listening and Drafts).
  *
  * Every function takes octets as a pointer and a length. A pointer is never null, also where the length is 0, and what is lent for writing overlaps
  * nothing else. Anything may be handed in: a record of another size, or one that holds a code or number out of range, gets number 17 and stays as
@@ -7,8 +7,8 @@
  * An answer is one word:
  *   octet 0 (lowest)  the number of a refusal; 0 where there is none
  *   octets 1 and 2    the place of a refusal; 0 where there is none
- *   octets 3 and 4    a size: listen gives the message's size, 0 while it waits; 0 in every refusal
- *   octets 5 and 6    octets taken by this call, the spoiling one counted; 0 with 17
+ *   octets 3 and 4    a size: listen gives the message's size, 0 while it waits; read gives the text octets laid down; 0 in every refusal
+ *   octets 5 and 6    octets taken by this call of listen, the spoiling one counted; 0 with 17
  *   octet 7           0, kept: bits 0 to 6 for the parameter's number, bit 7 for the edition
  */
 #ifndef ANTHERCUP_H
@@ -36,6 +36,25 @@ extern "C" {
  * What a record does not use is 0. */
 enum { ANTHERCUP_LISTENER = 16 };
 
+/* A draft's record, in octets:
+ *    0       the message type: 80H a call message, 82H a notice
+ *    1       the number of entries, 1 to 85
+ *    2 to 7  0, kept
+ *    then 85 entries of eight octets, one for each parameter in message order:
+ *    0       the parameter type
+ *    1       the kind of value: 0 a code, 1 a date, 2 a state with a reference, 3 a text (numbers and names), 4 a carried text (types that have no row)
+ *    2 to 5  0: the code; 1: month, day, hour, minute; 2: the state, 0, the reference (low octet first); 3 and 4: start and length in the text area
+ *            (low octets first)
+ *    6, 7    0
+ * What a record does not use is 0, and so is every entry that is not used. */
+enum { ANTHERCUP_DRAFT = 688, ANTHERCUP_ENTRIES = 85 };
+
+/* A text area of this size is never too short. */
+enum { ANTHERCUP_TEXTS = 253 };
+
+/* The kinds of value. */
+enum anthercup_kinds { ANTHERCUP_CODE = 0, ANTHERCUP_DATE = 1, ANTHERCUP_STATE = 2, ANTHERCUP_TEXT = 3, ANTHERCUP_CARRIED = 4 };
+
 /* The numbers given when the work is declined. */
 enum anthercup_numbers {
     ANTHERCUP_MESSAGE_TYPE = 1, /* octet 0 is neither 80H nor 82H */
@@ -44,6 +63,9 @@ enum anthercup_numbers {
     ANTHERCUP_SIZE = 4,         /* parameter length not allowed for its type, or leaves a bad room */
     ANTHERCUP_CONTENT = 5,      /* a content octet that no legal content has after the octets before it */
     ANTHERCUP_CHECKSUM = 6,     /* checksum wrong */
+    ANTHERCUP_FOLLOWED = 7,     /* whole read: octets follow the message; place: the first of them */
+    ANTHERCUP_EARLY = 8,        /* whole read: ends early, nothing wrong yet; place: the number of octets */
+    ANTHERCUP_AREA = 9,         /* whole read: text area too short; place: text octets needed */
     ANTHERCUP_RECORD = 17       /* a record of a wrong size, or with a code or number out of range */
 };
 
@@ -54,12 +76,43 @@ uint64_t anthercup_reset(uint8_t *listener, size_t listener_len);
  * size, or refuses with a number from 1 to 6 and a place counted from the reset. After an answer it takes none and says the same again, until it is reset. */
 uint64_t anthercup_listen(uint8_t *listener, size_t listener_len, const uint8_t *octets, size_t octets_len);
 
+/* Reads one whole message into a draft's record and a text area, in which all texts are packed from octet 0 on in message order; later octets of the area
+ * stay. The record is only written: whatever it holds, only its size is judged. Numbers 1 to 9, or 17 where draft_len is not ANTHERCUP_DRAFT; record and
+ * area then hold what they held. */
+uint64_t anthercup_read(const uint8_t *octets, size_t octets_len, uint8_t *draft, size_t draft_len, uint8_t *texts, size_t texts_len);
+
 static inline unsigned anthercup_number(uint64_t answer) { return (unsigned)(answer & 0xff); }
 static inline unsigned anthercup_place(uint64_t answer) { return (unsigned)(answer >> 8 & 0xffff); }
 static inline unsigned anthercup_size(uint64_t answer) { return (unsigned)(answer >> 24 & 0xffff); }
 static inline unsigned anthercup_taken(uint64_t answer) { return (unsigned)(answer >> 40 & 0xffff); }
 /* Neither a message nor a refusal yet. */
 static inline int anthercup_waits(uint64_t answer) { return anthercup_number(answer) == 0 && anthercup_size(answer) == 0; }
+
+/* The fields of a draft's record; entries are numbered from 0. What an entry's kind of value does not have reads as some number, never as a fault. */
+static inline unsigned anthercup_message_type(const uint8_t *draft) { return draft[0]; }
+static inline unsigned anthercup_entries(const uint8_t *draft) { return draft[1]; }
+static inline const uint8_t *anthercup_entry(const uint8_t *draft, unsigned i) { return draft + 8 + 8 * (size_t)i; }
+static inline unsigned anthercup_entry_type(const uint8_t *draft, unsigned i) { return anthercup_entry(draft, i)[0]; }
+static inline unsigned anthercup_entry_kind(const uint8_t *draft, unsigned i) { return anthercup_entry(draft, i)[1]; }
+static inline unsigned anthercup_entry_code(const uint8_t *draft, unsigned i) { return anthercup_entry(draft, i)[2]; }
+static inline unsigned anthercup_entry_month(const uint8_t *draft, unsigned i) { return anthercup_entry(draft, i)[2]; }
+static inline unsigned anthercup_entry_day(const uint8_t *draft, unsigned i) { return anthercup_entry(draft, i)[3]; }
+static inline unsigned anthercup_entry_hour(const uint8_t *draft, unsigned i) { return anthercup_entry(draft, i)[4]; }
+static inline unsigned anthercup_entry_minute(const uint8_t *draft, unsigned i) { return anthercup_entry(draft, i)[5]; }
+static inline unsigned anthercup_entry_state(const uint8_t *draft, unsigned i) { return anthercup_entry(draft, i)[2]; }
+static inline unsigned anthercup_entry_reference(const uint8_t *draft, unsigned i) {
+    return anthercup_entry(draft, i)[4] + 256u * anthercup_entry(draft, i)[5];
+}
+static inline unsigned anthercup_entry_start(const uint8_t *draft, unsigned i) {
+    return anthercup_entry(draft, i)[2] + 256u * anthercup_entry(draft, i)[3];
+}
+static inline unsigned anthercup_entry_length(const uint8_t *draft, unsigned i) {
+    return anthercup_entry(draft, i)[4] + 256u * anthercup_entry(draft, i)[5];
+}
+/* Where the text of an entry begins in the area that was read into. */
+static inline const uint8_t *anthercup_entry_text(const uint8_t *draft, unsigned i, const uint8_t *texts) {
+    return texts + anthercup_entry_start(draft, i);
+}
 
 #ifdef __cplusplus
 }
