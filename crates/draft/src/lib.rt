@@ -1,5 +1,6 @@
 // Drafts (document 01, Drafts): a message type and up to 85 entries, each a parameter type with its value.
 use rules::Class;
+use rules::Form;
 ghost use mathlib.Core.Path.{_≡_};
 ghost use Prim.Native.Nat.{_+_, _≤_};
 ghost use lib.ListN as list;
@@ -65,23 +66,23 @@ pub fn empty(kind: u8) -> Draft
     }
 }
 
-// The number of the kind of value that a class has: 0 a code, 1 a date, 2 a state with a reference, 3 a text, 4 a carried text.
+fn form_number(form: Form) -> u8
+    ensures { λ r. ⌜ r ≡ formNumber form ⌝ }
+{
+    match form {
+        Form::CodeValue => 0,
+        Form::DateValue => 1,
+        Form::StateValue => 2,
+        Form::TextValue => 3,
+        Form::CarriedValue => 4,
+    }
+}
+
+// The number of the kind of value that a class has.
 pub fn form_of(class: Class) -> u8
     ensures { λ r. ⌜ r ≡ formNumber (formOf class) ⌝ }
 {
-    match class {
-        Class::Date => 1,
-        Class::Number => 3,
-        Class::Absent => 0,
-        Class::Name => 3,
-        Class::Lamp => 0,
-        Class::Identity => 2,
-        Class::CallType => 0,
-        Class::Waiting => 0,
-        Class::Forwarded => 0,
-        Class::User => 0,
-        Class::Carried => 4,
-    }
+    form_number(rules::form_of(class))
 }
 
 // A value laid flat: the number of its kind, its numbers (0 where it has fewer than four), and where its text lies (0 and 0 where it has none).
