@@ -1,0 +1,5 @@
+-- The root of what the caption finder promises.
+pub mod Lines
+pub mod Caption
+pub mod Cutting
+pub mod Inside
