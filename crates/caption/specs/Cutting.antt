@@ -1,16 +1,15 @@
 -- How texts are searched and compared octet by octet, and how lines are cut off a directory one after the other.
 -- Assumes nothing.
-use Prim.Native.Nat.{ℕ, zero, suc, _+_, _-_, _≤_, _<_}
-use mathlib.Core.Path.{_≡_, refl, sym, _∙_, ap, ap₂, subst}
+use Prim.Native.Nat.{ℕ, suc, _+_, _-_, _≤_, _<_}
+use mathlib.Core.Path.{_≡_, refl, sym, _∙_, ap, ap₂}
 use mathlib.Core.Bool.{Bool, true, false}
-use mathlib.Core.Logic.{_⊎_, inl, inr}
 use mathlib.Core.List.{List, [], _∷_}
 use native.Mathlib.Omega.{arith}
 use native.Mathlib.Numerals.{add-one}
 use lib.ListN.{length, length-drop, take, drop, getD, drop-of-length-le}
 use lib.Seq.{drop-cons, drop-drop, length-take-le, take-all}
 use lib.Dec.{T}
-use Rattle.rules.specs.Tests.{_≤?_, _=?_, _and_, pick, pick-yes, pick-not, pick-case, both, join, of-eq, eq-of, le-of}
+use Rattle.rules.specs.Tests.{_=?_, _and_, pick, pick-yes, pick-not, pick-case, both, join, of-eq, eq-of, le-of}
 use Rattle.rules.specs.Returns.{T-of}
 use Rattle.caption.specs.declared.Line.{Line}
 use Rattle.caption.specs.declared.Entry.{Entry}

@@ -2,12 +2,10 @@
 -- Assumes nothing.
 use Prim.Native.Nat.{ℕ, zero, suc, _+_, _-_, _≤_, _<_}
 use mathlib.Core.Path.{_≡_, refl, sym, _∙_, ap, subst}
-use mathlib.Core.Bool.{Bool, true, false}
 use mathlib.Core.List.{List, [], _∷_}
 use native.Mathlib.Omega.{arith}
 use lib.ListN.{length, length-drop, take, drop}
-use lib.Dec.{T}
-use Rattle.rules.specs.Tests.{_=?_, pick, pick-case, picked-by, both, le-of}
+use Rattle.rules.specs.Tests.{pick-case, picked-by, both, le-of}
 use Rattle.rules.specs.Table.{Rules, document01, rivalOf}
 use Rattle.rules.specs.declared.Fault.{Fault}
 use Rattle.message.specs.declared.Verdict.{Verdict}
@@ -23,7 +21,7 @@ use Rattle.caption.specs.declared.Entry.{Entry}
 use Rattle.caption.specs.declared.Entry.the-variants.{Text, Missing}
 use Rattle.caption.specs.declared.Found.{Found}
 use Rattle.caption.specs.declared.Found.the-variants.{InMessage, InDirectory, Refused}
-use Rattle.caption.specs.Lines.{onFirst, linesOf, indexOf, before, behind, names}
+use Rattle.caption.specs.Lines.{onFirst, linesOf, indexOf, behind, names}
 use Rattle.caption.specs.Caption.{entryFrom, byEntry, byCaller, byName, findUnder, findOf, startOf, lengthOf, sliceOf, textOf, captionOf}
 
 -- ---- contents that count

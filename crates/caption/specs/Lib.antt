@@ -3,3 +3,6 @@ pub mod Lines
 pub mod Caption
 pub mod Cutting
 pub mod Inside
+pub mod Directory
+pub mod Places
+pub mod Finds

@@ -1,6 +1,6 @@
 -- `caption::is_same` meets its contract. The loop's invariant: the texts are of one length, and the rests are the same exactly when the wholes are.
 -- The measure is what is left of the first. Assumes nothing.
-use Prim.Native.Nat.{_-_, _≤_}
+use Prim.Native.Nat.{_-_}
 use mathlib.Core.Path.{_≡_, refl, sym, _∙_}
 use native.Mathlib.Omega.{arith}
 use native.Mathlib.Numerals.{add-one}

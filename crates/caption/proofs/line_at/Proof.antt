@@ -1,7 +1,6 @@
 -- `caption::line_at` meets its contract: the line ends before the first 0AH of the rest, or with it.
 -- Assumes nothing.
 use mathlib.Core.Path.{sym}
-use native.Mathlib.Omega.{arith}
 use lib.Seq.{length-take-le}
 use Rattle.caption.specs.Cutting.{index-most, rest-whole, cuts}
 use borrow.Author.Needs.{needs}

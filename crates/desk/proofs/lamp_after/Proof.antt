@@ -1,10 +1,9 @@
 -- `desk::lamp_after` meets its contract: off or on by the octet at the start of the contents of 0BH that count, or the lamp as it was.
 -- Assumes nothing.
 use mathlib.Core.Path.{refl, sym, _∙_}
-use native.Mathlib.Omega.{arith}
 use Rattle.rules.specs.Returns.{pick-t, pick-f, yes-eq, no-eq}
 use Rattle.desk.specs.Settle.{lampAfter}
-use Rattle.desk.specs.Counted.{counted-inside, first-octet, counts-none, counts-some}
+use Rattle.desk.specs.Counted.{start-inside, first-octet, counts-none, counts-some}
 use borrow.Author.Needs.{needs}
 use Rattle.desk.proofs.lamp_after.Statement.{statement}
 use Rattle.desk.proofs.lamp_after.Tie as tie
@@ -16,7 +15,7 @@ enum-known-part : tie.Need-enum-known-part
 enum-known-part c = search needs
 
 shared-slice-read-if1 : tie.Need-shared-slice-read-if1
-shared-slice-read-if1 c = omega (arith, counted-inside _ _ _ _ (sym (c .before .before .before .before .counted .ensures) ∙ c .before .before .part .given .1))
+shared-slice-read-if1 c = start-inside _ (c .before .before .before .before .before .before .pre) _ _ _ (sym (c .before .before .before .before .counted .ensures) ∙ c .before .before .part .given .1)
 
 enum-told : tie.Need-enum-told
 enum-told c = search needs

@@ -1,10 +1,9 @@
 -- `desk::waiting_after` meets its contract: the octet at the start of the contents of 13H that count, or the number as it was.
 -- Assumes nothing.
 use mathlib.Core.Path.{refl, sym, _∙_, ap}
-use native.Mathlib.Omega.{arith}
 use Rattle.desk.specs.declared.Waiting.the-variants.{Number}
 use Rattle.desk.specs.Settle.{waitingAfter}
-use Rattle.desk.specs.Counted.{counted-inside, first-octet, counts-none, counts-some}
+use Rattle.desk.specs.Counted.{start-inside, first-octet, counts-none, counts-some}
 use borrow.Author.Needs.{needs}
 use Rattle.desk.proofs.waiting_after.Statement.{statement}
 use Rattle.desk.proofs.waiting_after.Tie as tie
@@ -16,7 +15,7 @@ enum-known-part : tie.Need-enum-known-part
 enum-known-part c = search needs
 
 shared-slice-read-number : tie.Need-shared-slice-read-number
-shared-slice-read-number c = omega (arith, counted-inside _ _ _ _ (sym (c .before .before .before .before .counted .ensures) ∙ c .before .before .part .given .1))
+shared-slice-read-number c = start-inside _ (c .before .before .before .before .before .before .pre) _ _ _ (sym (c .before .before .before .before .counted .ensures) ∙ c .before .before .part .given .1)
 
 enum-told : tie.Need-enum-told
 enum-told c = search needs
