@@ -24,6 +24,10 @@ entryFrom caller at (l ∷ ls) =
     pick (names caller l) (Text (at + suc (indexOf 0x3D l)) (length (behind l)))
     (entryFrom caller (at + suc (length l)) ls)
 
+-- where the text for a caller stands in the directory
+abbrev pub entryOf : List ℕ → List ℕ → Entry
+entryOf caller d = entryFrom caller 0 (linesOf d)
+
 -- the directory's text for a caller that stands in the message, else the caller
 unfoldable pub byEntry : Entry → ℕ → ℕ → Found
 byEntry (Text at k) start n = InDirectory at k
@@ -31,7 +35,7 @@ byEntry Missing start n = InMessage start n
 
 -- by the caller that counts, else the empty part at the message's start
 unfoldable pub byCaller : Part → List ℕ → List ℕ → Found
-byCaller (At start n) o d = byEntry (entryFrom (take n (drop start o)) 0 (linesOf d)) start n
+byCaller (At start n) o d = byEntry (entryOf (take n (drop start o)) d) start n
 byCaller Nowhere o d = InMessage 0 0
 
 -- the name that counts, else by the caller

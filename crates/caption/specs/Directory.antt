@@ -3,7 +3,7 @@
 use Prim.Native.Nat.{ℕ, suc, _+_, _<_}
 use mathlib.Core.Path.{_≡_, refl, sym, _∙_, ap, ap₂, subst}
 use mathlib.Core.Bool.{Bool, true, false}
-use mathlib.Core.Logic.{_↔_}
+use mathlib.Core.Logic.{_⊎_, inl, inr, _↔_}
 use mathlib.Core.List.{List, [], _∷_, _++_, append-assoc}
 use native.Mathlib.Nat.{zero-add}
 use native.Mathlib.Omega.{arith}
@@ -11,10 +11,10 @@ use native.Mathlib.Numerals.{add-one}
 use lib.ListN.{length, length-append, take, drop, take-append-drop, drop-of-length-le}
 use lib.Seq.{take-length, length-take-le, take-append-seam, drop-append-add, drop-drop}
 use lib.Dec.{T}
-use Rattle.rules.specs.Tests.{_=?_, pick, pick-yes, pick-not, both, join, of-eq, eq-of, of-le, le-of}
+use Rattle.rules.specs.Tests.{_=?_, pick, pick-yes, pick-not, both, join, of-eq, eq-of, of-le, le-of, decide}
 use Rattle.caption.specs.declared.Entry.the-variants.{Text, Missing}
 use Rattle.caption.specs.Lines.{linesOf, indexOf, before, behind, same, names}
-use Rattle.caption.specs.Caption.{entryFrom}
+use Rattle.caption.specs.Caption.{entryFrom, entryOf}
 use Rattle.caption.specs.Cutting.{index-most, same-is, same-self, lines-cut}
 use Rattle.caption.specs.Inside.{span}
 
@@ -89,6 +89,18 @@ abbrev pub NoneFor : List ℕ → List (List ℕ) → Type 0
 NoneFor caller [] = Unit {0}
 NoneFor caller (l ∷ ls) = (For caller l → ⊥) × NoneFor caller ls
 
+abbrev Among : List ℕ → List (List ℕ) → Type 0
+Among caller ls = ((b : List (List ℕ)) × (w : List ℕ) × (a : List (List ℕ)) × (ls ≡ b ++ (caller ++ 0x3D ∷ w) ∷ a) × NoneFor caller b) ⊎ NoneFor caller ls
+
+among : (caller : List ℕ) → Without 0x3D caller → (ls : List (List ℕ)) → Among caller ls
+among caller p [] = inr tt
+among caller p (l ∷ ls) = go (decide (names caller l)) (among caller p ls)
+  where
+    go : T (names caller l) ⊎ (T (names caller l) → ⊥) → Among caller ls → Among caller (l ∷ ls)
+    go (inl t) m = let f = is-for caller l t in inl ([], f .0, ls, ap (λ (z : List ℕ). z ∷ ls) (f .1), tt)
+    go (inr k) (inl f) = inl (l ∷ f .0, f .1, f .2, ap (λ (z : List (List ℕ)). l ∷ z) (f .3), (λ q. k (names-iff caller l p .1 q), f .4))
+    go (inr k) (inr n) = inr ((λ q. k (names-iff caller l p .1 q)), n)
+
 -- the first line for the caller, with its text
 pub record FirstFor (caller d : List ℕ) : Type 0 where
   pub earlier : List (List ℕ)
@@ -96,6 +108,14 @@ pub record FirstFor (caller d : List ℕ) : Type 0 where
   pub later : List (List ℕ)
   pub is : linesOf d ≡ earlier ++ (caller ++ 0x3D ∷ text) ∷ later
   pub none : NoneFor caller earlier
+
+-- there is a first line for the caller, or none
+pub first-or-none : (caller d : List ℕ) → Without 0x3D caller → FirstFor caller d ⊎ NoneFor caller (linesOf d)
+first-or-none caller d p = told (among caller p (linesOf d))
+  where
+    told : Among caller (linesOf d) → FirstFor caller d ⊎ NoneFor caller (linesOf d)
+    told (inl f) = inl (record { earlier = f .0; text = f .1; later = f .2; is = f .3; none = f .4 })
+    told (inr n) = inr n
 
 -- where that text stands: behind the lines before it, the caller and the =
 abbrev pub textAt : {caller d : List ℕ} → FirstFor caller d → ℕ
@@ -122,10 +142,10 @@ module _ (caller : List ℕ) where
       ∙ entry-first w p later (at + suc (length l)) ls (n .1)
       ∙ ap (λ (i : ℕ). Text i (length w)) z
 
-  pub none-found : (d : List ℕ) → NoneFor caller (linesOf d) → entryFrom caller 0 (linesOf d) ≡ Missing
+  pub none-found : (d : List ℕ) → NoneFor caller (linesOf d) → entryOf caller d ≡ Missing
   none-found d n = entry-none 0 (linesOf d) n
 
-  pub first-found : (d : List ℕ) → Without 0x3D caller → (e : FirstFor caller d) → entryFrom caller 0 (linesOf d) ≡ Text (textAt e) (length (e .text))
+  pub first-found : (d : List ℕ) → Without 0x3D caller → (e : FirstFor caller d) → entryOf caller d ≡ Text (textAt e) (length (e .text))
   first-found d p e =
       ap (entryFrom caller 0) (e .is)
       ∙ entry-first (e .text) p (e .later) 0 (e .earlier) (e .none)

@@ -25,7 +25,7 @@ use Rattle.caption.specs.declared.Entry.the-variants.{Text, Missing}
 use Rattle.caption.specs.declared.Found.{Found}
 use Rattle.caption.specs.declared.Found.the-variants.{InMessage, InDirectory, Refused}
 use Rattle.caption.specs.Lines.{linesOf}
-use Rattle.caption.specs.Caption.{entryFrom, byEntry, byCaller, byName, findUnder, findOf, numberOf, placeOf, sideOf, startOf, lengthOf, sliceOf, textOf}
+use Rattle.caption.specs.Caption.{entryOf, byEntry, byCaller, byName, findUnder, findOf, numberOf, placeOf, sideOf, startOf, lengthOf, sliceOf, textOf}
 use Rattle.caption.specs.Inside.{part-inside}
 use Rattle.caption.specs.Directory.{NoneFor, FirstFor, textAt, none-found, first-found, text-stands}
 use Rattle.caption.specs.Places.{contentsAt, counted-at, caller-plain}
@@ -101,12 +101,12 @@ module _ (m : Message) (d : List ℕ) where
   unfolding found byName
   by-name v c = ap (λ (p : Part). byName p o d) (counted-at m 0x07 v c)
 
-  by-caller : counted document01 m 0x07 ≡ none → (v : List ℕ) (c : Counts document01 m 0x02 v) (e : Entry) → entryFrom v 0 (linesOf d) ≡ e → found ≡ byEntry e (contentsAt (c .first)) (length v)
+  by-caller : counted document01 m 0x07 ≡ none → (v : List ℕ) (c : Counts document01 m 0x02 v) (e : Entry) → entryOf v d ≡ e → found ≡ byEntry e (contentsAt (c .first)) (length v)
   unfolding found byName byCaller
   by-caller n v c e f =
       ap (λ (p : Part). byName p o d) (nowhere 0x07 n)
       ∙ ap (λ (p : Part). byCaller p o d) (counted-at m 0x02 v c)
-      ∙ ap (λ (x : Entry). byEntry x (contentsAt (c .first)) (length v)) (ap (λ (w : List ℕ). entryFrom w 0 (linesOf d)) (holds 0x02 v c) ∙ f)
+      ∙ ap (λ (x : Entry). byEntry x (contentsAt (c .first)) (length v)) (ap (λ (w : List ℕ). entryOf w d) (holds 0x02 v c) ∙ f)
 
   empty : counted document01 m 0x07 ≡ none → counted document01 m 0x02 ≡ none → found ≡ InMessage 0 0
   unfolding found byName byCaller

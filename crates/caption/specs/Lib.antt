@@ -6,3 +6,4 @@ pub mod Inside
 pub mod Directory
 pub mod Places
 pub mod Finds
+pub mod Rows

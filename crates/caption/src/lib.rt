@@ -8,10 +8,11 @@ ghost use Prim.Native.Nat.{_+_, _≤_, _<_};
 ghost use lib.ListN.{length, take, drop};
 ghost use Rattle.rules.specs.Table.{document01};
 ghost use Rattle.message.specs.Walking.{countedAt};
-ghost use Rattle.caption.specs.Lines.{indexOf, same, linesOf, names};
+ghost use Rattle.caption.specs.Lines.{indexOf, same, names};
 ghost use Rattle.caption.specs.Cutting.{Cuts};
-ghost use Rattle.caption.specs.Caption.{entryFrom, byEntry, byCaller, byName, findOf, captionOf};
+ghost use Rattle.caption.specs.Caption.{entryOf, byEntry, byCaller, byName, findOf, captionOf};
 
+// Where the caption stands, or number and place of a refusal.
 pub enum Found {
     InMessage { start: usize, length: usize },
     InDirectory { start: usize, length: usize },
@@ -30,6 +31,7 @@ enum Entry {
     Missing,
 }
 
+// The index of the first octet `x`, or the length where there is none.
 fn index_of(x: u8, s: &[u8]) -> usize
     ensures { λ r. ⌜ r ≡ indexOf x (now (s .entry)) ⌝ }
 {
@@ -43,6 +45,7 @@ fn index_of(x: u8, s: &[u8]) -> usize
     i
 }
 
+// Octets are compared as they are.
 fn is_same(a: &[u8], b: &[u8]) -> bool
     ensures { λ r. ⌜ r ≡ same (now (a .entry)) (now (b .entry)) ⌝ }
 {
@@ -84,7 +87,7 @@ fn line_at(caller: &[u8], directory: &[u8], at: usize) -> Line
 
 // The text after the first `=` on the first line for the caller.
 fn entry_for(caller: &[u8], directory: &[u8]) -> Entry
-    ensures { λ r. ⌜ r ≡ entryFrom (now (caller .entry)) 0 (linesOf (now (directory .entry))) ⌝ }
+    ensures { λ r. ⌜ r ≡ entryOf (now (caller .entry)) (now (directory .entry)) ⌝ }
 {
     let mut at: usize = 0;
     while at < directory.len() {
@@ -103,7 +106,7 @@ fn entry_for(caller: &[u8], directory: &[u8]) -> Entry
 // For a caller that counts: the directory's text, else the caller.
 fn by_entry(message: &[u8], directory: &[u8], start: usize, n: u8) -> Found
     requires { ⌜ start + n ≤ length (now message) ⌝ }
-    ensures { λ r. ⌜ r ≡ byEntry (entryFrom (take n (drop start (now (message .entry)))) 0 (linesOf (now (directory .entry)))) start n ⌝ }
+    ensures { λ r. ⌜ r ≡ byEntry (entryOf (take n (drop start (now (message .entry)))) (now (directory .entry))) start n ⌝ }
 {
     let size = n as usize;
     let caller = &message[start..start + size];
@@ -145,6 +148,7 @@ fn by_name(message: &[u8], directory: &[u8]) -> Found
     }
 }
 
+// Which slice, where and how long; octets that the whole read declines with 1 to 8 get that number.
 pub fn find(message: &[u8], directory: &[u8]) -> Found
     ensures { λ r. ⌜ r ≡ findOf document01 (now (message .entry)) (now (directory .entry)) ⌝ }
 {
