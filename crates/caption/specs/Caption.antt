@@ -48,6 +48,7 @@ unfoldable pub findUnder : Verdict → List ℕ → List ℕ → Found
 findUnder (Accepted n) o d = byName (countedAt o 0x07) o d
 findUnder (Declined f) o d = Refused f
 
+-- what is found for the octets o of a message and the directory d, by the whole read's verdict on o
 unfoldable pub findOf : Rules → List ℕ → List ℕ → Found
 findOf R o d = findUnder (verdictOf R o) o d
 
@@ -68,6 +69,7 @@ sideOf (InMessage start n) = 0
 sideOf (InDirectory start n) = 1
 sideOf (Refused f) = 0
 
+-- where the part starts in its slice, and how long it is
 unfoldable pub startOf : Found → ℕ
 startOf (InMessage start n) = start
 startOf (InDirectory start n) = start
@@ -88,5 +90,6 @@ sliceOf (Refused f) o d = o
 unfoldable pub textOf : Found → List ℕ → List ℕ → List ℕ
 textOf r o d = take (lengthOf r) (drop (startOf r) (sliceOf r o d))
 
+-- the octets of the part that is found
 unfoldable pub captionOf : Rules → List ℕ → List ℕ → List ℕ
 captionOf R o d = textOf (findOf R o d) o d

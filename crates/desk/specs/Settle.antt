@@ -50,6 +50,7 @@ unfoldable pub settledUnder : Verdict → List ℕ → Desk → Outcome
 settledUnder (Accepted n) o d = record { desk = deskAfter o d; answer = Done }
 settledUnder (Declined f) o d = record { desk = d; answer = Refused f }
 
+-- the outcome of settling octets on a desk, by the whole read's verdict on them
 unfoldable pub settleOf : Rules → Desk → List ℕ → Outcome
 settleOf R d o = settledUnder (verdictOf R o) o d
 
