@@ -1,0 +1,77 @@
+-- `caption::caption` meets its contract: the part that `find` finds lies inside its slice, and is cut out of it.
+-- Assumes nothing.
+use native.Mathlib.Omega.{arith}
+use Rattle.rules.specs.Table.{document01}
+use Rattle.caption.specs.Inside.{in-message, in-directory, message-part, directory-part, refused-part}
+use borrow.Author.Needs.{needs}
+use Rattle.caption.proofs.caption.Statement.{statement}
+use Rattle.caption.proofs.caption.Tie as tie
+
+find-requires : tie.Need-find-requires
+find-requires c κs = search needs
+
+enum-known-found : tie.Need-enum-known-found
+enum-known-found c = search needs
+
+add-result : tie.Need-add-result
+add-result c = omega (arith, in-message document01 (c .before .before .before .before .before .before .args .message .now) (c .before .before .before .before .before .before .args .directory .now) _ (c .before .before .before .find .ensures) _ _ (c .before .found .given .1))
+
+sub-result : tie.Need-sub-result
+sub-result c = search needs
+
+part-result-start : tie.Need-part-result-start
+part-result-start c = search needs
+
+part-result-end : tie.Need-part-result-end
+part-result-end c = in-message document01 (c .before .before .before .before .before .before .args .message .now) (c .before .before .before .before .before .before .args .directory .now) _ (c .before .before .before .find .ensures) _ _ (c .before .found .given .1)
+
+enum-known-found-2 : tie.Need-enum-known-found-2
+enum-known-found-2 c = search needs
+
+add-result-2 : tie.Need-add-result-2
+add-result-2 c = omega (arith, in-directory document01 (c .before .before .before .before .before .before .args .message .now) (c .before .before .before .before .before .before .args .directory .now) _ (c .before .before .before .find .ensures) _ _ (c .before .found2 .given .1))
+
+sub-result-2 : tie.Need-sub-result-2
+sub-result-2 c = search needs
+
+part-result-start-2 : tie.Need-part-result-start-2
+part-result-start-2 c = search needs
+
+part-result-end-2 : tie.Need-part-result-end-2
+part-result-end-2 c = in-directory document01 (c .before .before .before .before .before .before .args .message .now) (c .before .before .before .before .before .before .args .directory .now) _ (c .before .before .before .find .ensures) _ _ (c .before .found2 .given .1)
+
+enum-known-found-3 : tie.Need-enum-known-found-3
+enum-known-found-3 c = search needs
+
+slice-aggregate-result : tie.Need-slice-aggregate-result
+slice-aggregate-result c = search needs
+
+returns : tie.Need-returns
+returns c = message-part document01 (c .before .before .before .before .before .before .before .args .message .now) (c .before .before .before .before .before .before .before .args .directory .now) _ (c .before .before .before .before .find .ensures) _ _ (c .before .before .found .given .1)
+
+returns-2 : tie.Need-returns-2
+returns-2 c = directory-part document01 (c .before .before .before .before .before .before .before .args .message .now) (c .before .before .before .before .before .before .before .args .directory .now) _ (c .before .before .before .before .find .ensures) _ _ (c .before .before .found2 .given .1)
+
+returns-3 : tie.Need-returns-3
+returns-3 c = refused-part document01 (c .before .before .before .before .before .before .before .args .message .now) (c .before .before .before .before .before .before .before .args .directory .now) _ (c .before .before .before .before .find .ensures) _ (c .before .before .found3 .given .1)
+
+pub caption-spec : {M : Type 1} → statement M
+caption-spec =
+    tie.close
+    (tie.spec
+    find-requires
+    enum-known-found
+    add-result
+    sub-result
+    part-result-start
+    part-result-end
+    enum-known-found-2
+    add-result-2
+    sub-result-2
+    part-result-start-2
+    part-result-end-2
+    enum-known-found-3
+    slice-aggregate-result
+    returns
+    returns-2
+    returns-3)

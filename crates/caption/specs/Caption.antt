@@ -1,0 +1,95 @@
+-- The caption of a message: a part of the message or of the directory (document 01, The caption).
+-- Assumes nothing.
+use Prim.Native.Nat.{ℕ, suc, _+_}
+use mathlib.Core.List.{List, [], _∷_}
+use lib.ListN.{length, take, drop}
+use Rattle.rules.specs.Tests.{pick}
+use Rattle.rules.specs.Table.{Rules}
+use Rattle.message.specs.declared.Verdict.{Verdict}
+use Rattle.message.specs.declared.Verdict.the-variants.{Accepted, Declined}
+use Rattle.message.specs.declared.Part.{Part}
+use Rattle.message.specs.declared.Part.the-variants.{At, Nowhere}
+use Rattle.message.specs.Verdict.{verdictOf}
+use Rattle.message.specs.Walking.{countedAt}
+use Rattle.caption.specs.Lines.{indexOf, behind, names, linesOf}
+use Rattle.caption.specs.declared.Entry.{Entry}
+use Rattle.caption.specs.declared.Entry.the-variants.{Text, Missing}
+use Rattle.caption.specs.declared.Found.{Found}
+use Rattle.caption.specs.declared.Found.the-variants.{InMessage, InDirectory, Refused}
+
+-- where the text after the first = stands on the first line for the caller; the first of the lines begins at a place of the directory
+unfoldable pub entryFrom : List ℕ → ℕ → List (List ℕ) → Entry
+entryFrom caller at [] = Missing
+entryFrom caller at (l ∷ ls) =
+    pick (names caller l) (Text (at + suc (indexOf 0x3D l)) (length (behind l)))
+    (entryFrom caller (at + suc (length l)) ls)
+
+-- where the text for a caller stands in the directory
+abbrev pub entryOf : List ℕ → List ℕ → Entry
+entryOf caller d = entryFrom caller 0 (linesOf d)
+
+-- the directory's text for a caller that stands in the message, else the caller
+unfoldable pub byEntry : Entry → ℕ → ℕ → Found
+byEntry (Text at k) start n = InDirectory at k
+byEntry Missing start n = InMessage start n
+
+-- by the caller that counts, else the empty part at the message's start
+unfoldable pub byCaller : Part → List ℕ → List ℕ → Found
+byCaller (At start n) o d = byEntry (entryOf (take n (drop start o)) d) start n
+byCaller Nowhere o d = InMessage 0 0
+
+-- the name that counts, else by the caller
+unfoldable pub byName : Part → List ℕ → List ℕ → Found
+byName (At start n) o d = InMessage start n
+byName Nowhere o d = byCaller (countedAt o 0x02) o d
+
+-- octets that the whole read declines get its number and place
+unfoldable pub findUnder : Verdict → List ℕ → List ℕ → Found
+findUnder (Accepted n) o d = byName (countedAt o 0x07) o d
+findUnder (Declined f) o d = Refused f
+
+-- what is found for the octets o of a message and the directory d, by the whole read's verdict on o
+unfoldable pub findOf : Rules → List ℕ → List ℕ → Found
+findOf R o d = findUnder (verdictOf R o) o d
+
+-- ---- this paper's number and place, and the part, for each case: 0 where there is none, and the empty part at the message's start
+unfoldable pub numberOf : Found → ℕ
+numberOf (InMessage start n) = 0
+numberOf (InDirectory start n) = 0
+numberOf (Refused f) = f .number
+
+unfoldable pub placeOf : Found → ℕ
+placeOf (InMessage start n) = 0
+placeOf (InDirectory start n) = 0
+placeOf (Refused f) = f .place
+
+-- which of the two: 0 the message, 1 the directory
+unfoldable pub sideOf : Found → ℕ
+sideOf (InMessage start n) = 0
+sideOf (InDirectory start n) = 1
+sideOf (Refused f) = 0
+
+-- where the part starts in its slice, and how long it is
+unfoldable pub startOf : Found → ℕ
+startOf (InMessage start n) = start
+startOf (InDirectory start n) = start
+startOf (Refused f) = 0
+
+unfoldable pub lengthOf : Found → ℕ
+lengthOf (InMessage start n) = n
+lengthOf (InDirectory start n) = n
+lengthOf (Refused f) = 0
+
+-- the slice that the part lies in, of the message o and the directory d
+unfoldable pub sliceOf : Found → List ℕ → List ℕ → List ℕ
+sliceOf (InMessage start n) o d = o
+sliceOf (InDirectory start n) o d = d
+sliceOf (Refused f) o d = o
+
+-- the octets of the part
+unfoldable pub textOf : Found → List ℕ → List ℕ → List ℕ
+textOf r o d = take (lengthOf r) (drop (startOf r) (sliceOf r o d))
+
+-- the octets of the part that is found
+unfoldable pub captionOf : Rules → List ℕ → List ℕ → List ℕ
+captionOf R o d = textOf (findOf R o d) o d

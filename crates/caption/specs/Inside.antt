@@ -1,0 +1,144 @@
+-- What is found lies inside the slice that it names: contents inside the message, an entry's text inside the directory.
+-- Assumes nothing.
+use Prim.Native.Nat.{ℕ, zero, suc, _+_, _-_, _≤_, _<_}
+use mathlib.Core.Path.{_≡_, refl, sym, _∙_, ap, subst}
+use mathlib.Core.List.{List, [], _∷_}
+use native.Mathlib.Omega.{arith}
+use lib.ListN.{length, length-drop, take, drop}
+use Rattle.rules.specs.Tests.{pick-case, picked-by, both, le-of}
+use Rattle.rules.specs.Table.{Rules, document01, rivalOf}
+use Rattle.rules.specs.declared.Fault.{Fault}
+use Rattle.message.specs.declared.Verdict.{Verdict}
+use Rattle.message.specs.declared.Verdict.the-variants.{Accepted, Declined}
+use Rattle.message.specs.declared.Found as message
+use Rattle.message.specs.declared.Found.the-variants.{Parameter, Nothing}
+use Rattle.message.specs.declared.Part.{Part}
+use Rattle.message.specs.declared.Part.the-variants.{At, Nowhere}
+use Rattle.message.specs.Verdict.{verdictOf}
+use Rattle.message.specs.Walking.{parameterAt, matched, searchFrom, countedAt}
+use Rattle.message.specs.Searching.{found-inside}
+use Rattle.caption.specs.declared.Entry.{Entry}
+use Rattle.caption.specs.declared.Entry.the-variants.{Text, Missing}
+use Rattle.caption.specs.declared.Found.{Found}
+use Rattle.caption.specs.declared.Found.the-variants.{InMessage, InDirectory, Refused}
+use Rattle.caption.specs.Lines.{onFirst, linesOf, indexOf, behind, names}
+use Rattle.caption.specs.Caption.{entryFrom, byEntry, byCaller, byName, findUnder, findOf, startOf, lengthOf, sliceOf, textOf, captionOf}
+
+-- ---- contents that count
+not-there : (start n : ℕ) → Nowhere ≡ At start n → ⊥
+not-there start n e = let z : _≡_ {A = ℕ} 0 1 = cc in omega arith
+
+module _ (o : List ℕ) where
+  abbrev Within : Part → Type 0
+  Within p = (start n : ℕ) → p ≡ At start n → start + n < length o
+
+  matched-inside : (t u at : ℕ) (f : message.Found) → f ≡ parameterAt o at → (next : ℕ → Part) → ((b : ℕ) → Within (next b)) → Within (matched t u f next)
+  unfolding matched
+  matched-inside t u at (Parameter k b m) p next i start n e =
+      picked-by (start + n < length o) _ _ _ _ e
+      (λ _ d. let x : b ≡ start = cc in let y : m ≡ n = cc in omega (arith, found-inside o at _ k b m p refl))
+      (λ _ d. picked-by (start + n < length o) _ _ _ _ d (λ _ z. absurd (not-there start n z)) (λ _ z. i (b + m) start n z))
+  matched-inside t u at Nothing p next i start n e = absurd (not-there start n e)
+
+  search-inside : (turns t u at : ℕ) → Within (searchFrom turns t u o at)
+  unfolding searchFrom
+  search-inside zero t u at start n e = absurd (not-there start n e)
+  search-inside (suc turns) t u at start n e = matched-inside t u at (parameterAt o at) refl (searchFrom turns t u o) (search-inside turns t u) start n e
+
+  pub counted-inside : (t : ℕ) → Within (countedAt o t)
+  unfolding countedAt
+  counted-inside t start n e =
+      picked-by (start + n < length o) _ _ _ _ e (λ _ d. search-inside (length o) t (rivalOf document01 t) 2 start n d) (λ _ d. absurd (not-there start n d))
+
+-- ---- lines, each with its end
+unfoldable pub span : List (List ℕ) → ℕ
+span [] = 0
+span (l ∷ ls) = suc (length l) + span ls
+
+on-first-span : (x : ℕ) (ls : List (List ℕ)) (n : ℕ) → span ls ≤ suc n → span (onFirst x ls) ≤ suc (suc n)
+unfolding onFirst span
+on-first-span x [] n h = omega arith
+on-first-span x (l ∷ ls) n h = omega arith
+
+-- the last line may be without its end
+lines-span : (d : List ℕ) → span (linesOf d) ≤ suc (length d)
+unfolding linesOf span
+lines-span [] = omega arith
+lines-span (x ∷ d) = pick-case (λ (ls : List (List ℕ)). span ls ≤ suc (suc (length d))) _ _ _ (λ _. omega (arith, lines-span d)) (λ _. on-first-span x (linesOf d) (length d) (lines-span d))
+
+-- ---- an entry's text
+no-text : (start n : ℕ) → Missing ≡ Text start n → ⊥
+no-text start n e = let z : _≡_ {A = ℕ} 0 1 = cc in omega arith
+
+entry-span : (caller : List ℕ) (at : ℕ) (ls : List (List ℕ)) (start n : ℕ) → entryFrom caller at ls ≡ Text start n → start + n < at + span ls
+unfolding entryFrom span names behind
+entry-span caller at [] start n e = absurd (no-text start n e)
+entry-span caller at (l ∷ ls) start n e =
+    picked-by (start + n < at + (suc (length l) + span ls)) _ _ _ _ e
+    (λ t d.
+    let x : at + suc (indexOf 0x3D l) ≡ start = cc in
+    let y : length (drop (suc (indexOf 0x3D l)) l) ≡ n = cc in
+    omega (arith, le-of _ _ (both _ _ t .0), length-drop (suc (indexOf 0x3D l)) l))
+    (λ _ d. omega (arith, entry-span caller (at + suc (length l)) ls start n d))
+
+-- ---- the part
+module _ (o d : List ℕ) where
+  abbrev Inside : Found → Type 0
+  Inside r = startOf r + lengthOf r ≤ length (sliceOf r o d)
+
+  by-entry-inside : (e : Entry) (start n : ℕ) → ((at k : ℕ) → e ≡ Text at k → at + k ≤ length d) → start + n ≤ length o → Inside (byEntry e start n)
+  unfolding byEntry startOf lengthOf sliceOf
+  by-entry-inside (Text at k) start n f h = f at k refl
+  by-entry-inside Missing start n f h = h
+
+  by-caller-inside : (p : Part) → Within o p → Inside (byCaller p o d)
+  unfolding byCaller startOf lengthOf sliceOf
+  by-caller-inside (At start n) i = by-entry-inside _ start n (λ at k e. omega (arith, entry-span _ 0 (linesOf d) at k e, lines-span d)) (omega (arith, i start n refl))
+  by-caller-inside Nowhere i = omega arith
+
+  by-name-inside : (p : Part) → Within o p → Inside (byName p o d)
+  unfolding byName startOf lengthOf sliceOf
+  by-name-inside (At start n) i = omega (arith, i start n refl)
+  by-name-inside Nowhere i = by-caller-inside (countedAt o 0x02) (counted-inside o 0x02)
+
+  under-inside : (v : Verdict) → Inside (findUnder v o d)
+  unfolding findUnder startOf lengthOf sliceOf
+  under-inside (Accepted n) = by-name-inside (countedAt o 0x07) (counted-inside o 0x07)
+  under-inside (Declined f) = omega arith
+
+  pub part-inside : (R : Rules) → Inside (findOf R o d)
+  unfolding findOf
+  part-inside R = under-inside (verdictOf R o)
+
+-- ---- the part is cut out of its slice
+module _ (R : Rules) (o d : List ℕ) (r : Found) (f : r ≡ findOf R o d) where
+  inside : Inside o d r
+  inside = subst (Inside o d) (sym f) (part-inside o d R)
+
+  pub in-message : (start n : ℕ) → r ≡ InMessage start n → start + n ≤ length o
+  unfolding startOf lengthOf sliceOf
+  in-message start n e = subst (Inside o d) e inside
+
+  pub in-directory : (start n : ℕ) → r ≡ InDirectory start n → start + n ≤ length d
+  unfolding startOf lengthOf sliceOf
+  in-directory start n e = subst (Inside o d) e inside
+
+  caption-is : captionOf R o d ≡ textOf r o d
+  unfolding captionOf
+  caption-is = ap (λ (x : Found). textOf x o d) (sym f)
+
+  pub message-part : (start n : ℕ) → r ≡ InMessage start n → take (start + n - start) (drop start o) ≡ captionOf R o d
+  unfolding textOf startOf lengthOf sliceOf
+  message-part start n e =
+      let z : start + n - start ≡ n = omega arith in
+      ap (λ (k : ℕ). take k (drop start o)) z ∙ sym (caption-is ∙ ap (λ (x : Found). textOf x o d) e)
+
+  pub directory-part : (start n : ℕ) → r ≡ InDirectory start n → take (start + n - start) (drop start d) ≡ captionOf R o d
+  unfolding textOf startOf lengthOf sliceOf
+  directory-part start n e =
+      let z : start + n - start ≡ n = omega arith in
+      ap (λ (k : ℕ). take k (drop start d)) z ∙ sym (caption-is ∙ ap (λ (x : Found). textOf x o d) e)
+
+  pub refused-part : (g : Fault) → r ≡ Refused g → [] ≡ captionOf R o d
+  unfolding textOf startOf lengthOf sliceOf
+  refused-part g e = sym (caption-is ∙ ap (λ (x : Found). textOf x o d) e)

@@ -1,0 +1,9 @@
+-- The root of what the caption finder promises.
+pub mod Lines
+pub mod Caption
+pub mod Cutting
+pub mod Inside
+pub mod Directory
+pub mod Places
+pub mod Finds
+pub mod Rows

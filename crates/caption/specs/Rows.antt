@@ -1,0 +1,66 @@
+-- Captions computed: document 01's example message with directories of all kinds, a name, names and callers that do not count, and refusals.
+-- Assumes nothing.
+use mathlib.Core.Path.{_≡_, refl}
+use mathlib.Core.List.{List, [], _∷_}
+use Prim.Native.Nat.{ℕ}
+use Rattle.rules.specs.Tests.{_≤?_, _=?_, _and_, _or_, pick}
+use Rattle.rules.specs.Octets.{checksum}
+use Rattle.rules.specs.Contents.{within, inSet, lengths, lengthFits, digit}
+use Rattle.rules.specs.Table.{ascii, document01, rowIn, rowOf, listedIn, listed, classOf, shapeOf, rivalOf, typeFault, shape01}
+use Rattle.rules.specs.Message.{messageKind}
+use Rattle.rules.specs.ContentJudge.{opens, tensFit, onesFit, pairAt, columnAt, okAt, remember}
+use Rattle.rules.specs.Machine.{step, run}
+use Rattle.rules.specs.Judge.{roomFits, rangePossible, somePossible, possible, final, fits, contents, after, fault, machine}
+use Rattle.message.specs.Verdict.{judged, verdictOf}
+use Rattle.message.specs.Walking.{parameterAt, matched, searchFrom, countedAt}
+use Rattle.caption.specs.declared.Found.the-variants.{InMessage, InDirectory, Refused}
+use Rattle.caption.specs.Lines.{onFirst, linesOf, indexOf, before, behind, same, names}
+use Rattle.caption.specs.Caption.{entryFrom, byEntry, byCaller, byName, findUnder, findOf}
+
+-- the caller 40912, from octet 14 on
+abbrev call : List ℕ
+call = 0x80 ∷ 0x11 ∷ 0x01 ∷ 0x08 ∷ 0x30 ∷ 0x36 ∷ 0x31 ∷ 0x35 ∷ 0x31 ∷ 0x34 ∷ 0x33 ∷ 0x30 ∷ 0x02 ∷ 0x05 ∷ 0x34 ∷ 0x30 ∷ 0x39 ∷ 0x31 ∷ 0x32 ∷ 0xCB ∷ []
+
+-- the name Ann and the caller 7; no name and then the name A; no caller and then the caller 7
+abbrev named : List ℕ
+named = 0x80 ∷ 0x08 ∷ 0x07 ∷ 0x03 ∷ 0x41 ∷ 0x6E ∷ 0x6E ∷ 0x02 ∷ 0x01 ∷ 0x37 ∷ 0x17 ∷ []
+
+abbrev nameless : List ℕ
+nameless = 0x80 ∷ 0x06 ∷ 0x08 ∷ 0x01 ∷ 0x4F ∷ 0x07 ∷ 0x01 ∷ 0x41 ∷ 0xD9 ∷ []
+
+abbrev callerless : List ℕ
+callerless = 0x80 ∷ 0x06 ∷ 0x04 ∷ 0x01 ∷ 0x50 ∷ 0x02 ∷ 0x01 ∷ 0x37 ∷ 0xEB ∷ []
+
+pub record Claim : Type 0 where
+  -- the first line for the caller; a line that only begins with it, and one with no =, are passed over; further = belong to the text
+  pub first-line : findOf document01 call (ascii "409=A\n40912\n40912=B=C\n40912=D\n") ≡ InDirectory 18 3
+  -- the last line perhaps without 0AH; an empty text; 0DH is ordinary
+  pub last-line : findOf document01 call (ascii "1=A\n40912=B") ≡ InDirectory 10 1
+  pub empty-text : findOf document01 call (ascii "40912=\n") ≡ InDirectory 6 0
+  pub ordinary : findOf document01 call (ascii "40912=B\r\n") ≡ InDirectory 6 2
+  -- no line for it: the caller
+  pub caller : findOf document01 call (ascii "=40912\n409123=A\n0912=B\n\n") ≡ InMessage 14 5
+  pub no-directory : findOf document01 call [] ≡ InMessage 14 5
+  -- the name comes before any line
+  pub name : findOf document01 named (ascii "7=A\n") ≡ InMessage 4 3
+  -- what does not count is no caption
+  pub nothing : findOf document01 nameless (ascii "A=B\n") ≡ InMessage 0 0
+  pub no-caller : findOf document01 callerless (ascii "7=A\n") ≡ InMessage 0 0
+  pub wrong-kind : findOf document01 (0x81 ∷ []) (ascii "7=A\n") ≡ Refused (record { number = 1; place = 0 })
+  pub too-short : findOf document01 [] [] ≡ Refused (record { number = 8; place = 0 })
+
+pub rows : Claim
+unfolding _≤?_ _=?_ _and_ _or_ pick checksum within inSet lengths lengthFits digit ascii rowIn rowOf listedIn listed classOf shapeOf rivalOf typeFault shape01 document01 messageKind opens tensFit onesFit pairAt columnAt okAt remember step run roomFits rangePossible somePossible possible final fits contents after fault machine judged verdictOf parameterAt matched searchFrom countedAt onFirst linesOf indexOf before behind same names entryFrom byEntry byCaller byName findUnder findOf
+rows = record {
+  first-line = refl;
+  last-line = refl;
+  empty-text = refl;
+  ordinary = refl;
+  caller = refl;
+  no-directory = refl;
+  name = refl;
+  nothing = refl;
+  no-caller = refl;
+  wrong-kind = refl;
+  too-short = refl;
+}

@@ -1,0 +1,172 @@
+// The caption of a message (document 01, The caption): a part of the message or a part of a lent directory. `find` says which, where and how long,
+// or number and place; `caption` returns that part itself.
+use message::Part;
+use message::Verdict;
+use rules::Fault;
+ghost use mathlib.Core.Path.{_≡_};
+ghost use Prim.Native.Nat.{_+_, _≤_, _<_};
+ghost use lib.ListN.{length, take, drop};
+ghost use Rattle.rules.specs.Table.{document01};
+ghost use Rattle.message.specs.Walking.{countedAt};
+ghost use Rattle.caption.specs.Lines.{indexOf, same, names};
+ghost use Rattle.caption.specs.Cutting.{Cuts};
+ghost use Rattle.caption.specs.Caption.{entryOf, byEntry, byCaller, byName, findOf, captionOf};
+
+// Where the caption stands, or number and place of a refusal.
+pub enum Found {
+    InMessage { start: usize, length: usize },
+    InDirectory { start: usize, length: usize },
+    Refused(Fault),
+}
+
+// How long a line is, and whether it is for the caller.
+struct Line {
+    size: usize,
+    named: bool,
+}
+
+// Where the text for a caller stands in the directory.
+enum Entry {
+    Text { start: usize, length: usize },
+    Missing,
+}
+
+// The index of the first octet `x`, or the length where there is none.
+fn index_of(x: u8, s: &[u8]) -> usize
+    ensures { λ r. ⌜ r ≡ indexOf x (now (s .entry)) ⌝ }
+{
+    let mut i: usize = 0;
+    while i < s.len() {
+        if s[i] == x {
+            return i;
+        }
+        i += 1;
+    }
+    i
+}
+
+// Octets are compared as they are.
+fn is_same(a: &[u8], b: &[u8]) -> bool
+    ensures { λ r. ⌜ r ≡ same (now (a .entry)) (now (b .entry)) ⌝ }
+{
+    if a.len() != b.len() {
+        return false;
+    }
+    let mut i: usize = 0;
+    while i < a.len() {
+        if a[i] != b[i] {
+            return false;
+        }
+        i += 1;
+    }
+    true
+}
+
+// A line with `=` whose text before the first one is the caller.
+fn is_for(caller: &[u8], line: &[u8]) -> bool
+    ensures { λ r. ⌜ r ≡ names (now (caller .entry)) (now (line .entry)) ⌝ }
+{
+    let equals = index_of(0x3D, line);
+    if equals < line.len() {
+        is_same(&line[..equals], caller)
+    } else {
+        false
+    }
+}
+
+// The line that begins at a place; it ends at 0AH, the last perhaps without.
+fn line_at(caller: &[u8], directory: &[u8], at: usize) -> Line
+    requires { ⌜ at < length (now directory) ⌝ }
+    ensures { λ r. ⌜ Cuts (now (caller .entry)) (now (directory .entry)) at r ⌝ }
+{
+    let rest = &directory[at..];
+    let size = index_of(0x0A, rest);
+    let named = is_for(caller, &rest[..size]);
+    Line { size, named }
+}
+
+// The text after the first `=` on the first line for the caller.
+fn entry_for(caller: &[u8], directory: &[u8]) -> Entry
+    ensures { λ r. ⌜ r ≡ entryOf (now (caller .entry)) (now (directory .entry)) ⌝ }
+{
+    let mut at: usize = 0;
+    while at < directory.len() {
+        let line = line_at(caller, directory, at);
+        let size = line.size;
+        if line.named {
+            let start = at + caller.len() + 1;
+            let length = size - caller.len() - 1;
+            return Entry::Text { start, length };
+        }
+        at = at + size + 1;
+    }
+    Entry::Missing
+}
+
+// For a caller that counts: the directory's text, else the caller.
+fn by_entry(message: &[u8], directory: &[u8], start: usize, n: u8) -> Found
+    requires { ⌜ start + n ≤ length (now message) ⌝ }
+    ensures { λ r. ⌜ r ≡ byEntry (entryOf (take n (drop start (now (message .entry)))) (now (directory .entry))) start n ⌝ }
+{
+    let size = n as usize;
+    let caller = &message[start..start + size];
+    let entry = entry_for(caller, directory);
+    match entry {
+        Entry::Text { start: at, length } => Found::InDirectory { start: at, length },
+        Entry::Missing => Found::InMessage {
+            start,
+            length: size,
+        },
+    }
+}
+
+// Where no name counts: by the caller, else the empty part at the message's start.
+fn by_caller(message: &[u8], directory: &[u8]) -> Found
+    ensures { λ r. ⌜ r ≡ byCaller (countedAt (now (message .entry)) 0x02) (now (message .entry)) (now (directory .entry)) ⌝ }
+{
+    let part = message::counted(message, 0x02);
+    match part {
+        Part::At { start, length } => by_entry(message, directory, start, length),
+        Part::Nowhere => Found::InMessage {
+            start: 0,
+            length: 0,
+        },
+    }
+}
+
+// In an accepted message: the name, else by the caller.
+fn by_name(message: &[u8], directory: &[u8]) -> Found
+    ensures { λ r. ⌜ r ≡ byName (countedAt (now (message .entry)) 0x07) (now (message .entry)) (now (directory .entry)) ⌝ }
+{
+    let part = message::counted(message, 0x07);
+    match part {
+        Part::At { start, length: n } => {
+            let length = n as usize;
+            Found::InMessage { start, length }
+        }
+        Part::Nowhere => by_caller(message, directory),
+    }
+}
+
+// Which slice, where and how long; octets that the whole read declines with 1 to 8 get that number.
+pub fn find(message: &[u8], directory: &[u8]) -> Found
+    ensures { λ r. ⌜ r ≡ findOf document01 (now (message .entry)) (now (directory .entry)) ⌝ }
+{
+    let verdict = message::judge(message);
+    match verdict {
+        Verdict::Accepted { size } => by_name(message, directory),
+        Verdict::Declined { fault } => Found::Refused(fault),
+    }
+}
+
+// The part that `find` finds; the empty part at the message's start with every refusal.
+pub fn caption<'a>(message: &'a [u8], directory: &'a [u8]) -> &'a [u8]
+    ensures { λ r. ⌜ now r ≡ captionOf document01 (now (message .entry)) (now (directory .entry)) ⌝ }
+{
+    let found = find(message, directory);
+    match found {
+        Found::InMessage { start, length } => &message[start..start + length],
+        Found::InDirectory { start, length } => &directory[start..start + length],
+        Found::Refused(fault) => &message[..0],
+    }
+}

@@ -1,0 +1,5 @@
+-- The root of what the desk promises.
+pub mod Settle
+pub mod Counted
+pub mod Settles
+pub mod Rows
