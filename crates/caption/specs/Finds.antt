@@ -28,7 +28,8 @@ use Rattle.caption.specs.Lines.{linesOf}
 use Rattle.caption.specs.Caption.{entryOf, byEntry, byCaller, byName, findUnder, findOf, numberOf, placeOf, sideOf, startOf, lengthOf, sliceOf, textOf}
 use Rattle.caption.specs.Inside.{part-inside}
 use Rattle.caption.specs.Directory.{NoneFor, FirstFor, textAt, none-found, first-found, text-stands}
-use Rattle.caption.specs.Places.{contentsAt, counted-at, caller-plain}
+use Rattle.message.specs.Places.{contentsAt, counted-at}
+use Rattle.caption.specs.Callers.{caller-plain}
 
 -- nothing is declined, and the part holds the text v; it starts at a place of the message (side 0) or of the directory (side 1)
 pub record Shows (o d : List ℕ) (r : Found) (which at : ℕ) (v : List ℕ) : Type 0 where

@@ -6,49 +6,21 @@ use mathlib.Core.List.{List, [], _∷_}
 use native.Mathlib.Omega.{arith}
 use lib.ListN.{length, length-drop, take, drop}
 use Rattle.rules.specs.Tests.{pick-case, picked-by, both, le-of}
-use Rattle.rules.specs.Table.{Rules, document01, rivalOf}
+use Rattle.rules.specs.Table.{Rules}
 use Rattle.rules.specs.declared.Fault.{Fault}
 use Rattle.message.specs.declared.Verdict.{Verdict}
 use Rattle.message.specs.declared.Verdict.the-variants.{Accepted, Declined}
-use Rattle.message.specs.declared.Found as message
-use Rattle.message.specs.declared.Found.the-variants.{Parameter, Nothing}
 use Rattle.message.specs.declared.Part.{Part}
 use Rattle.message.specs.declared.Part.the-variants.{At, Nowhere}
 use Rattle.message.specs.Verdict.{verdictOf}
-use Rattle.message.specs.Walking.{parameterAt, matched, searchFrom, countedAt}
-use Rattle.message.specs.Searching.{found-inside}
+use Rattle.message.specs.Walking.{countedAt}
+use Rattle.message.specs.Places.{Within, counted-inside}
 use Rattle.caption.specs.declared.Entry.{Entry}
 use Rattle.caption.specs.declared.Entry.the-variants.{Text, Missing}
 use Rattle.caption.specs.declared.Found.{Found}
 use Rattle.caption.specs.declared.Found.the-variants.{InMessage, InDirectory, Refused}
 use Rattle.caption.specs.Lines.{onFirst, linesOf, indexOf, behind, names}
 use Rattle.caption.specs.Caption.{entryFrom, byEntry, byCaller, byName, findUnder, findOf, startOf, lengthOf, sliceOf, textOf, captionOf}
-
--- ---- contents that count
-not-there : (start n : ℕ) → Nowhere ≡ At start n → ⊥
-not-there start n e = let z : _≡_ {A = ℕ} 0 1 = cc in omega arith
-
-module _ (o : List ℕ) where
-  abbrev Within : Part → Type 0
-  Within p = (start n : ℕ) → p ≡ At start n → start + n < length o
-
-  matched-inside : (t u at : ℕ) (f : message.Found) → f ≡ parameterAt o at → (next : ℕ → Part) → ((b : ℕ) → Within (next b)) → Within (matched t u f next)
-  unfolding matched
-  matched-inside t u at (Parameter k b m) p next i start n e =
-      picked-by (start + n < length o) _ _ _ _ e
-      (λ _ d. let x : b ≡ start = cc in let y : m ≡ n = cc in omega (arith, found-inside o at _ k b m p refl))
-      (λ _ d. picked-by (start + n < length o) _ _ _ _ d (λ _ z. absurd (not-there start n z)) (λ _ z. i (b + m) start n z))
-  matched-inside t u at Nothing p next i start n e = absurd (not-there start n e)
-
-  search-inside : (turns t u at : ℕ) → Within (searchFrom turns t u o at)
-  unfolding searchFrom
-  search-inside zero t u at start n e = absurd (not-there start n e)
-  search-inside (suc turns) t u at start n e = matched-inside t u at (parameterAt o at) refl (searchFrom turns t u o) (search-inside turns t u) start n e
-
-  pub counted-inside : (t : ℕ) → Within (countedAt o t)
-  unfolding countedAt
-  counted-inside t start n e =
-      picked-by (start + n < length o) _ _ _ _ e (λ _ d. search-inside (length o) t (rivalOf document01 t) 2 start n d) (λ _ d. absurd (not-there start n d))
 
 -- ---- lines, each with its end
 unfoldable pub span : List (List ℕ) → ℕ

@@ -4,6 +4,6 @@ pub mod Caption
 pub mod Cutting
 pub mod Inside
 pub mod Directory
-pub mod Places
+pub mod Callers
 pub mod Finds
 pub mod Rows

@@ -5,7 +5,7 @@ use Prim.Native.Nat.{ℕ, _+_, _≤_, _<_}
 use mathlib.Core.Path.{_≡_, refl, sym, _∙_, ap, subst}
 use mathlib.Core.Bool.{false}
 use mathlib.Core.Logic.{_⊎_, inl, inr}
-use mathlib.Core.List.{List, [], _∷_, _++_}
+use mathlib.Core.List.{List, [], _∷_}
 use mathlib.Core.Option.{none, some}
 use native.Mathlib.Nat.{add-zero}
 use native.Mathlib.Omega.{arith}
@@ -17,26 +17,19 @@ use Rattle.rules.specs.Contents.{Range, Shape, columns, within, inSet, columnsF
 use Rattle.rules.specs.Table.{document01, shapeOf, classOf, rowOf, rowIn, shape01, anyOctet, lampSet}
 use Rattle.rules.specs.ContentLaw.{document01-sound, fit-length, some-length}
 use Rattle.rules.specs.Message as message
-use Rattle.rules.specs.Message.{LegalParameter, AllLegal, LegalMessage, Accepts}
-use Rattle.rules.specs.Counting.{counted, counted-iff}
+use Rattle.rules.specs.Message.{LegalMessage, Accepts}
+use Rattle.rules.specs.Counting.{counted, counted-iff, legal-counts}
 use Rattle.message.specs.declared.Part.{Part}
 use Rattle.message.specs.declared.Part.the-variants.{At, Nowhere}
 use Rattle.message.specs.Walking.{countedAt, partOf}
 use Rattle.message.specs.Searching.{counted-part}
 use Rattle.desk.specs.Settle.{countedIn}
 
--- ---- contents that count in an accepted message hold at least one octet
-legal-in : (b : List message.Parameter) (p : message.Parameter) (a : List message.Parameter) → AllLegal document01 (b ++ p ∷ a) → LegalParameter document01 p
-legal-in [] p a l = l .0
-legal-in (q ∷ b) p a l = legal-in b p a (l .1)
-
 -- what counts is the contents of a legal parameter of its type
 legal-counted : (m : message.Message) → LegalMessage document01 m → (t : ℕ) (v : List ℕ) → counted document01 m t ≡ some v → T (contentsFit (shapeOf document01 t) v)
-legal-counted m l t v e =
-    let f = counted-iff document01 m t v .0 e .first in
-    let p = legal-in (f .before) (f .p) (f .after) (subst (AllLegal document01) (sym (f .is)) (l .parameters)) in
-    subst (λ (w : List ℕ). T (contentsFit (shapeOf document01 t) w)) (f .contents) (subst (λ (k : ℕ). T (contentsFit (shapeOf document01 k) (f .p .contents))) (f .kind) (p .fits))
+legal-counted m l t v e = legal-counts document01 m l t v (counted-iff document01 m t v .0 e)
 
+-- ---- contents that count in an accepted message hold at least one octet
 module _ (o : List ℕ) (a : Accepts document01 o) (t start n : ℕ) (e : countedAt o t ≡ At start n) where
   holds : counted document01 (a .0) t ≡ some (take n (drop start o))
   unfolding partOf

@@ -5,3 +5,4 @@ pub mod Turns
 pub mod Judges
 pub mod Searching
 pub mod Parameters
+pub mod Places

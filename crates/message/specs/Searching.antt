@@ -134,7 +134,7 @@ unfolding partOf
 nowhere o b x = refl
 
 -- each parameter has at least two octets
-enough : (ps : List message.Parameter) → length ps ≤ length (body ps)
+pub enough : (ps : List message.Parameter) → length ps ≤ length (body ps)
 unfolding body
 enough [] = omega arith
 enough (p ∷ ps) = omega (arith, enough ps, length-append (p .contents) (body ps))

@@ -8,8 +8,9 @@ use mathlib.Core.Option.{Option, none, some}
 use native.Mathlib.Omega.{arith}
 use lib.Dec.{T}
 use Rattle.rules.specs.Tests.{_=?_, pick, pick-yes, pick-not, picked, eq-of, of-eq, decide}
-use Rattle.rules.specs.Table.{Rules, listed, rivalOf}
-use Rattle.rules.specs.Message.{Parameter, Message}
+use Rattle.rules.specs.Contents.{contentsFit}
+use Rattle.rules.specs.Table.{Rules, listed, rivalOf, shapeOf}
+use Rattle.rules.specs.Message.{Parameter, Message, LegalParameter, AllLegal, LegalMessage}
 
 -- the contents of the first parameter of type t, if none of type u stands before it
 unfoldable pub firstOf : ℕ → ℕ → List Parameter → Option (List ℕ)
@@ -93,3 +94,15 @@ module _ (R : Rules) (m : Message) where
           ∙ ap (λ (u : ℕ). firstOf (rivalOf R t) u (m .parameters)) s
           ∙ ap (firstOf (rivalOf R t) t) (sym (c .first .is))
           ∙ shut-out (rivalOf R t) t (c .first .before) (c .first .p) (c .first .after) (λ z. d (sym z)) (c .first .kind) (c .first .none)
+
+-- ---- what counts is legal
+legal-in : (R : Rules) (b : List Parameter) (p : Parameter) (a : List Parameter) → AllLegal R (b ++ p ∷ a) → LegalParameter R p
+legal-in R [] p a l = l .0
+legal-in R (q ∷ b) p a l = legal-in R b p a (l .1)
+
+-- the contents that count are contents of their type
+pub legal-counts : (R : Rules) (m : Message) → LegalMessage R m → (t : ℕ) (v : List ℕ) → Counts R m t v → T (contentsFit (shapeOf R t) v)
+legal-counts R m l t v c =
+    let f = c .first in
+    let p = legal-in R (f .before) (f .p) (f .after) (subst (AllLegal R) (sym (f .is)) (l .parameters)) in
+    subst (λ (w : List ℕ). T (contentsFit (shapeOf R t) w)) (f .contents) (subst (λ (k : ℕ). T (contentsFit (shapeOf R k) (f .p .contents))) (f .kind) (p .fits))
