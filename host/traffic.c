@@ -1,7 +1,7 @@
 /* Traffic through the archive and the second reader in one process: each message is heard whole, octet by octet and in runs of random cuts, and every
  * answer, place, size and count of octets taken is held to what the second reader says of the octets offered so far. Records are handed back after every
  * call, and records of random octets are refused with 17 as they were, or are stepped. Each is read whole, with areas on both sides of what its texts need
- * and records of other sizes: every entry, every text and all that must stay. Says how many answers it compared; a difference ends it with status 1. */
+ * and records of other sizes: every entry, every text and all that must stay. Each is settled on a desk, twice. Says how many answers it compared; a difference ends it with status 1. */
 #include <stdio.h>
 #include <stdlib.h>
 #include <string.h>
@@ -131,11 +131,46 @@ static void reads(struct traffic *t, const uint8_t *o, size_t n) {
     read_as_second(t, o, n, traffic_number(t, 2) ? traffic_number(t, ANTHERCUP_DRAFT) : ANTHERCUP_DRAFT - 2 + traffic_number(t, 5), traffic_number(t, 260));
 }
 
+/* what a desk's record shows, as the second reader keeps it */
+static struct second_desk desk_of(const uint8_t *desk) {
+    struct second_desk s;
+    s.waiting = anthercup_waiting(desk);
+    s.lamp = (int)anthercup_lamp(desk) - 1;
+    return s;
+}
+
+/* the same desk through both, and settled twice; then any record at all */
+static void settles(struct traffic *t, const uint8_t *o, size_t n, uint8_t *desk) {
+    struct second_desk s = desk_of(desk), before = s;
+    uint8_t once[ANTHERCUP_DESK], any[8], was[8];
+    struct second_verdict v = second_settle(&s, o, n);
+    uint64_t answer = anthercup_settle(desk, ANTHERCUP_DESK, o, n);
+    same("settle: number", o, n, anthercup_number(answer), v.number);
+    same("settle: place", o, n, anthercup_place(answer), v.place);
+    same("settle: other fields", o, n, (unsigned long)(answer >> 24), 0);
+    same("settle: waiting", o, n, (unsigned long)desk_of(desk).waiting, (unsigned long)s.waiting);
+    same("settle: lamp", o, n, (unsigned long)desk_of(desk).lamp, (unsigned long)s.lamp);
+    if (v.number) same("settle: desk of a refusal", o, n, (unsigned long)(s.waiting != before.waiting || s.lamp != before.lamp), 0);
+    memcpy(once, desk, sizeof once);
+    same("settle: twice", o, n, (unsigned long)(anthercup_settle(desk, ANTHERCUP_DESK, o, n) != answer || memcmp(once, desk, sizeof once)), 0);
+
+    size_t size = traffic_number(t, 4) ? ANTHERCUP_DESK : traffic_number(t, sizeof any);
+    for (size_t i = 0; i < sizeof any; i++) any[i] = (uint8_t)(traffic_number(t, 3) ? traffic_number(t, 4) : traffic_number(t, 256));
+    if (traffic_number(t, 2)) any[3] = 0;
+    memcpy(was, any, sizeof any);
+    int good = size == ANTHERCUP_DESK && any[0] <= 1 && (any[0] || !any[1]) && any[2] <= 2 && !any[3];
+    answer = anthercup_settle(any, size, o, n);
+    same("settle: 17", was, size, anthercup_number(answer) == ANTHERCUP_RECORD, !good);
+    if (!good || v.number) same("settle: a record that stays", was, size, (unsigned long)memcmp(any, was, sizeof any), 0);
+    same("new desk", was, size, (unsigned long)anthercup_new_desk(any, size), size == ANTHERCUP_DESK ? 0 : ANTHERCUP_RECORD);
+}
+
 int main(int argc, char **argv) {
     struct traffic t;
-    uint8_t o[TRAFFIC_OCTETS];
+    uint8_t o[TRAFFIC_OCTETS], desk[ANTHERCUP_DESK];
     long messages = argc > 1 ? atol(argv[1]) : 50000;
     traffic_start(&t, 1);
+    anthercup_new_desk(desk, sizeof desk);
     for (long i = 0; i < messages; i++) {
         size_t n = traffic_next(&t, o);
         in_runs(&t, o, n, 0);
@@ -143,6 +178,7 @@ int main(int argc, char **argv) {
         if (i % 8 == 0) in_runs(&t, o, n, 1);
         any_record(&t);
         reads(&t, o, n);
+        settles(&t, o, n, desk);
     }
     printf("traffic: %ld messages, %lu answers as the second reader has them\n", messages, compared);
     return 0;

@@ -1,4 +1,4 @@
-/* Anthercup for the boxes' firmware: the listener and the reader (document 01, Listening and Drafts).
+/* Anthercup for the boxes' firmware: the listener, the reader and the desk (document 01, Listening, Drafts and The desk).
  *
  * Every function takes octets as a pointer and a length. A pointer is never null, also where the length is 0, and what is lent for writing overlaps
  * nothing else. Anything may be handed in: a record of another size, or one that holds a code or number out of range, gets number 17 and stays as
@@ -55,6 +55,15 @@ enum { ANTHERCUP_TEXTS = 253 };
 /* The kinds of value. */
 enum anthercup_kinds { ANTHERCUP_CODE = 0, ANTHERCUP_DATE = 1, ANTHERCUP_STATE = 2, ANTHERCUP_TEXT = 3, ANTHERCUP_CARRIED = 4 };
 
+/* A desk's record, in octets:
+ *    0       1 where the waiting number is known, else 0
+ *    1       the waiting number, 0 where it is not known
+ *    2       the lamp: 0 unknown, 1 off, 2 on
+ *    3       0, kept */
+enum { ANTHERCUP_DESK = 4 };
+
+enum anthercup_lamps { ANTHERCUP_LAMP_UNKNOWN = 0, ANTHERCUP_LAMP_OFF = 1, ANTHERCUP_LAMP_ON = 2 };
+
 /* The numbers given when the work is declined. */
 enum anthercup_numbers {
     ANTHERCUP_MESSAGE_TYPE = 1, /* octet 0 is neither 80H nor 82H */
@@ -80,6 +89,13 @@ uint64_t anthercup_listen(uint8_t *listener, size_t listener_len, const uint8_t 
  * stay. The record is only written: whatever it holds, only its size is judged. Numbers 1 to 9, or 17 where draft_len is not ANTHERCUP_DRAFT; record and
  * area then hold what they held. */
 uint64_t anthercup_read(const uint8_t *octets, size_t octets_len, uint8_t *draft, size_t draft_len, uint8_t *texts, size_t texts_len);
+
+/* Makes the record that of a new desk, whatever it holds: number and lamp unknown. Number 0, or 17 where desk_len is not ANTHERCUP_DESK. */
+uint64_t anthercup_new_desk(uint8_t *desk, size_t desk_len);
+
+/* Settles one whole message on a desk: a notice sets the waiting number and the lamp where it says them, to what it says; a call message changes nothing.
+ * Number 0; or 17 for a record that is no desk's, then 1 to 8: the record then stays as it was. The same message settled twice leaves what once left. */
+uint64_t anthercup_settle(uint8_t *desk, size_t desk_len, const uint8_t *octets, size_t octets_len);
 
 static inline unsigned anthercup_number(uint64_t answer) { return (unsigned)(answer & 0xff); }
 static inline unsigned anthercup_place(uint64_t answer) { return (unsigned)(answer >> 8 & 0xffff); }
@@ -113,6 +129,10 @@ static inline unsigned anthercup_entry_length(const uint8_t *draft, unsigned i) 
 static inline const uint8_t *anthercup_entry_text(const uint8_t *draft, unsigned i, const uint8_t *texts) {
     return texts + anthercup_entry_start(draft, i);
 }
+
+/* The fields of a desk's record: the waiting number, or -1 where it is not known; and the lamp. */
+static inline int anthercup_waiting(const uint8_t *desk) { return desk[0] ? desk[1] : -1; }
+static inline unsigned anthercup_lamp(const uint8_t *desk) { return desk[2]; }
 
 #ifdef __cplusplus
 }

@@ -1,6 +1,8 @@
 -- The root of the proofs: what the decoding of a record wants.
 pub mod Decoding
+pub mod Desking
 pub mod Drafting
 pub mod Settled
 pub mod Hearing
 pub mod Readings
+pub mod Settlings

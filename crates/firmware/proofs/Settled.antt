@@ -4,6 +4,8 @@ use mathlib.Core.Path.{_≡_, sym, _∙_}
 use Rattle.firmware.proofs.anthercup_reset.Reads as reset
 use Rattle.firmware.proofs.anthercup_listen.Reads as listen
 use Rattle.firmware.proofs.anthercup_read.Reads as read
+use Rattle.firmware.proofs.anthercup_new_desk.Reads as new-desk
+use Rattle.firmware.proofs.anthercup_settle.Reads as settle
 
 pub anthercup-reset-settled : (κs : _) (a : _) (r r' : _) (s s' : _) → reset.Post κs a r s → reset.Post κs a r' s' → (r ≡ r') × (s .0 .now ≡ s' .0 .now)
 anthercup-reset-settled κs a r r' s s' p q = (p .0 ∙ sym (q .0), p .1 ∙ sym (q .1))
@@ -13,3 +15,9 @@ anthercup-listen-settled κs a r r' s s' p q = (p .0 ∙ sym (q .0), p .1 ∙ sy
 
 pub anthercup-read-settled : (κs : _) (a : _) (r r' : _) (s s' : _) → read.Post κs a r s → read.Post κs a r' s' → (r ≡ r') × (s .1 .0 .now ≡ s' .1 .0 .now) × (s .1 .1 .0 .now ≡ s' .1 .1 .0 .now)
 anthercup-read-settled κs a r r' s s' p q = (p .0 ∙ sym (q .0), p .1 .0 ∙ sym (q .1 .0), p .1 .1 ∙ sym (q .1 .1))
+
+pub anthercup-new-desk-settled : (κs : _) (a : _) (r r' : _) (s s' : _) → new-desk.Post κs a r s → new-desk.Post κs a r' s' → (r ≡ r') × (s .0 .now ≡ s' .0 .now)
+anthercup-new-desk-settled κs a r r' s s' p q = (p .0 ∙ sym (q .0), p .1 ∙ sym (q .1))
+
+pub anthercup-settle-settled : (κs : _) (a : _) (r r' : _) (s s' : _) → settle.Post κs a r s → settle.Post κs a r' s' → (r ≡ r') × (s .0 .now ≡ s' .0 .now)
+anthercup-settle-settled κs a r r' s s' p q = (p .0 ∙ sym (q .0), p .1 ∙ sym (q .1))

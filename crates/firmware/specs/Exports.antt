@@ -14,6 +14,13 @@ use Rattle.reader.specs.declared.Packed.{Packed}
 use Rattle.reader.specs.declared.Packed.the-variants.{Texts, Refused}
 use Rattle.reader.specs.Read.{packOf, areaAfter}
 use Rattle.reader.specs.Reads as reads
+use Rattle.desk.specs.declared.Answer as desk
+use Rattle.desk.specs.Settle as settle
+use Rattle.desk.specs.Settle.{newDesk, settleOf}
+use Rattle.firmware.specs.declared.desks.Standing.{Standing}
+use Rattle.firmware.specs.declared.desks.Standing.the-variants as standing
+use Rattle.firmware.specs.DeskRecord as deskrecord
+use Rattle.firmware.specs.DeskRecord.{deskRecord}
 use Rattle.firmware.specs.DraftRecord.{draftRecord}
 use Rattle.firmware.specs.declared.Outcome.{Outcome}
 use Rattle.firmware.specs.declared.Decoded.{Decoded}
@@ -69,3 +76,28 @@ readRecord o c t = pick (length c =? 688) (recordFrom o c (packOf document01 o (
 
 unfoldable pub readTexts : List ℕ → List ℕ → List ℕ → List ℕ
 readTexts o c t = pick (length c =? 688) (areaAfter document01 o t) t
+
+-- ---- the desk
+unfoldable pub newDeskAnswer : List ℕ → ℕ
+newDeskAnswer c = pick (length c =? 4) (packed 0 0 0 0) badRecord
+
+unfoldable pub newDeskRecord : List ℕ → List ℕ
+newDeskRecord c = pick (length c =? 4) (deskRecord newDesk) c
+
+-- number and place of an answer as a word
+unfoldable pub deskWord : desk.Answer → ℕ
+deskWord a = packed (settle.numberOf a) (settle.placeOf a) 0 0
+
+unfoldable pub settledAnswer : Standing → List ℕ → ℕ
+settledAnswer (standing.Known d) o = deskWord (settleOf document01 d o .answer)
+settledAnswer standing.Unknown o = badRecord
+
+unfoldable pub settledRecord : Standing → List ℕ → List ℕ → List ℕ
+settledRecord (standing.Known d) c o = deskRecord (settleOf document01 d o .desk)
+settledRecord standing.Unknown c o = c
+
+unfoldable pub settleAnswer : List ℕ → List ℕ → ℕ
+settleAnswer c o = settledAnswer (deskrecord.decodeOf c) o
+
+unfoldable pub settleRecord : List ℕ → List ℕ → List ℕ
+settleRecord c o = settledRecord (deskrecord.decodeOf c) c o

@@ -1,8 +1,10 @@
 -- The root of what the exports promise.
 pub mod Record
 pub mod Word
+pub mod DeskRecord
 pub mod DraftRecord
 pub mod Exports
 pub mod Coding
 pub mod RecordHears
 pub mod RecordReads
+pub mod RecordSettles

@@ -1,6 +1,9 @@
 // The listener and the reader for the boxes' firmware, which is C: records of octets, and answers packed into one word (include/anthercup.h says the same to C).
+mod desks;
 mod drafts;
 
+use desks::DESK;
+use desks::Standing;
 use listener::Answer;
 use listener::Listener;
 use reader::Packed;
@@ -366,6 +369,15 @@ fn read_into(octets: &[u8], cells: &mut [u8], texts: &mut [u8]) -> u64
     }
 }
 
+fn desk_word(a: desk::Answer) -> u64
+    ensures { λ r. ⌜ r ≡ exports.deskWord a ⌝ }
+{
+    match a {
+        desk::Answer::Done => packed(0, 0, 0, 0),
+        desk::Answer::Refused(f) => packed(f.number, f.place, 0, 0),
+    }
+}
+
 // Makes the record that of a new listener, whatever it holds; another size than 16 is 17.
 #[no_mangle]
 pub extern "C" fn anthercup_reset(cells: &mut [u8]) -> u64
@@ -407,5 +419,36 @@ pub extern "C" fn anthercup_read(octets: &[u8], cells: &mut [u8], texts: &mut [u
         read_into(octets, cells, texts)
     } else {
         packed(17, 0, 0, 0)
+    }
+}
+
+// Makes the record that of a new desk, whatever it holds; another size than 4 is 17.
+#[no_mangle]
+pub extern "C" fn anthercup_new_desk(cells: &mut [u8]) -> u64
+    ensures { λ r. ⌜ (r ≡ exports.newDeskAnswer (now (cells .entry))) × (now (cells .exit) ≡ exports.newDeskRecord (now (cells .entry))) ⌝ }
+{
+    if cells.len() == DESK {
+        desks::encode(cells, desk::new_desk());
+        packed(0, 0, 0, 0)
+    } else {
+        packed(17, 0, 0, 0)
+    }
+}
+
+// Settles a whole message on a desk. A record of another size, or with a code or number out of range, is 17; with it and with 1 to 8 the record stays.
+#[no_mangle]
+pub extern "C" fn anthercup_settle(cells: &mut [u8], octets: &[u8]) -> u64
+    ensures { λ r. ⌜ (r ≡ exports.settleAnswer (now (cells .entry)) (now (octets .entry))) × (now (cells .exit) ≡ exports.settleRecord (now (cells .entry)) (now (octets .entry))) ⌝ }
+{
+    let got = desks::decode(cells);
+    match got {
+        Standing::Known(d) => {
+            let done = desk::settle(d, octets);
+            let after = done.desk;
+            let answer = done.answer;
+            desks::encode(cells, after);
+            desk_word(answer)
+        }
+        Standing::Unknown => packed(17, 0, 0, 0),
     }
 }

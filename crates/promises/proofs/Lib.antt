@@ -1,0 +1,2 @@
+-- The root of the theorems over several crates.
+pub mod RoundTrips
