@@ -1,6 +1,13 @@
 // Drafts (document 01, Drafts): a message type and up to 85 entries, each a parameter type with its value.
+use rules::Class;
 ghost use mathlib.Core.Path.{_≡_};
+ghost use Prim.Native.Nat.{_+_, _≤_};
+ghost use lib.ListN as list;
+ghost use Rattle.rules.specs.Tests.{_≤?_};
+ghost use Rattle.rules.specs.Table.{formOf};
+ghost use Rattle.draft.specs.Meaning.{formNumber};
 ghost use Rattle.draft.specs.Draft.{noEntry, emptyOf};
+ghost use Rattle.draft.specs.Same.{flatOf, textAt, sameOctets, sameText, sameNumbers, sameFlat, sameEntry, sameEntries, sameDraft};
 
 pub enum Value {
     Date {
@@ -55,5 +62,230 @@ pub fn empty(kind: u8) -> Draft
         kind,
         count: 0,
         entries,
+    }
+}
+
+// The number of the kind of value that a class has: 0 a code, 1 a date, 2 a state with a reference, 3 a text, 4 a carried text.
+pub fn form_of(class: Class) -> u8
+    ensures { λ r. ⌜ r ≡ formNumber (formOf class) ⌝ }
+{
+    match class {
+        Class::Date => 1,
+        Class::Number => 3,
+        Class::Absent => 0,
+        Class::Name => 3,
+        Class::Lamp => 0,
+        Class::Identity => 2,
+        Class::CallType => 0,
+        Class::Waiting => 0,
+        Class::Forwarded => 0,
+        Class::User => 0,
+        Class::Carried => 4,
+    }
+}
+
+// A value laid flat: the number of its kind, its numbers (0 where it has fewer than four), and where its text lies (0 and 0 where it has none).
+pub struct Flat {
+    pub form: u8,
+    pub first: u16,
+    pub second: u16,
+    pub third: u16,
+    pub fourth: u16,
+    pub start: usize,
+    pub length: usize,
+}
+
+pub fn flatten(v: Value) -> Flat
+    ensures { λ r. ⌜ r ≡ flatOf v ⌝ }
+{
+    match v {
+        Value::Date {
+            month,
+            day,
+            hour,
+            minute,
+        } => Flat {
+            form: 1,
+            first: month as u16,
+            second: day as u16,
+            third: hour as u16,
+            fourth: minute as u16,
+            start: 0,
+            length: 0,
+        },
+        Value::Code(x) => Flat {
+            form: 0,
+            first: x as u16,
+            second: 0,
+            third: 0,
+            fourth: 0,
+            start: 0,
+            length: 0,
+        },
+        Value::State { state, reference } => Flat {
+            form: 2,
+            first: state as u16,
+            second: reference,
+            third: 0,
+            fourth: 0,
+            start: 0,
+            length: 0,
+        },
+        Value::Text { start, length } => text_at(3, start, length),
+        Value::Carried { start, length } => text_at(4, start, length),
+    }
+}
+
+fn text_at(form: u8, start: usize, length: usize) -> Flat
+    ensures { λ r. ⌜ r ≡ textAt form start length ⌝ }
+{
+    Flat {
+        form,
+        first: 0,
+        second: 0,
+        third: 0,
+        fourth: 0,
+        start,
+        length,
+    }
+}
+
+// Does a text lie inside its area? No start or length is too large to ask.
+pub fn lies(texts: &[u8], start: usize, length: usize) -> bool
+    ensures { λ r. ⌜ r ≡ (start + length ≤? list.length (now (texts .entry))) ⌝ }
+{
+    let n = texts.len();
+    if n < start {
+        false
+    } else {
+        length <= n - start
+    }
+}
+
+fn same_octets(v: &[u8], w: &[u8]) -> bool
+    ensures { λ r. ⌜ r ≡ sameOctets (now (v .entry)) (now (w .entry)) ⌝ }
+{
+    let n = v.len();
+    if n == w.len() {
+        let mut i = 0;
+        while i < n {
+            if v[i] == w[i] {
+                i += 1;
+            } else {
+                return false;
+            }
+        }
+        true
+    } else {
+        false
+    }
+}
+
+fn same_parts(s: &[u8], a: usize, m: usize, t: &[u8], b: usize, n: usize) -> bool
+    requires { ⌜ (a + m ≤ list.length (now s)) × (b + n ≤ list.length (now t)) ⌝ }
+    ensures { λ r. ⌜ r ≡ sameOctets (list.take m (list.drop a (now (s .entry)))) (list.take n (list.drop b (now (t .entry)))) ⌝ }
+{
+    let c = a + m;
+    let d = b + n;
+    same_octets(&s[a..c], &t[b..d])
+}
+
+// Texts are equal where both lie inside and their octets agree.
+fn same_text(s: &[u8], x: Flat, t: &[u8], y: Flat) -> bool
+    ensures { λ r. ⌜ r ≡ sameText (now (s .entry)) x (now (t .entry)) y ⌝ }
+{
+    if lies(s, x.start, x.length) {
+        if lies(t, y.start, y.length) {
+            same_parts(s, x.start, x.length, t, y.start, y.length)
+        } else {
+            false
+        }
+    } else {
+        false
+    }
+}
+
+fn same_numbers(x: Flat, y: Flat) -> bool
+    ensures { λ r. ⌜ r ≡ sameNumbers x y ⌝ }
+{
+    if x.first == y.first {
+        if x.second == y.second {
+            if x.third == y.third {
+                x.fourth == y.fourth
+            } else {
+                false
+            }
+        } else {
+            false
+        }
+    } else {
+        false
+    }
+}
+
+fn same_flat(s: &[u8], x: Flat, t: &[u8], y: Flat) -> bool
+    ensures { λ r. ⌜ r ≡ sameFlat (now (s .entry)) x (now (t .entry)) y ⌝ }
+{
+    if x.form == y.form {
+        if same_numbers(x, y) {
+            same_text(s, x, t, y)
+        } else {
+            false
+        }
+    } else {
+        false
+    }
+}
+
+fn same_entry(s: &[u8], e: Entry, t: &[u8], f: Entry) -> bool
+    ensures { λ r. ⌜ r ≡ sameEntry (now (s .entry)) e (now (t .entry)) f ⌝ }
+{
+    let v = e.value;
+    let w = f.value;
+    if e.kind == f.kind {
+        let x = flatten(v);
+        let y = flatten(w);
+        same_flat(s, x, t, y)
+    } else {
+        false
+    }
+}
+
+fn same_entries(a: Draft, s: &[u8], b: Draft, t: &[u8]) -> bool
+    requires { ⌜ a .count ≤ 85 ⌝ }
+    ensures { λ r. ⌜ r ≡ sameEntries (now (s .entry)) (list.take (a .count) (a .entries)) (now (t .entry)) (list.take (a .count) (b .entries)) ⌝ }
+{
+    let n = a.count;
+    let es = a.entries;
+    let fs = b.entries;
+    let mut i = 0;
+    while i < n {
+        let e = es[i];
+        let f = fs[i];
+        if same_entry(s, e, t, f) {
+            i += 1;
+        } else {
+            return false;
+        }
+    }
+    true
+}
+
+// Are two drafts, each with its text area, equal? One with over 85 entries or with a text outside its area is equal to none.
+pub fn same(a: Draft, s: &[u8], b: Draft, t: &[u8]) -> bool
+    ensures { λ r. ⌜ r ≡ sameDraft a (now (s .entry)) b (now (t .entry)) ⌝ }
+{
+    if a.kind == b.kind {
+        if a.count == b.count {
+            if a.count <= 85 {
+                same_entries(a, s, b, t)
+            } else {
+                false
+            }
+        } else {
+            false
+        }
+    } else {
+        false
     }
 }

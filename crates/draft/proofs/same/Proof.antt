@@ -1,0 +1,32 @@
+-- `draft::same` meets its contract: message type, number of entries, entries.
+-- Assumes nothing.
+use mathlib.Core.Path.{refl, _∙_, ap}
+use Prim.Native.Nat.{ℕ}
+use lib.ListN.{take}
+use Rattle.rules.specs.Returns.{and-t, and-f, yes-eq, no-eq, yes-le, no-le}
+use Rattle.draft.specs.Same.{sameEntries, sameDraft}
+use borrow.Author.Needs.{needs}
+use Rattle.draft.proofs.same.Statement.{statement}
+use Rattle.draft.proofs.same.Tie as tie
+
+same-entries-requires : tie.Need-same-entries-requires
+same-entries-requires c κs = search needs
+
+returns : tie.Need-returns
+unfolding sameDraft
+returns c = and-t _ _ _ (yes-eq _ _ (c .before .before .before .before .before .before .if1 .taken)) (and-t _ _ _ (yes-eq _ _ (c .before .before .before .if2 .taken)) (and-t _ _ _ (yes-le _ _ (c .before .if3 .taken)) (c .same-entries .ensures ∙ ap (λ (n : ℕ). sameEntries (c .before .before .before .before .before .before .before .before .before .before .before .args .s .now) (take (c .before .before .before .before .before .before .before .before .before .before .before .args .a .count) (c .before .before .before .before .before .before .before .before .before .before .before .args .a .entries)) (c .before .before .before .before .before .before .before .before .before .before .before .args .t .now) (take n (c .before .before .before .before .before .before .before .before .before .before .before .args .b .entries))) (c .before .before .before .if2 .taken))))
+
+returns-2 : tie.Need-returns-2
+unfolding sameDraft
+returns-2 c = and-t _ _ _ (yes-eq _ _ (c .before .before .before .before .before .if1 .taken)) (and-t _ _ _ (yes-eq _ _ (c .before .before .if2 .taken)) (and-f _ _ _ (no-le _ _ (c .if3 .left)) refl))
+
+returns-3 : tie.Need-returns-3
+unfolding sameDraft
+returns-3 c = and-t _ _ _ (yes-eq _ _ (c .before .before .before .if1 .taken)) (and-f _ _ _ (no-eq _ _ (c .if2 .left)) refl)
+
+returns-4 : tie.Need-returns-4
+unfolding sameDraft
+returns-4 c = and-f _ _ _ (no-eq _ _ (c .if1 .left)) refl
+
+pub same-spec : {M : Type 1} → statement M
+same-spec = tie.close (tie.spec same-entries-requires returns returns-2 returns-3 returns-4)
