@@ -123,7 +123,7 @@ shown-flat s (State x r) = refl
 shown-flat s (Text a n) = refl
 shown-flat s (Carried a n) = refl
 
-inside-flat : (s : List ℕ) (v : Value) → inside s v ≡ (flatOf v .start + flatOf v .length ≤? length s)
+pub inside-flat : (s : List ℕ) (v : Value) → inside s v ≡ (flatOf v .start + flatOf v .length ≤? length s)
 unfolding inside flatOf _≤?_
 inside-flat s (Date m d h n) = sym (yes-le 0 (length s) (omega arith))
 inside-flat s (Code x) = sym (yes-le 0 (length s) (omega arith))

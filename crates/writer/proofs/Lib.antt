@@ -1,0 +1,5 @@
+-- The root of the proofs.
+pub mod Fitting
+pub mod Measuring
+pub mod Calls
+pub mod Putting
