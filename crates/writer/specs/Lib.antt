@@ -3,3 +3,4 @@ pub mod Writing
 pub mod Legal
 pub mod Judging
 pub mod Laying
+pub mod Reasons
