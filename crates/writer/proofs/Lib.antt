@@ -3,3 +3,5 @@ pub mod Fitting
 pub mod Measuring
 pub mod Calls
 pub mod Putting
+pub mod Settled
+pub mod Writing

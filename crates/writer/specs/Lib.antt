@@ -4,3 +4,4 @@ pub mod Legal
 pub mod Judging
 pub mod Laying
 pub mod Reasons
+pub mod RoundTrips

@@ -116,16 +116,16 @@ module _ (d : Draft) (texts : List ℕ) (room : ℕ) where
   reason =
       pick-case (Went d texts room) _ _ _
       (λ k.
-        pick-case (Went d texts room) _ _ _ (λ z. no-entries k (eq-of _ _ z))
-        (λ s.
-          pick-case (Went d texts room) _ _ _ (λ m. many-entries k (le-of _ _ m))
-          (λ f.
-            let a : Asked d = record { kind = k; some = some-of s; few = at-most _ _ f } in
-            pick-case (Went d texts room) _ _ _ (λ l. bad-entry _ a (first-is d texts (le-of _ _ l)))
-            (λ l.
-              let m = all-make d texts (at-most _ _ l) in
-              pick-case (Went d texts room) _ _ _ (λ g. too-long a m (le-of _ _ g))
-              (λ h. pick-case (Went d texts room) _ _ _ (λ r. too-tight a m (at-most _ _ h) (le-of _ _ r)) (λ r. fits a m (at-most _ _ h) (at-most _ _ r)))))))
+      pick-case (Went d texts room) _ _ _ (λ z. no-entries k (eq-of _ _ z))
+      (λ s.
+      pick-case (Went d texts room) _ _ _ (λ m. many-entries k (le-of _ _ m))
+      (λ f.
+      let a : Asked d = record { kind = k; some = some-of s; few = at-most _ _ f } in
+      pick-case (Went d texts room) _ _ _ (λ l. bad-entry _ a (first-is d texts (le-of _ _ l)))
+      (λ l.
+      let m = all-make d texts (at-most _ _ l) in
+      pick-case (Went d texts room) _ _ _ (λ g. too-long a m (le-of _ _ g))
+      (λ h. pick-case (Went d texts room) _ _ _ (λ r. too-tight a m (at-most _ _ h) (le-of _ _ r)) (λ r. fits a m (at-most _ _ h) (at-most _ _ r)))))))
       (λ n. kind-is-none n)
 
   asked-is : (x : Written) → Asked d → measuredOf document01 d texts room ≡ x → x ≡ writeOf document01 d texts room
