@@ -228,10 +228,3 @@ same-equal a s b t = (
       join _ _ (of-eq _ _ (e .kind))
       (join _ _ (of-eq _ _ (e .count)) (join _ _ (of-le _ _ (e .few)) (alike-entries s t _ _ (record { says = e .entries; left = e .left; right = e .right })))),
 )
-
--- tests that hold together are equal
-pub same-truth : (a b : Bool) → (T a → T b) → (T b → T a) → a ≡ b
-same-truth true true f g = refl
-same-truth true false f g = absurd (f tt)
-same-truth false true f g = absurd (g tt)
-same-truth false false f g = refl

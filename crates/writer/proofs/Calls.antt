@@ -1,14 +1,12 @@
--- What a caller makes of what a callee found: of a test, of a part of the text area, of how the entries went.
+-- What a caller makes of what a callee found: of a part of the text area, of how the entries went.
 -- Assumes nothing.
 use Prim.Native.Nat.{ℕ, _+_, _-_, _≤_, _<_}
 use mathlib.Core.Path.{_≡_, sym, _∙_, ap, ap₂}
-use mathlib.Core.Bool.{Bool, true}
 use mathlib.Core.List.{List}
 use native.Mathlib.Omega.{arith}
 use lib.ListN.{length, take, drop}
 use lib.Seq.{length-take-le}
-use Rattle.rules.specs.Tests.{_≤?_, pick, le-of}
-use Rattle.rules.specs.Returns.{via, T-of}
+use Rattle.rules.specs.Tests.{_≤?_, pick}
 use Rattle.rules.specs.Table.{document01, classOf, formOf}
 use Rattle.rules.specs.declared.Class.{Class}
 use Rattle.draft.specs.Meaning.{formNumber}
@@ -24,9 +22,6 @@ use Rattle.writer.specs.declared.Written.the-variants.{Message}
 use Rattle.writer.specs.Judging.{small, fitting, takesOf, takes-none, takes-number, takes-text, measureFrom, onMeasure, measured-is}
 use Rattle.writer.specs.declared.Written.{Written}
 use Rattle.writer.specs.declared.Measure.{Measure}
-
-pub told-le : (b : Bool) (x y : ℕ) → b ≡ (x ≤? y) → b ≡ true → x ≤ y
-told-le b x y e t = le-of _ _ (T-of _ (via _ _ _ e t))
 
 -- from a start to an end is as long as the length
 pub part-of : (a n : ℕ) → a + n - a ≡ n

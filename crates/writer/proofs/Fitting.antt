@@ -1,7 +1,7 @@
 -- What the judging of contents needs: the octets before i may stand where they stand, so those from i on decide; and contents fit exactly where their length
 -- is one of the class's and each octet may stand.
 -- Assumes nothing.
-use Prim.Native.Nat.{ℕ, suc, _+_, _≤_, _<_}
+use Prim.Native.Nat.{ℕ, _+_, _≤_, _<_}
 use mathlib.Core.Path.{_≡_, refl, sym, _∙_, ap}
 use mathlib.Core.Bool.{Bool, true, false}
 use mathlib.Core.Logic.{_⊎_, inl, inr}
@@ -11,7 +11,7 @@ use native.Mathlib.Omega.{arith}
 use lib.ListN.{length, drop, getD, drop-of-length-le}
 use lib.Seq.{drop-cons}
 use lib.Dec.{T}
-use Rattle.rules.specs.Tests.{_≤?_, _=?_, _and_, _or_, every, both, join, either, left, le-of, of-eq, pick-yes, pick-not, every-head, every-tail}
+use Rattle.rules.specs.Tests.{_≤?_, _and_, every, both, join, either, left, le-of, of-eq, pick-yes, pick-not, every-head, every-tail}
 use Rattle.rules.specs.Returns.{T-of}
 use Rattle.rules.specs.Contents.{Range, Shape, inSet, within, lengths, lengthFits, contentsFit}
 use Rattle.rules.specs.Table.{document01, shape01}

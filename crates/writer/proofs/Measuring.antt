@@ -1,8 +1,8 @@
 -- What the loop over the entries needs: those before i are legal and take the octets counted, so those from i on decide.
 -- Assumes nothing.
-use Prim.Native.Nat.{ℕ, suc, _+_, _≤_, _<_}
-use mathlib.Core.Path.{_≡_, refl, sym, _∙_, ap}
-use mathlib.Core.List.{List, [], _∷_}
+use Prim.Native.Nat.{ℕ, _+_, _≤_, _<_}
+use mathlib.Core.Path.{_≡_, sym, _∙_, ap}
+use mathlib.Core.List.{List, _∷_}
 use native.Mathlib.Numerals.{add-one}
 use native.Mathlib.Omega.{arith}
 use lib.ListN.{length, take, drop, getD, drop-of-length-le, length-take}
@@ -12,7 +12,6 @@ use Rattle.rules.specs.Table.{document01}
 use Rattle.draft.specs.declared.Entry.{Entry}
 use Rattle.writer.specs.Writing.{contentsOf, legalEntry}
 use Rattle.writer.specs.Judging.{takesOf, takes-bad, takes-good, measureFrom}
-use Rattle.writer.specs.declared.Measure.{Measure}
 use Rattle.writer.specs.declared.Measure.the-variants.{Bad, Size}
 
 abbrev pub Measured : List ℕ → ℕ → List Entry → ℕ → ℕ → Type 0

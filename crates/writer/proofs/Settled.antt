@@ -1,8 +1,6 @@
 -- The promise of `write` settles its outcome: two that it allows are equal, the answer and what the output holds afterwards.
 -- Assumes nothing.
 use mathlib.Core.Path.{_≡_, sym, _∙_, ap}
-use mathlib.Core.List.{List}
-use Prim.Native.Nat.{ℕ}
 use Rattle.rules.specs.Message.{octets}
 use Rattle.draft.specs.Draft.{messageOf}
 use Rattle.writer.specs.Writing.{outputAfter}

@@ -5,11 +5,10 @@ use mathlib.Core.Path.{_≡_, refl, sym, _∙_, ap, ap₂, subst}
 use mathlib.Core.Bool.{Bool, true, false}
 use mathlib.Core.Logic.{_⊎_, inl, inr}
 use mathlib.Core.List.{List, [], _∷_}
-use native.Mathlib.Numerals.{add-one}
 use native.Mathlib.Omega.{arith}
 use lib.ListN.{length, take, drop, length-append}
 use lib.Dec.{T}
-use Rattle.rules.specs.Tests.{_≤?_, _=?_, _and_, pick, decide, both, join, le-of, of-le, eq-of, of-eq, pick-yes, pick-not}
+use Rattle.rules.specs.Tests.{_≤?_, _and_, pick, decide, both, le-of, of-le, eq-of, of-eq, pick-yes, pick-not}
 use Rattle.rules.specs.Contents.{contentsFit}
 use Rattle.rules.specs.Table.{document01, classOf, shapeOf, shape01, formOf}
 use Rattle.rules.specs.ContentLaw.{document01-sound, fit-length, some-length}

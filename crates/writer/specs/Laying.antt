@@ -1,8 +1,8 @@
 -- Octets laid down one behind the other: the header of a message, each parameter from its own place on, the checksum.
 -- Assumes nothing.
-use Prim.Native.Nat.{ℕ, suc, _+_, _≤_, _<_}
+use Prim.Native.Nat.{ℕ, _+_, _≤_, _<_}
 use mathlib.Core.Path.{_≡_}
-use mathlib.Core.List.{List, [], _∷_}
+use mathlib.Core.List.{List, _∷_}
 use lib.ListN.{length}
 use lib.Dec.{T}
 use Rattle.rules.specs.Message.{body}

@@ -1,16 +1,14 @@
 -- Which entries make a legal parameter, which drafts are written, and that what is written is accepted.
 -- Assumes nothing.
-use Prim.Native.Nat.{ℕ, zero, suc, _+_, _*_, _≤_, _<_}
-use mathlib.Core.Path.{_≡_, refl, sym, _∙_, ap, subst}
-use mathlib.Core.Bool.{Bool, true, false}
+use Prim.Native.Nat.{ℕ, suc, _+_, _*_, _≤_, _<_}
+use mathlib.Core.Path.{_≡_, refl, _∙_, ap}
 use mathlib.Core.Logic.{_⊎_, inl, inr, _↔_}
-use mathlib.Core.List.{List, [], _∷_, _++_}
+use mathlib.Core.List.{List, [], _∷_}
 use native.Mathlib.Nat.{min-le-left}
 use native.Mathlib.Omega.{arith}
-use lib.ListN.{length, length-append, length-take, take}
+use lib.ListN.{length, length-append, length-take}
 use lib.Dec.{T}
 use Rattle.rules.specs.Tests.{_≤?_, _=?_, _and_, pick, every, decide, both, join, le-of, of-le, eq-of, of-eq, pick-yes, pick-not, picked-by}
-use Rattle.rules.specs.Contents.{contentsFit}
 use Rattle.rules.specs.Table.{Rules, classOf, shapeOf}
 use Rattle.rules.specs.ContentLaw.{SoundRules, sound, fit-length, some-length}
 use Rattle.rules.specs.Octets.{total, checksum}
@@ -20,9 +18,8 @@ use Rattle.draft.specs.Meaning.{formNumber, kindOf, formIs, same-form}
 use Rattle.draft.specs.Draft.{meaningOf, inside, allInside, parameterOf, parametersOf, used, messageOf}
 use Rattle.draft.specs.declared.Entry.{Entry}
 use Rattle.draft.specs.declared.Draft.{Draft}
-use Rattle.writer.specs.Writing.{declined, contentsOf, legalEntry, legalBefore, sized, measuredOf, writeOf}
-use Rattle.writer.specs.declared.Written.{Written}
-use Rattle.writer.specs.declared.Written.the-variants.{Message, Declined}
+use Rattle.writer.specs.Writing.{declined, legalEntry, legalBefore, sized, measuredOf, writeOf}
+use Rattle.writer.specs.declared.Written.the-variants.{Message}
 
 -- a test that fails
 pub at-most : (a b : ℕ) → (T (suc b ≤? a) → ⊥) → a ≤ b

@@ -5,3 +5,4 @@ pub mod Judging
 pub mod Laying
 pub mod Reasons
 pub mod RoundTrips
+pub mod Rows

@@ -1,15 +1,14 @@
 -- Why the writer answers what it answers (document 01, Numbers): for each number exactly when it is given, over the rules' own legal parameters.
 -- Assumes nothing.
 use Prim.Native.Nat.{ℕ, zero, suc, _+_, _≤_, _<_}
-use mathlib.Core.Path.{_≡_, refl, sym, _∙_, ap, subst}
-use mathlib.Core.Bool.{Bool, true, false}
+use mathlib.Core.Path.{_≡_, sym, _∙_, ap, subst}
 use mathlib.Core.Logic.{_⊎_, inl, inr, _↔_}
 use mathlib.Core.List.{List, [], _∷_}
 use native.Mathlib.Omega.{arith}
-use lib.ListN.{length, take, getD}
+use lib.ListN.{take, getD}
 use lib.Dec.{T}
-use Rattle.rules.specs.Tests.{_≤?_, _=?_, pick, decide, both, le-of, of-le, eq-of, of-eq, pick-yes, pick-not, pick-case}
-use Rattle.rules.specs.Table.{Rules, document01, rowIn, rowOf, classOf, formOf}
+use Rattle.rules.specs.Tests.{_=?_, pick, decide, both, le-of, of-le, eq-of, of-eq, pick-yes, pick-not, pick-case}
+use Rattle.rules.specs.Table.{document01, rowIn, rowOf, classOf, formOf}
 use Rattle.rules.specs.Message.{messageKind}
 use Rattle.draft.specs.Meaning.{formNumber, formIs, kindOf}
 use Rattle.draft.specs.Draft.{noEntry, meaningOf, used}
@@ -18,7 +17,7 @@ use Rattle.draft.specs.declared.Draft.{Draft}
 use Rattle.writer.specs.Writing.{Answer, answerOf, declined, legalEntry, legalBefore, sized, measuredOf, writeOf}
 use Rattle.writer.specs.Legal.{at-most, Makes, makes-iff, lengthOf}
 use Rattle.writer.specs.declared.Written.{Written}
-use Rattle.writer.specs.declared.Written.the-variants.{Message, Declined}
+use Rattle.writer.specs.declared.Written.the-variants.{Message}
 
 -- ---- entries by their numbers
 abbrev pub entryAt : Draft → ℕ → Entry

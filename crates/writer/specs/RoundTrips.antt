@@ -1,6 +1,6 @@
 -- Round trips: the draft of a legal message is written as exactly its octets; and the draft of the message that a draft was written as is equal to it.
 -- Assumes nothing.
-use Prim.Native.Nat.{ℕ, suc, _+_, _≤_}
+use Prim.Native.Nat.{ℕ, _+_, _≤_}
 use mathlib.Core.Path.{_≡_, refl, sym, _∙_, ap, ap₂, subst}
 use mathlib.Core.List.{List, [], _∷_, _++_}
 use native.Mathlib.Omega.{arith}
@@ -8,17 +8,17 @@ use lib.ListN.{length}
 use lib.Dec.{T}
 use Rattle.rules.specs.Tests.{every, both, join}
 use Rattle.rules.specs.Contents.{contentsFit}
-use Rattle.rules.specs.Table.{Rules, document01, narrow, classOf, shapeOf}
-use Rattle.rules.specs.ContentLaw.{SoundRules, document01-sound, narrow-sound}
+use Rattle.rules.specs.Table.{Rules, shapeOf}
+use Rattle.rules.specs.ContentLaw.{SoundRules}
 use Rattle.rules.specs.Message as message
 use Rattle.rules.specs.Message.{Parameter, body, octets, LegalParameter, AllLegal, LegalMessage}
-use Rattle.draft.specs.Meaning.{Meaning, formIs, kindOf, spelled, meant, form-meant, DrawnRules, drawn, document01-drawn, narrow-drawn, meant-spelled, Drawn}
+use Rattle.draft.specs.Meaning.{Meaning, formIs, kindOf, spelled, meant, form-meant, DrawnRules, drawn, meant-spelled, Drawn}
 use Rattle.draft.specs.Draft.{meaningOf, inside, parameterOf, parametersOf, Said, saidOf, allSaid, allInside, used, messageOf, Equal}
 use Rattle.draft.specs.Packing.{meaningIn, entriesOf, textsOf, draftOf, allMeant, pack, entries-length, used-are, said-again, draft-stands}
 use Rattle.draft.specs.declared.Entry.{Entry}
 use Rattle.draft.specs.declared.Draft.{Draft}
 use Rattle.writer.specs.Writing.{legalEntry, legalBefore, writeOf}
-use Rattle.writer.specs.Legal.{Makes, makes-iff, all-before, all-made, all-inside, parameters-length, octets-length, lengthOf, three, Writable, writes, written, used-all, message-legal}
+use Rattle.writer.specs.Legal.{Makes, makes-iff, all-before, all-made, all-inside, parameters-length, octets-length, lengthOf, three, Writable, writes, written, used-all}
 use Rattle.writer.specs.declared.Written.the-variants.{Message}
 
 module _ (R : Rules) (S : SoundRules R) (D : DrawnRules R) where

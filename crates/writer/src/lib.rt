@@ -16,6 +16,7 @@ ghost use Rattle.rules.specs.ContentJudge.{fitsFrom};
 ghost use Rattle.rules.specs.Message.{front, octets};
 ghost use Rattle.draft.specs.Draft.{used, messageOf};
 ghost use Rattle.draft.specs.Packing.{laid};
+ghost use Rattle.draft.specs.declared.Value.the-variants as value;
 ghost use Rattle.writer.specs.Writing.{declined, sized, measuredOf, writeOf, outputAfter};
 ghost use Rattle.writer.specs.Judging.{spellingOf, small, fitting, takesOf, measureFrom};
 ghost use Rattle.writer.specs.Laying.{parameterOctets, Puttable, Layable};
@@ -38,10 +39,40 @@ enum Measure {
     Size(usize),
 }
 
-// L is at most 255, and a parameter has a type and a length beside its contents.
+// The most octets that contents have: L is at most 255, and a parameter has a type and a length beside them (document 01, The message).
 const MOST: usize = 253;
 
-// Two digits for each number of a date; a code; a state and its reference, high octet first.
+// Two digits for each number of a date.
+fn spell_date(month: u8, day: u8, hour: u8, minute: u8) -> Spelling
+    ensures { λ r. ⌜ r ≡ spellingOf (value.Date month day hour minute) ⌝ }
+{
+    Spelling {
+        octets: [
+            48 + month / 10,
+            48 + month % 10,
+            48 + day / 10,
+            48 + day % 10,
+            48 + hour / 10,
+            48 + hour % 10,
+            48 + minute / 10,
+            48 + minute % 10,
+        ],
+        length: 8,
+    }
+}
+
+// A state and its reference, high octet first.
+fn spell_state(state: u8, reference: u16) -> Spelling
+    ensures { λ r. ⌜ r ≡ spellingOf (value.State state reference) ⌝ }
+{
+    let high = (reference / 256) as u8;
+    let low = (reference % 256) as u8;
+    Spelling {
+        octets: [state, high, low, 0, 0, 0, 0, 0],
+        length: 3,
+    }
+}
+
 fn spell(v: Value) -> Spelling
     ensures { λ r. ⌜ r ≡ spellingOf v ⌝ }
 {
@@ -51,36 +82,12 @@ fn spell(v: Value) -> Spelling
             day,
             hour,
             minute,
-        } => Spelling {
-            octets: [
-                48 + month / 10,
-                48 + month % 10,
-                48 + day / 10,
-                48 + day % 10,
-                48 + hour / 10,
-                48 + hour % 10,
-                48 + minute / 10,
-                48 + minute % 10,
-            ],
-            length: 8,
-        },
+        } => spell_date(month, day, hour, minute),
         Value::Code(x) => Spelling {
             octets: [x, 0, 0, 0, 0, 0, 0, 0],
             length: 1,
         },
-        Value::State { state, reference } => Spelling {
-            octets: [
-                state,
-                (reference / 256) as u8,
-                (reference % 256) as u8,
-                0,
-                0,
-                0,
-                0,
-                0,
-            ],
-            length: 3,
-        },
+        Value::State { state, reference } => spell_state(state, reference),
         Value::Text {
             start: _,
             length: _,
@@ -125,6 +132,7 @@ fn fitting_length(class: Class, part: &[u8]) -> u8
         return 0;
     }
     let n = part.len() as u8;
+    // in a room that the parameter fills
     if rules::length_fits(class, n + 2, n) {
         if octets_fit(class, part, n) { n } else { 0 }
     } else {
@@ -293,12 +301,12 @@ fn put_front(draft: Draft, texts: &[u8], out: &mut [u8], size: u8) -> usize
     out[0] = draft.kind;
     out[1] = size;
     let mut at = 2;
-    let mut i = 0;
-    while i < n {
-        let e = entries[i];
+    let mut next = 0;
+    while next < n {
+        let e = entries[next];
         let taken = put_entry(&mut out[at..], e, texts);
         at += taken;
-        i += 1;
+        next += 1;
     }
     at
 }

@@ -49,8 +49,8 @@ put-entry-requires c κs = wrote-asked (c .before .before .before .before .befor
 add-at : tie.Need-add-at Inv-loop μ-loop
 add-at c = omega (arith, wrote-small (c .before .before .before .before .before .before .before .before .before .before .args .draft) (c .before .before .before .before .before .before .before .before .before .before .args .texts .now) (c .before .before .before .before .before .before .before .before .before .before .args .out .now) (c .before .before .before .before .before .before .before .before .before .before .args .size) (c .before .before .before .before .before .before .before .before .before .before .pre) (simp length-map at (c .before .before .before .before .before .before .before .before .before .before .good .0 .1 .1 .1 .1 .0 .1 .0 .1)) _ _ _ (c .before .before .before .before .before .before .loop .inv) any (c .before .before .before .before .before .loop-test .taken), c .before .before .put-entry .ensures .1)
 
-add-i : tie.Need-add-i Inv-loop μ-loop
-add-i c = search needs
+add-next : tie.Need-add-next Inv-loop μ-loop
+add-next c = search needs
 
 loop-less : tie.Need-loop-less Inv-loop μ-loop
 loop-less c = search needs
@@ -80,7 +80,7 @@ put-front-spec =
     part-put-entry-end
     put-entry-requires
     add-at
-    add-i
+    add-next
     loop-less
     loop-again
     same-length

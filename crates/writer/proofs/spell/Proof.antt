@@ -1,6 +1,6 @@
 -- `writer::spell` meets its contract: a row for each kind of value.
 -- Assumes nothing.
-use Rattle.draft.specs.Meaning.{tens, ones}
+use mathlib.Core.Path.{_∙_}
 use Rattle.writer.specs.Judging.{spellingOf}
 use borrow.Author.Needs.{needs}
 use Rattle.writer.proofs.spell.Statement.{statement}
@@ -9,29 +9,8 @@ use Rattle.writer.proofs.spell.Tie as tie
 enum-known-v : tie.Need-enum-known-v
 enum-known-v c = search needs
 
-add-t11 : tie.Need-add-t11
-add-t11 c = search needs
-
-add-t13 : tie.Need-add-t13
-add-t13 c = search needs
-
-add-t15 : tie.Need-add-t15
-add-t15 c = search needs
-
-add-t17 : tie.Need-add-t17
-add-t17 c = search needs
-
-add-t19 : tie.Need-add-t19
-add-t19 c = search needs
-
-add-t21 : tie.Need-add-t21
-add-t21 c = search needs
-
-add-t23 : tie.Need-add-t23
-add-t23 c = search needs
-
-add-t25 : tie.Need-add-t25
-add-t25 c = search needs
+spell-date-requires : tie.Need-spell-date-requires
+spell-date-requires c κs = search needs
 
 enum-known-v-2 : tie.Need-enum-known-v-2
 enum-known-v-2 c = search needs
@@ -39,11 +18,8 @@ enum-known-v-2 c = search needs
 enum-known-v-3 : tie.Need-enum-known-v-3
 enum-known-v-3 c = search needs
 
-cast-t29 : tie.Need-cast-t29
-cast-t29 c = search needs
-
-cast-t31 : tie.Need-cast-t31
-cast-t31 c = search needs
+spell-state-requires : tie.Need-spell-state-requires
+spell-state-requires c κs = search needs
 
 enum-told : tie.Need-enum-told
 enum-told c = search needs
@@ -52,23 +28,21 @@ enum-told-2 : tie.Need-enum-told-2
 enum-told-2 c = search needs
 
 returns : tie.Need-returns
-unfolding spellingOf tens ones
-returns c = rw (c .before .v .given .1)
+returns c = c .spell-date .ensures ∙ rw (c .before .before .v .given .1)
 
 returns-2 : tie.Need-returns-2
-unfolding spellingOf tens ones
+unfolding spellingOf
 returns-2 c = rw (c .before .v2 .given .1)
 
 returns-3 : tie.Need-returns-3
-unfolding spellingOf tens ones
-returns-3 c = rw (c .before .v3 .given .1)
+returns-3 c = c .spell-state .ensures ∙ rw (c .before .before .v3 .given .1)
 
 returns-4 : tie.Need-returns-4
-unfolding spellingOf tens ones
+unfolding spellingOf
 returns-4 c = rw (c .enum-told .given .1)
 
 returns-5 : tie.Need-returns-5
-unfolding spellingOf tens ones
+unfolding spellingOf
 returns-5 c = rw (c .enum-told2 .given .1)
 
 pub spell-spec : {M : Type 1} → statement M
@@ -76,18 +50,10 @@ spell-spec =
     tie.close
     (tie.spec
     enum-known-v
-    add-t11
-    add-t13
-    add-t15
-    add-t17
-    add-t19
-    add-t21
-    add-t23
-    add-t25
+    spell-date-requires
     enum-known-v-2
     enum-known-v-3
-    cast-t29
-    cast-t31
+    spell-state-requires
     enum-told
     enum-told-2
     returns

@@ -6,7 +6,8 @@ use native.Mathlib.Omega.{arith}
 use lib.ListN.{take, drop}
 use Rattle.rules.specs.Returns.{pick-t, pick-f, via}
 use Rattle.writer.specs.Judging.{fitting}
-use Rattle.writer.proofs.Calls.{told-le, part-of}
+use Rattle.draft.specs.Truth.{told-le}
+use Rattle.writer.proofs.Calls.{part-of}
 use borrow.Author.Needs.{needs}
 use Rattle.writer.proofs.text_length.Statement.{statement}
 use Rattle.writer.proofs.text_length.Tie as tie
