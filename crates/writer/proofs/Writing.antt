@@ -12,11 +12,11 @@ use Rattle.rules.specs.Message.{octets, LegalMessage, Accepts}
 use Rattle.rules.specs.declared.Fault.{Fault}
 use Rattle.draft.specs.Meaning.{document01-drawn}
 use Rattle.draft.specs.Draft.{messageOf, Equal}
-use Rattle.draft.specs.Packing.{laid, textsOf, draftOf}
+use Rattle.draft.specs.Packing.{laid, textsOf, draftOf, equal-stand}
 use Rattle.writer.specs.Writing.{writeOf, outputAfter}
 use Rattle.writer.specs.Legal.{octets-length, written, message-legal}
 use Rattle.writer.specs.Reasons.{Answers, answers}
-use Rattle.writer.specs.RoundTrips.{message-written, draft-again}
+use Rattle.writer.specs.RoundTrips.{message-written, draft-again, equal-answer}
 use Rattle.writer.specs.declared.Written.{Written}
 use Rattle.writer.specs.declared.Written.the-variants.{Message, Declined}
 use Rattle.writer.proofs.write.Reads as write
@@ -72,3 +72,15 @@ writes-back κs a r s p m l rest e t h =
 pub reads-back : (κs : _) (a : _) (r : _) (s : _) → write.Post κs a r s → (n : ℕ) → r ≡ Message n → (rest : List ℕ) →
     Equal (a .0) (a .1 .0 .now) (draftOf document01 (messageOf (a .0) (a .1 .0 .now))) (textsOf document01 (messageOf (a .0) (a .1 .0 .now) .parameters) ++ rest)
 reads-back κs a r s p n e rest = draft-again document01 document01-sound document01-drawn (a .0) (a .1 .0 .now) (length (a .1 .1 .0 .now)) n (sym (p .0) ∙ e) rest
+
+-- equal drafts, each with its text area, get the same answer in outputs of one length, and are written as the same octets
+pub equals-written : (κs : _) (a : _) (r : _) (s : _) (κs' : _) (a' : _) (r' : _) (s' : _) → write.Post κs a r s → write.Post κs' a' r' s' →
+    Equal (a .0) (a .1 .0 .now) (a' .0) (a' .1 .0 .now) → length (a .1 .1 .0 .now) ≡ length (a' .1 .1 .0 .now) →
+    (r ≡ r') × (octets (messageOf (a .0) (a .1 .0 .now)) ≡ octets (messageOf (a' .0) (a' .1 .0 .now)))
+equals-written κs a r s κs' a' r' s' p q e l = (
+  p .0
+      ∙ ap (writeOf document01 (a .0) (a .1 .0 .now)) l
+      ∙ equal-answer document01 (a .0) (a .1 .0 .now) (a' .0) (a' .1 .0 .now) (length (a' .1 .1 .0 .now)) e
+      ∙ sym (q .0),
+  ap octets (equal-stand (a .0) (a .1 .0 .now) (a' .0) (a' .1 .0 .now) e),
+)

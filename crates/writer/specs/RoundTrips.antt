@@ -1,23 +1,26 @@
--- Round trips: the draft of a legal message is written as exactly its octets; and the draft of the message that a draft was written as is equal to it.
+-- Round trips: the draft of a legal message is written as exactly its octets; the draft of the message that a draft was written as is equal to it; and
+-- equal drafts get the same answer.
 -- Assumes nothing.
-use Prim.Native.Nat.{ℕ, _+_, _≤_}
+use Prim.Native.Nat.{ℕ, suc, _+_, _≤_}
 use mathlib.Core.Path.{_≡_, refl, sym, _∙_, ap, ap₂, subst}
+use mathlib.Core.Bool.{Bool}
 use mathlib.Core.List.{List, [], _∷_, _++_}
 use native.Mathlib.Omega.{arith}
 use lib.ListN.{length}
 use lib.Dec.{T}
-use Rattle.rules.specs.Tests.{every, both, join}
+use Rattle.rules.specs.Tests.{_≤?_, _=?_, pick, every, both, join}
 use Rattle.rules.specs.Contents.{contentsFit}
 use Rattle.rules.specs.Table.{Rules, shapeOf}
 use Rattle.rules.specs.ContentLaw.{SoundRules}
 use Rattle.rules.specs.Message as message
-use Rattle.rules.specs.Message.{Parameter, body, octets, LegalParameter, AllLegal, LegalMessage}
+use Rattle.rules.specs.Message.{Parameter, body, octets, messageKind, LegalParameter, AllLegal, LegalMessage}
 use Rattle.draft.specs.Meaning.{Meaning, formIs, kindOf, spelled, meant, form-meant, DrawnRules, drawn, meant-spelled, Drawn}
 use Rattle.draft.specs.Draft.{meaningOf, inside, parameterOf, parametersOf, Said, saidOf, allSaid, allInside, used, messageOf, Equal}
-use Rattle.draft.specs.Packing.{meaningIn, entriesOf, textsOf, draftOf, allMeant, pack, entries-length, used-are, said-again, draft-stands}
+use Rattle.draft.specs.Packing.{meaningIn, entriesOf, textsOf, draftOf, allMeant, pack, entries-length, used-are, equal-stand, said-again, draft-stands}
+use Rattle.draft.specs.Truth.{same-truth}
 use Rattle.draft.specs.declared.Entry.{Entry}
 use Rattle.draft.specs.declared.Draft.{Draft}
-use Rattle.writer.specs.Writing.{legalEntry, legalBefore, writeOf}
+use Rattle.writer.specs.Writing.{declined, legalEntry, legalBefore, sized, measuredOf, writeOf}
 use Rattle.writer.specs.Legal.{Makes, makes-iff, all-before, all-made, all-inside, parameters-length, octets-length, lengthOf, three, Writable, writes, written, used-all}
 use Rattle.writer.specs.declared.Written.the-variants.{Message}
 
@@ -118,3 +121,36 @@ module _ (R : Rules) (S : SoundRules R) (D : DrawnRules R) where
         left = all-inside R texts (used d) a;
         right = subst (λ (es : List Entry). T (allInside area es)) (sym (used-are R m)) (p .lies);
       }
+
+-- ---- equal drafts get the same answer
+module _ (R : Rules) where
+  same-legal : (s t : List ℕ) (e f : Entry) → saidOf s e ≡ saidOf t f → T (inside s (e .value)) → T (inside t (f .value)) → T (legalEntry R s e) → T (legalEntry R t f)
+  unfolding saidOf legalEntry
+  same-legal s t e f h i j l =
+      let k = ap (λ (x : Said). x .kind) h in
+      let m = ap (λ (x : Said). x .meaning) h in
+      let a = both _ _ l in
+      let b = both _ _ (a .1) in
+      let c = both _ _ (b .1) in
+      join _ _ (rw k at (a .0)) (join _ _ (rw (k, m) at (b .0)) (join _ _ j (rw (k, m) at (c .1))))
+
+  same-before : (s t : List ℕ) (es fs : List Entry) → allSaid s es ≡ allSaid t fs → T (allInside s es) → T (allInside t fs) → legalBefore R s es ≡ legalBefore R t fs
+  unfolding allSaid allInside every legalBefore
+  same-before s t [] [] h i j = refl
+  same-before s t [] (f ∷ fs) h i j = let z : _≡_ {A = ℕ} 0 1 = cc in absurd (omega arith)
+  same-before s t (e ∷ es) [] h i j = let z : _≡_ {A = ℕ} 0 1 = cc in absurd (omega arith)
+  same-before s t (e ∷ es) (f ∷ fs) h i j =
+      let a = both _ _ i in
+      let b = both _ _ j in
+      let q : saidOf s e ≡ saidOf t f = cc in
+      let l = same-truth _ _ (same-legal s t e f q (a .0) (b .0)) (same-legal t s f e (sym q) (b .0) (a .0)) in
+      ap₂ (λ (b : Bool) (n : ℕ). pick b (suc n) 0) l (same-before s t es fs (cc) (a .1) (b .1))
+
+  pub equal-answer : (a : Draft) (s : List ℕ) (b : Draft) (t : List ℕ) (room : ℕ) → Equal a s b t → writeOf R a s room ≡ writeOf R b t room
+  unfolding writeOf measuredOf messageOf
+  equal-answer a s b t room e =
+      let n = same-before s t (used a) (used b) (e .entries) (e .left) (e .right) in
+      let l : length (body (parametersOf s (used a))) ≡ length (body (parametersOf t (used b))) = ap (λ (m : message.Message). length (body (m .parameters))) (equal-stand a s b t e) in
+      let k = e .kind in
+      let c = e .count in
+      λ i. pick (messageKind (k i)) (pick (c i =? 0) (declined 14 0) (pick (86 ≤? c i) (declined 13 0) (pick (suc (n i) ≤? c i) (declined 12 (n i)) (sized (l i) room)))) (declined 11 0)
