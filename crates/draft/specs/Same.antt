@@ -40,9 +40,11 @@ pairwise f [] (y ∷ ys) = false
 pairwise f (x ∷ xs) [] = false
 pairwise f (x ∷ xs) (y ∷ ys) = f x y and pairwise f xs ys
 
+-- octet by octet
 abbrev pub sameOctets : List ℕ → List ℕ → Bool
 sameOctets v w = pairwise _=?_ v w
 
+-- number by number
 unfoldable pub sameNumbers : Flat → Flat → Bool
 sameNumbers x y = x .first =? y .first and (x .second =? y .second and (x .third =? y .third and x .fourth =? y .fourth))
 
@@ -60,6 +62,7 @@ sameFlat s x t y = x .form =? y .form and (sameNumbers x y and sameText s x t y)
 unfoldable pub sameEntry : List ℕ → Entry → List ℕ → Entry → Bool
 sameEntry s e t f = e .kind =? f .kind and sameFlat s (flatOf (e .value)) t (flatOf (f .value))
 
+-- entry by entry
 abbrev pub sameEntries : List ℕ → List Entry → List ℕ → List Entry → Bool
 sameEntries s es t fs = pairwise (λ (e f : Entry). sameEntry s e t f) es fs
 

@@ -36,6 +36,7 @@ spellingOf (State s r) = record { octets = s ∷ r / 256 ∷ r % 256 ∷ 0 ∷ 0
 spellingOf (Text s n) = record { octets = 0 ∷ 0 ∷ 0 ∷ 0 ∷ 0 ∷ 0 ∷ 0 ∷ 0 ∷ []; length = 0 }
 spellingOf (Carried s n) = record { octets = 0 ∷ 0 ∷ 0 ∷ 0 ∷ 0 ∷ 0 ∷ 0 ∷ 0 ∷ []; length = 0 }
 
+-- those of the eight that are its contents
 unfoldable pub small : Value → List ℕ
 small v = take (spellingOf v .length) (spellingOf v .octets)
 

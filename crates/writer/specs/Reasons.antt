@@ -156,10 +156,11 @@ module _ (d : Draft) (texts : List ℕ) (room : ℕ) where
   answer-iff x = (λ e. subst (Went d texts room) (sym e) reason, answer x)
 
 -- ---- number by number
--- document 01's refusal k at p, and a message of n octets
+-- the answer of a refusal with number k at p
 abbrev pub refusal : ℕ → ℕ → Answer
 refusal k p = record { number = k; place = p; size = 0 }
 
+-- the answer of a message of n octets
 abbrev pub success : ℕ → Answer
 success n = record { number = 0; place = 0; size = n }
 

@@ -18,6 +18,7 @@ use Rattle.draft.specs.declared.Draft.{Draft}
 use Rattle.writer.specs.Writing.{Answer, answerOf, legalEntry, legalBefore, sized, measuredOf, writeOf}
 use Rattle.writer.specs.Reasons.{refusal, success}
 
+-- an entry
 abbrev pub says : ℕ → Value → Entry
 says t v = record { kind = t; value = v }
 
@@ -32,14 +33,16 @@ pub record Row : Type 0 where
   pub room : ℕ
   pub answer : Answer
 
+-- the same, written in a line
 abbrev pub row : Draft → List ℕ → ℕ → Answer → Row
 row d t n a = record { draft = d; texts = t; room = n; answer = a }
 
--- what the writer answers in each row, and what the row says
+-- what the writer answers in each row
 unfoldable pub answered : List Row → List Answer
 answered [] = []
 answered (r ∷ rs) = answerOf (writeOf document01 (r .draft) (r .texts) (r .room)) ∷ answered rs
 
+-- what each row says
 unfoldable pub expected : List Row → List Answer
 expected [] = []
 expected (r ∷ rs) = r .answer ∷ expected rs
@@ -48,6 +51,7 @@ expected (r ∷ rs) = r .answer ∷ expected rs
 abbrev pub area : List ℕ
 area = 0x34 ∷ 0x30 ∷ 0x39 ∷ 0x31 ∷ 0x32 ∷ 0x41 ∷ []
 
+-- document 01's notice with the lamp on
 abbrev pub lamp : Draft
 lamp = drafted 0x82 (says 0x0B (Code 0xFF) ∷ [])
 
@@ -55,6 +59,7 @@ lamp = drafted 0x82 (says 0x0B (Code 0xFF) ∷ [])
 abbrev pub caller : ℕ → ℕ → Draft
 caller start n = drafted 0x80 (says 0x01 (Date 6 15 14 30) ∷ says 0x02 (Text start n) ∷ [])
 
+-- a call message with one entry
 abbrev pub one : ℕ → Value → Draft
 one t v = drafted 0x80 (says t v ∷ [])
 
@@ -62,6 +67,7 @@ one t v = drafted 0x80 (says t v ∷ [])
 abbrev pub carried : ℕ → Draft
 carried k = drafted 0x80 (replicate k (says 0x05 (Carried 0 6)))
 
+-- both sides of each limit
 abbrev pub writerRows : List Row
 writerRows =
     row lamp [] 6 (success 6) ∷

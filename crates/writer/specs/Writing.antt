@@ -16,12 +16,13 @@ use Rattle.draft.specs.declared.Draft.{Draft}
 use Rattle.writer.specs.declared.Written.{Written}
 use Rattle.writer.specs.declared.Written.the-variants.{Message, Declined}
 
--- ---- document 01's number, place and size of an answer: 0 where it has none
+-- ---- an answer in document 01's words: the number and place of a refusal, the size of a message
 pub record Answer : Type 0 where
   pub number : ℕ
   pub place : ℕ
   pub size : ℕ
 
+-- the number, place and size of each answer, 0 where it has none
 unfoldable pub answerOf : Written → Answer
 answerOf (Message n) = record { number = 0; place = 0; size = n }
 answerOf (Declined f) = record { number = f .number; place = f .place; size = 0 }

@@ -42,6 +42,9 @@ enum Measure {
 // The most octets that contents have: L is at most 255, and a parameter has a type and a length beside them (document 01, The message).
 const MOST: usize = 253;
 
+// From this number on the kinds of value have a text (`draft::form_of`).
+const TEXT: u8 = 3;
+
 // Two digits for each number of a date.
 fn spell_date(month: u8, day: u8, hour: u8, minute: u8) -> Spelling
     ensures { λ r. ⌜ r ≡ spellingOf (value.Date month day hour minute) ⌝ }
@@ -168,7 +171,7 @@ fn entry_length(e: Entry, texts: &[u8]) -> u8
     let class = rules::class_of(e.kind);
     let flat = draft::flatten(value);
     if flat.form == draft::form_of(class) {
-        if flat.form < 3 {
+        if flat.form < TEXT {
             number_length(class, value)
         } else {
             text_length(class, texts, flat.start, flat.length)
@@ -284,7 +287,7 @@ fn put_entry(out: &mut [u8], e: Entry, texts: &[u8]) -> usize
 {
     let value = e.value;
     let flat = draft::flatten(value);
-    if flat.form < 3 {
+    if flat.form < TEXT {
         put_number(out, e.kind, value)
     } else {
         put_text(out, e.kind, texts, flat.start, flat.length)
