@@ -10,13 +10,12 @@ use Rattle.rules.specs.ContentLaw.{document01-sound}
 use Rattle.rules.specs.Message as message
 use Rattle.rules.specs.Message.{octets, LegalMessage, Accepts}
 use Rattle.rules.specs.declared.Fault.{Fault}
-use Rattle.draft.specs.Meaning.{document01-drawn}
 use Rattle.draft.specs.Draft.{messageOf, Equal}
 use Rattle.draft.specs.Packing.{laid, textsOf, draftOf, equal-stand}
 use Rattle.writer.specs.Writing.{writeOf, outputAfter}
 use Rattle.writer.specs.Legal.{octets-length, written, message-legal}
 use Rattle.writer.specs.Reasons.{Answers, answers}
-use Rattle.writer.specs.RoundTrips.{message-written, draft-again, equal-answer}
+use Rattle.writer.specs.RoundTrips.{document01-round-trips}
 use Rattle.writer.specs.declared.Written.{Written}
 use Rattle.writer.specs.declared.Written.the-variants.{Message, Declined}
 use Rattle.writer.proofs.write.Reads as write
@@ -63,15 +62,15 @@ pub writes-back : (κs : _) (a : _) (r : _) (s : _) → write.Post κs a r s →
 unfolding outputAfter
 writes-back κs a r s p m l rest e t h =
     let old = a .1 .1 .0 .now in
-    let w = message-written document01 document01-sound document01-drawn m rest l (length old) h in
-    let x : r ≡ Message (length (octets m)) = p .0 ∙ ap₂ (λ (d : _) (t : List ℕ). writeOf document01 d t (length old)) e t ∙ w .answer in
-    let o : octets (messageOf (a .0) (a .1 .0 .now)) ≡ octets m = ap₂ (λ (d : _) (t : List ℕ). octets (messageOf d t)) e t ∙ w .message in
+    let w = document01-round-trips .message-written m rest l (length old) h in
+    let x : r ≡ Message (length (octets m)) = p .0 ∙ ap₂ (λ (d : _) (t : List ℕ). writeOf document01 d t (length old)) e t ∙ w .0 in
+    let o : octets (messageOf (a .0) (a .1 .0 .now)) ≡ octets m = ap octets (ap₂ messageOf e t ∙ w .1) in
     (x, p .1 ∙ ap₂ (λ (w : Written) (o : List ℕ). outputAfter w o old) x o)
 
 -- a draft that is written is equal to the draft of its message, over any area that begins with the message's texts
 pub reads-back : (κs : _) (a : _) (r : _) (s : _) → write.Post κs a r s → (n : ℕ) → r ≡ Message n → (rest : List ℕ) →
     Equal (a .0) (a .1 .0 .now) (draftOf document01 (messageOf (a .0) (a .1 .0 .now))) (textsOf document01 (messageOf (a .0) (a .1 .0 .now) .parameters) ++ rest)
-reads-back κs a r s p n e rest = draft-again document01 document01-sound document01-drawn (a .0) (a .1 .0 .now) (length (a .1 .1 .0 .now)) n (sym (p .0) ∙ e) rest
+reads-back κs a r s p n e rest = document01-round-trips .draft-again (a .0) (a .1 .0 .now) (length (a .1 .1 .0 .now)) n (sym (p .0) ∙ e) rest
 
 -- equal drafts, each with its text area, get the same answer in outputs of one length, and are written as the same octets
 pub equals-written : (κs : _) (a : _) (r : _) (s : _) (κs' : _) (a' : _) (r' : _) (s' : _) → write.Post κs a r s → write.Post κs' a' r' s' →
@@ -80,7 +79,7 @@ pub equals-written : (κs : _) (a : _) (r : _) (s : _) (κs' : _) (a' : _) (r' :
 equals-written κs a r s κs' a' r' s' p q e l = (
   p .0
       ∙ ap (writeOf document01 (a .0) (a .1 .0 .now)) l
-      ∙ equal-answer document01 (a .0) (a .1 .0 .now) (a' .0) (a' .1 .0 .now) (length (a' .1 .1 .0 .now)) e
+      ∙ document01-round-trips .equal-answer (a .0) (a .1 .0 .now) (a' .0) (a' .1 .0 .now) (length (a' .1 .1 .0 .now)) e
       ∙ sym (q .0),
   ap octets (equal-stand (a .0) (a .1 .0 .now) (a' .0) (a' .1 .0 .now) e),
 )

@@ -10,11 +10,11 @@ use lib.ListN.{length}
 use lib.Dec.{T}
 use Rattle.rules.specs.Tests.{_≤?_, _=?_, pick, every, both, join}
 use Rattle.rules.specs.Contents.{contentsFit}
-use Rattle.rules.specs.Table.{Rules, shapeOf}
-use Rattle.rules.specs.ContentLaw.{SoundRules}
+use Rattle.rules.specs.Table.{Rules, shapeOf, document01, narrow}
+use Rattle.rules.specs.ContentLaw.{SoundRules, document01-sound, narrow-sound}
 use Rattle.rules.specs.Message as message
 use Rattle.rules.specs.Message.{Parameter, body, octets, messageKind, LegalParameter, AllLegal, LegalMessage}
-use Rattle.draft.specs.Meaning.{Meaning, formIs, kindOf, spelled, meant, form-meant, DrawnRules, drawn, meant-spelled, Drawn}
+use Rattle.draft.specs.Meaning.{Meaning, formIs, kindOf, spelled, meant, form-meant, DrawnRules, drawn, document01-drawn, narrow-drawn, meant-spelled, Drawn}
 use Rattle.draft.specs.Draft.{meaningOf, inside, parameterOf, parametersOf, Said, saidOf, allSaid, allInside, used, messageOf, Equal}
 use Rattle.draft.specs.Packing.{meaningIn, entriesOf, textsOf, draftOf, allMeant, pack, entries-length, used-are, equal-stand, said-again, draft-stands}
 use Rattle.draft.specs.Truth.{same-truth}
@@ -23,6 +23,17 @@ use Rattle.draft.specs.declared.Draft.{Draft}
 use Rattle.writer.specs.Writing.{declined, legalEntry, legalBefore, sized, measuredOf, writeOf}
 use Rattle.writer.specs.Legal.{Makes, makes-iff, all-before, all-made, all-inside, parameters-length, octets-length, lengthOf, three, Writable, writes, written, used-all}
 use Rattle.writer.specs.declared.Written.the-variants.{Message}
+
+-- the trips under some rules
+pub record RoundTrips (R : Rules) : Type 0 where
+  -- the draft of a legal message, over an area that begins with its texts, is written where there is room, and stands for exactly that message
+  pub message-written : (m : message.Message) (rest : List ℕ) → LegalMessage R m → (room : ℕ) → length (octets m) ≤ room →
+      (writeOf R (draftOf R m) (textsOf R (m .parameters) ++ rest) room ≡ Message (length (octets m))) × (messageOf (draftOf R m) (textsOf R (m .parameters) ++ rest) ≡ m)
+  -- a draft that is written is equal to the draft of its message, over an area that begins with the message's texts
+  pub draft-again : (d : Draft) (texts : List ℕ) (room n : ℕ) → writeOf R d texts room ≡ Message n → (rest : List ℕ) →
+      Equal d texts (draftOf R (messageOf d texts)) (textsOf R (messageOf d texts .parameters) ++ rest)
+  -- equal drafts get the same answer
+  pub equal-answer : (a : Draft) (s : List ℕ) (b : Draft) (t : List ℕ) (room : ℕ) → Equal a s b t → writeOf R a s room ≡ writeOf R b t room
 
 module _ (R : Rules) (S : SoundRules R) (D : DrawnRules R) where
   -- ---- entries that say what legal parameters say make legal parameters
@@ -79,17 +90,11 @@ module _ (R : Rules) (S : SoundRules R) (D : DrawnRules R) where
           fits = omega (arith, s, octets-length m);
         }
 
-    -- is written as exactly its octets
-    pub record WrittenBack (room : ℕ) : Type 0 where
-      pub answer : writeOf R (draftOf R m) area room ≡ Message (length (octets m))
-      pub message : octets (messageOf (draftOf R m) area) ≡ octets m
-
-    pub message-written : (room : ℕ) → length (octets m) ≤ room → WrittenBack room
+    message-written : (room : ℕ) → length (octets m) ≤ room → writeOf R (draftOf R m) area room ≡ Message (length (octets m))
     unfolding messageOf
     message-written room h =
-        let e = draft-stands R S D m rest l in
-        let s : lengthOf (draftOf R m) area + 3 ≡ length (octets m) = ap (λ (x : message.Message). length (body (x .parameters)) + 3) e ∙ sym (octets-length m) in
-        record { answer = writes R (draftOf R m) area room (draft-writable room h) ∙ ap Message s; message = ap octets e }
+        let s : lengthOf (draftOf R m) area + 3 ≡ length (octets m) = ap (λ (x : message.Message). length (body (x .parameters)) + 3) (draft-stands R S D m rest l) ∙ sym (octets-length m) in
+        writes R (draftOf R m) area room (draft-writable room h) ∙ ap Message s
 
   -- ---- a draft that was written, and the draft of its message
   parameters-meant : (texts : List ℕ) (es : List Entry) → T (every (legalEntry R texts) es) → allSaid texts es ≡ allMeant R (parametersOf texts es)
@@ -105,7 +110,7 @@ module _ (R : Rules) (S : SoundRules R) (D : DrawnRules R) where
           let d = subst (Drawn (shapeOf R (e .kind))) (sym (m .kind)) (drawn R D (e .kind)) in
           ap (λ (f : _). meant f (spelled (meaningOf texts (e .value)))) (sym (m .kind)) ∙ meant-spelled (meaningOf texts (e .value)) d (m .legal .fits)
 
-  pub draft-again : (d : Draft) (texts : List ℕ) (room n : ℕ) → writeOf R d texts room ≡ Message n → (rest : List ℕ) → Equal d texts (draftOf R (messageOf d texts)) (textsOf R (messageOf d texts .parameters) ++ rest)
+  draft-again : (d : Draft) (texts : List ℕ) (room n : ℕ) → writeOf R d texts room ≡ Message n → (rest : List ℕ) → Equal d texts (draftOf R (messageOf d texts)) (textsOf R (messageOf d texts .parameters) ++ rest)
   unfolding messageOf draftOf
   draft-again d texts room n e rest =
       let w = written R d texts room n e .0 in
@@ -146,7 +151,7 @@ module _ (R : Rules) where
       let l = same-truth _ _ (same-legal s t e f q (a .0) (b .0)) (same-legal t s f e (sym q) (b .0) (a .0)) in
       ap₂ (λ (b : Bool) (n : ℕ). pick b (suc n) 0) l (same-before s t es fs (cc) (a .1) (b .1))
 
-  pub equal-answer : (a : Draft) (s : List ℕ) (b : Draft) (t : List ℕ) (room : ℕ) → Equal a s b t → writeOf R a s room ≡ writeOf R b t room
+  equal-answer : (a : Draft) (s : List ℕ) (b : Draft) (t : List ℕ) (room : ℕ) → Equal a s b t → writeOf R a s room ≡ writeOf R b t room
   unfolding writeOf measuredOf messageOf
   equal-answer a s b t room e =
       let n = same-before s t (used a) (used b) (e .entries) (e .left) (e .right) in
@@ -154,3 +159,17 @@ module _ (R : Rules) where
       let k = e .kind in
       let c = e .count in
       λ i. pick (messageKind (k i)) (pick (c i =? 0) (declined 14 0) (pick (86 ≤? c i) (declined 13 0) (pick (suc (n i) ≤? c i) (declined 12 (n i)) (sized (l i) room)))) (declined 11 0)
+
+round-trips : (R : Rules) → SoundRules R → DrawnRules R → RoundTrips R
+round-trips R S D =
+    record {
+      message-written = λ m rest l room h. (message-written R S D m rest l room h, draft-stands R S D m rest l);
+      draft-again = draft-again R S D;
+      equal-answer = equal-answer R;
+    }
+
+pub document01-round-trips : RoundTrips document01
+document01-round-trips = round-trips document01 document01-sound document01-drawn
+
+pub narrow-round-trips : RoundTrips narrow
+narrow-round-trips = round-trips narrow narrow-sound narrow-drawn

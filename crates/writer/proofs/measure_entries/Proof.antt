@@ -31,7 +31,9 @@ cast-t14 : tie.Need-cast-t14 Inv-loop μ-loop
 cast-t14 c = search needs
 
 returns : tie.Need-returns Inv-loop μ-loop
-returns c = entry-bad _ _ _ _ _ (c .before .before .before .before .loop .inv .1 .1) _ _ (c .before .before .before .loop-test .taken) (let l : length (c .before .before .before .before .before .before .before .args .draft .entries) ≡ 85 = simp length-map at (c .before .before .before .before .before .before .before .good .0 .1 .1 .1 .1 .0 .1 .0 .1) in omega arith) (c .before .entry-length .ensures) (c .if1 .taken)
+returns c =
+    let start = c .before .before .before .before .before .before .before in
+    entry-bad _ _ _ _ _ (c .before .before .before .before .loop .inv .1 .1) _ _ (c .before .before .before .loop-test .taken) (let l : length (start .args .draft .entries) ≡ 85 = simp length-map at (start .good .0 .1 .1 .1 .1 .0 .1 .0 .1) in omega arith) (c .before .entry-length .ensures) (c .if1 .taken)
 
 cast-size : tie.Need-cast-size Inv-loop μ-loop
 cast-size c = search needs
@@ -49,7 +51,9 @@ loop-less : tie.Need-loop-less Inv-loop μ-loop
 loop-less c = search needs
 
 loop-again : tie.Need-loop-again Inv-loop μ-loop
-loop-again c = (search needs, (search needs, entry-good _ _ _ _ _ (c .before .before .before .before .loop .inv .1 .1) _ _ (c .before .before .before .loop-test .taken) (let l : length (c .before .before .before .before .before .before .before .args .draft .entries) ≡ 85 = simp length-map at (c .before .before .before .before .before .before .before .good .0 .1 .1 .1 .1 .0 .1 .0 .1) in omega arith) (c .before .entry-length .ensures) (c .if1 .left)))
+loop-again c =
+    let start = c .before .before .before .before .before .before .before in
+    (search needs, (search needs, entry-good _ _ _ _ _ (c .before .before .before .before .loop .inv .1 .1) _ _ (c .before .before .before .loop-test .taken) (let l : length (start .args .draft .entries) ≡ 85 = simp length-map at (start .good .0 .1 .1 .1 .1 .0 .1 .0 .1) in omega arith) (c .before .entry-length .ensures) (c .if1 .left)))
 
 returns-2 : tie.Need-returns-2 Inv-loop μ-loop
 returns-2 c = all-measured _ _ _ _ _ (c .before .loop .inv .1 .1) (c .loop-test .left)

@@ -1,8 +1,9 @@
 -- `writer::put_front` meets its contract. The loop's invariant: i entries are laid down behind the first two octets of the output. The measure is what is left.
 -- Assumes nothing.
+use mathlib.Core.Path.{_≡_}
 use Prim.Native.Nat.{_-_}
 use native.Mathlib.Omega.{arith}
-use lib.ListN.{length-map, length-set}
+use lib.ListN.{length, length-map, length-set}
 use Rattle.draft.specs.declared.Entry.{Entry}
 use Rattle.draft.specs.declared.Value.the-variants.{Date}
 use Rattle.writer.proofs.Putting.{Wrote, wrote-none, wrote-length, wrote-room, wrote-small, wrote-asked, wrote-more, wrote-end}
@@ -14,10 +15,14 @@ abbrev any : Entry
 any = record { kind = 0; value = Date 0 0 0 0 }
 
 abbrev Inv-loop : tie.InvT-loop
-Inv-loop texts out₀ size n entries at₀ i₀ out at i = Wrote n entries texts out₀ out at i
+Inv-loop texts out₀ size n entries at₀ next₀ out at next = Wrote n entries texts out₀ out at next
 
 abbrev μ-loop : tie.MeasureT-loop
-μ-loop texts out₀ size n entries at₀ i₀ out at i = n - i
+μ-loop texts out₀ size n entries at₀ next₀ out at next = n - next
+
+-- a draft has 85 entry places
+full : (c : tie.In-loop Inv-loop μ-loop) → length (c .before .before .before .before .before .args .draft .entries) ≡ 85
+full c = simp length-map at (c .before .before .before .before .before .good .0 .1 .1 .1 .1 .0 .1 .0 .1)
 
 slice-write-out : tie.Need-slice-write-out Inv-loop μ-loop
 slice-write-out c = omega (arith, c .before .before .before .pre .fits)
@@ -35,19 +40,27 @@ array-copy-out-e : tie.Need-array-copy-out-e Inv-loop μ-loop
 array-copy-out-e c = search needs
 
 sub-put-entry : tie.Need-sub-put-entry Inv-loop μ-loop
-sub-put-entry c = omega (arith, wrote-room (c .before .before .before .before .before .before .args .draft) (c .before .before .before .before .before .before .args .texts .now) (c .before .before .before .before .before .before .args .out .now) (c .before .before .before .before .before .before .args .size) (c .before .before .before .before .before .before .pre) (simp length-map at (c .before .before .before .before .before .before .good .0 .1 .1 .1 .1 .0 .1 .0 .1)) _ _ _ (c .before .before .loop .inv) any (c .before .loop-test .taken))
+sub-put-entry c =
+    let start = c .before .before .before .before .before .before in
+    omega (arith, wrote-room _ _ (start .args .out .now) _ (start .pre) (full (c .before)) _ _ _ (c .before .before .loop .inv) any (c .before .loop-test .taken))
 
 part-put-entry-start : tie.Need-part-put-entry-start Inv-loop μ-loop
-part-put-entry-start c = omega (arith, wrote-room (c .before .before .before .before .before .before .args .draft) (c .before .before .before .before .before .before .args .texts .now) (c .before .before .before .before .before .before .args .out .now) (c .before .before .before .before .before .before .args .size) (c .before .before .before .before .before .before .pre) (simp length-map at (c .before .before .before .before .before .before .good .0 .1 .1 .1 .1 .0 .1 .0 .1)) _ _ _ (c .before .before .loop .inv) any (c .before .loop-test .taken))
+part-put-entry-start c =
+    let start = c .before .before .before .before .before .before in
+    omega (arith, wrote-room _ _ (start .args .out .now) _ (start .pre) (full (c .before)) _ _ _ (c .before .before .loop .inv) any (c .before .loop-test .taken))
 
 part-put-entry-end : tie.Need-part-put-entry-end Inv-loop μ-loop
 part-put-entry-end c = search needs
 
 put-entry-requires : tie.Need-put-entry-requires Inv-loop μ-loop
-put-entry-requires c κs = wrote-asked (c .before .before .before .before .before .before .before .args .draft) (c .before .before .before .before .before .before .before .args .texts .now) (c .before .before .before .before .before .before .before .args .out .now) (c .before .before .before .before .before .before .before .args .size) (c .before .before .before .before .before .before .before .pre) (simp length-map at (c .before .before .before .before .before .before .before .good .0 .1 .1 .1 .1 .0 .1 .0 .1)) _ _ _ (c .before .before .before .loop .inv) _ (c .before .before .loop-test .taken)
+put-entry-requires c κs =
+    let start = c .before .before .before .before .before .before .before in
+    wrote-asked _ _ (start .args .out .now) _ (start .pre) (full (c .before .before)) _ _ _ (c .before .before .before .loop .inv) _ (c .before .before .loop-test .taken)
 
 add-at : tie.Need-add-at Inv-loop μ-loop
-add-at c = omega (arith, wrote-small (c .before .before .before .before .before .before .before .before .before .before .args .draft) (c .before .before .before .before .before .before .before .before .before .before .args .texts .now) (c .before .before .before .before .before .before .before .before .before .before .args .out .now) (c .before .before .before .before .before .before .before .before .before .before .args .size) (c .before .before .before .before .before .before .before .before .before .before .pre) (simp length-map at (c .before .before .before .before .before .before .before .before .before .before .good .0 .1 .1 .1 .1 .0 .1 .0 .1)) _ _ _ (c .before .before .before .before .before .before .loop .inv) any (c .before .before .before .before .before .loop-test .taken), c .before .before .put-entry .ensures .1)
+add-at c =
+    let start = c .before .before .before .before .before .before .before .before .before .before in
+    omega (arith, wrote-small _ _ (start .args .out .now) _ (start .pre) (full (c .before .before .before .before .before)) _ _ _ (c .before .before .before .before .before .before .loop .inv) any (c .before .before .before .before .before .loop-test .taken), c .before .before .put-entry .ensures .1)
 
 add-next : tie.Need-add-next Inv-loop μ-loop
 add-next c = search needs
@@ -56,13 +69,19 @@ loop-less : tie.Need-loop-less Inv-loop μ-loop
 loop-less c = search needs
 
 loop-again : tie.Need-loop-again Inv-loop μ-loop
-loop-again c = wrote-more (c .before .before .before .before .before .before .before .before .before .before .args .draft) (c .before .before .before .before .before .before .before .before .before .before .args .texts .now) (c .before .before .before .before .before .before .before .before .before .before .args .out .now) (c .before .before .before .before .before .before .before .before .before .before .args .size) (c .before .before .before .before .before .before .before .before .before .before .pre) (simp length-map at (c .before .before .before .before .before .before .before .before .before .before .good .0 .1 .1 .1 .1 .0 .1 .0 .1)) _ _ _ (c .before .before .before .before .before .before .loop .inv) _ (c .before .before .before .before .before .loop-test .taken) _ _ (c .before .before .put-entry .ensures) (c .before .before .put-entry .kept .0)
+loop-again c =
+    let start = c .before .before .before .before .before .before .before .before .before .before in
+    wrote-more _ _ (start .args .out .now) _ (start .pre) (full (c .before .before .before .before .before)) _ _ _ (c .before .before .before .before .before .before .loop .inv) _ (c .before .before .before .before .before .loop-test .taken) _ _ (c .before .before .put-entry .ensures) (c .before .before .put-entry .kept .0)
 
 same-length : tie.Need-same-length Inv-loop μ-loop
-same-length c = wrote-length (c .before .before .before .before .before .args .draft) (c .before .before .before .before .before .args .texts .now) (c .before .before .before .before .before .args .out .now) (c .before .before .before .before .before .args .size) (c .before .before .before .before .before .pre) (simp length-map at (c .before .before .before .before .before .good .0 .1 .1 .1 .1 .0 .1 .0 .1)) _ _ _ (c .before .loop .inv)
+same-length c =
+    let start = c .before .before .before .before .before in
+    wrote-length _ _ (start .args .out .now) _ (start .pre) (simp length-map at (start .good .0 .1 .1 .1 .1 .0 .1 .0 .1)) _ _ _ (c .before .loop .inv)
 
 returns : tie.Need-returns Inv-loop μ-loop
-returns c = wrote-end (c .before .before .before .before .before .args .draft) (c .before .before .before .before .before .args .texts .now) (c .before .before .before .before .before .args .out .now) (c .before .before .before .before .before .args .size) (c .before .before .before .before .before .pre) (simp length-map at (c .before .before .before .before .before .good .0 .1 .1 .1 .1 .0 .1 .0 .1)) _ _ _ (c .before .loop .inv) (c .loop-test .left)
+returns c =
+    let start = c .before .before .before .before .before in
+    wrote-end _ _ (start .args .out .now) _ (start .pre) (simp length-map at (start .good .0 .1 .1 .1 .1 .0 .1 .0 .1)) _ _ _ (c .before .loop .inv) (c .loop-test .left)
 
 pub put-front-spec : {M : Type 1} → statement M
 put-front-spec =

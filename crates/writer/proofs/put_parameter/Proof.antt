@@ -34,10 +34,14 @@ add-result : tie.Need-add-result
 add-result c = search needs
 
 same-length : tie.Need-same-length
-same-length c = parameter-length (c .before .before .before .before .before .before .args .out .now) (c .before .before .copy .last .1 .0) (c .before .before .before .before .before .before .args .kind) (length (c .before .before .before .before .before .before .args .part .now)) (length (set (set (c .before .before .before .before .before .before .args .out .now) 0 (c .before .before .before .before .before .before .args .kind)) 1 (length (c .before .before .before .before .before .before .args .part .now))) - 2) (c .before .before .copy .kept .1 .0)
+same-length c =
+    let start = c .before .before .before .before .before .before in
+    parameter-length (start .args .out .now) (c .before .before .copy .last .1 .0) (start .args .kind) (length (start .args .part .now)) (length (set (set (start .args .out .now) 0 (start .args .kind)) 1 (length (start .args .part .now))) - 2) (c .before .before .copy .kept .1 .0)
 
 returns : tie.Need-returns
-returns c = (parameter-laid (c .before .before .before .before .before .before .args .out .now) (c .before .before .before .before .before .before .args .part .now) _ _ _ (c .before .before .before .before .before .before .pre .0) (c .before .before .copy .ensures .1), refl)
+returns c =
+    let start = c .before .before .before .before .before .before in
+    (parameter-laid (start .args .out .now) (start .args .part .now) _ _ _ (start .pre .0) (c .before .before .copy .ensures .1), refl)
 
 pub put-parameter-spec : {M : Type 1} → statement M
 put-parameter-spec =

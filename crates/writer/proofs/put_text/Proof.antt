@@ -18,13 +18,17 @@ part-put-parameter-end : tie.Need-part-put-parameter-end
 part-put-parameter-end c = search needs
 
 put-parameter-requires : tie.Need-put-parameter-requires
-put-parameter-requires c κs = part-asked (c .before .before .before .before .args .texts .now) (c .before .before .before .before .args .start) (c .before .before .before .before .args .length) (c .before .before .before .before .pre .1 .0) _ (c .before .before .before .before .pre .0) (c .before .before .before .before .pre .1 .1)
+put-parameter-requires c κs =
+    let start = c .before .before .before .before in
+    part-asked (start .args .texts .now) (start .args .start) (start .args .length) (start .pre .1 .0) _ (start .pre .0) (start .pre .1 .1)
 
 same-length : tie.Need-same-length
 same-length c = search needs
 
 returns : tie.Need-returns
-returns c = part-put (c .before .before .before .before .before .before .before .args .texts .now) (c .before .before .before .before .before .before .before .args .start) (c .before .before .before .before .before .before .before .args .length) (c .before .before .before .before .before .before .before .pre .1 .0) _ _ _ _ (c .before .before .put-parameter .ensures)
+returns c =
+    let start = c .before .before .before .before .before .before .before in
+    part-put (start .args .texts .now) (start .args .start) (start .args .length) (start .pre .1 .0) _ _ _ _ (c .before .before .put-parameter .ensures)
 
 pub put-text-spec : {M : Type 1} → statement M
 put-text-spec =

@@ -31,7 +31,9 @@ fitting-length-requires : tie.Need-fitting-length-requires
 fitting-length-requires c κs = search needs
 
 returns : tie.Need-returns
-returns c = pick-t _ _ _ _ (via _ _ _ (c .before .before .before .lies .ensures) (c .before .before .if1 .taken)) (c .fitting-length .ensures ∙ ap (λ (n : ℕ). fitting (c .before .before .before .before .before .args .class) (take n (drop (c .before .before .before .before .before .args .start) (c .before .before .before .before .before .args .texts .now)))) (part-of (c .before .before .before .before .before .args .start) (c .before .before .before .before .before .args .length)))
+returns c =
+    let start = c .before .before .before .before .before in
+    pick-t _ _ _ _ (via _ _ _ (c .before .before .before .lies .ensures) (c .before .before .if1 .taken)) (c .fitting-length .ensures ∙ ap (λ (n : ℕ). fitting (start .args .class) (take n (drop (start .args .start) (start .args .texts .now)))) (part-of (start .args .start) (start .args .length)))
 
 returns-2 : tie.Need-returns-2
 returns-2 c = pick-f _ _ _ _ (via _ _ _ (c .before .lies .ensures) (c .if1 .left)) refl
