@@ -8,10 +8,11 @@ use native.Mathlib.Numerals.{add-one}
 use native.Mathlib.Omega.{arith}
 use lib.ListN.{length, take, drop, getD, drop-of-length-le}
 use lib.Seq.{drop-cons, getD-take, length-take-le}
-use lib.Dec.{T, leb}
+use lib.Dec.{leb}
 use Rattle.rules.specs.Tests.{_≤?_, _and_, le-of, of-le}
-use Rattle.rules.specs.Returns.{is-le, via, T-of}
-use Rattle.draft.specs.Same.{pairwise, sameOctets, sameEntry, sameEntries, same-truth}
+use Rattle.rules.specs.Returns.{is-le}
+use Rattle.draft.specs.Truth.{same-truth}
+use Rattle.draft.specs.Same.{pairwise, sameOctets, sameEntry, sameEntries}
 use Rattle.draft.specs.declared.Entry.{Entry}
 
 and-false : (b : Bool) → (b and false) ≡ false
@@ -53,10 +54,6 @@ module _ {A : Type 0} (f : A → A → Bool) where
 -- a text lies inside where its length is at most what is left behind its start
 pub lies-is : (a m n : ℕ) → a ≤ n → leb m (n - a) ≡ (a + m ≤? n)
 lies-is a m n h = is-le m (n - a) ∙ same-truth _ _ (λ t. of-le _ _ (omega (arith, le-of m (n - a) t))) (λ t. of-le _ _ (omega (arith, le-of (a + m) n t)))
-
--- what a test that a call made tells
-pub told-le : (b : Bool) (x y : ℕ) → b ≡ (x ≤? y) → b ≡ true → x ≤ y
-told-le b x y e t = le-of _ _ (T-of _ (via _ _ _ e t))
 
 -- parts that are lent by start and end are those by start and length
 pub parts-of : (s t : List ℕ) (a m b n : ℕ) (r : Bool) → r ≡ sameOctets (take (a + m - a) (drop a s)) (take (b + n - b) (drop b t)) → r ≡ sameOctets (take m (drop a s)) (take n (drop b t))

@@ -2,4 +2,5 @@
 pub mod Meaning
 pub mod Draft
 pub mod Packing
+pub mod Truth
 pub mod Same

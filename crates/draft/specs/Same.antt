@@ -40,9 +40,11 @@ pairwise f [] (y ∷ ys) = false
 pairwise f (x ∷ xs) [] = false
 pairwise f (x ∷ xs) (y ∷ ys) = f x y and pairwise f xs ys
 
+-- octet by octet
 abbrev pub sameOctets : List ℕ → List ℕ → Bool
 sameOctets v w = pairwise _=?_ v w
 
+-- number by number
 unfoldable pub sameNumbers : Flat → Flat → Bool
 sameNumbers x y = x .first =? y .first and (x .second =? y .second and (x .third =? y .third and x .fourth =? y .fourth))
 
@@ -60,6 +62,7 @@ sameFlat s x t y = x .form =? y .form and (sameNumbers x y and sameText s x t y)
 unfoldable pub sameEntry : List ℕ → Entry → List ℕ → Entry → Bool
 sameEntry s e t f = e .kind =? f .kind and sameFlat s (flatOf (e .value)) t (flatOf (f .value))
 
+-- entry by entry
 abbrev pub sameEntries : List ℕ → List Entry → List ℕ → List Entry → Bool
 sameEntries s es t fs = pairwise (λ (e f : Entry). sameEntry s e t f) es fs
 
@@ -123,7 +126,7 @@ shown-flat s (State x r) = refl
 shown-flat s (Text a n) = refl
 shown-flat s (Carried a n) = refl
 
-inside-flat : (s : List ℕ) (v : Value) → inside s v ≡ (flatOf v .start + flatOf v .length ≤? length s)
+pub inside-flat : (s : List ℕ) (v : Value) → inside s v ≡ (flatOf v .start + flatOf v .length ≤? length s)
 unfolding inside flatOf _≤?_
 inside-flat s (Date m d h n) = sym (yes-le 0 (length s) (omega arith))
 inside-flat s (Code x) = sym (yes-le 0 (length s) (omega arith))
@@ -228,10 +231,3 @@ same-equal a s b t = (
       join _ _ (of-eq _ _ (e .kind))
       (join _ _ (of-eq _ _ (e .count)) (join _ _ (of-le _ _ (e .few)) (alike-entries s t _ _ (record { says = e .entries; left = e .left; right = e .right })))),
 )
-
--- tests that hold together are equal
-pub same-truth : (a b : Bool) → (T a → T b) → (T b → T a) → a ≡ b
-same-truth true true f g = refl
-same-truth true false f g = absurd (f tt)
-same-truth false true f g = absurd (g tt)
-same-truth false false f g = refl

@@ -14,7 +14,9 @@ same-entries-requires c κs = search needs
 
 returns : tie.Need-returns
 unfolding sameDraft
-returns c = and-t _ _ _ (yes-eq _ _ (c .before .before .before .before .before .before .if1 .taken)) (and-t _ _ _ (yes-eq _ _ (c .before .before .before .if2 .taken)) (and-t _ _ _ (yes-le _ _ (c .before .if3 .taken)) (c .same-entries .ensures ∙ ap (λ (n : ℕ). sameEntries (c .before .before .before .before .before .before .before .before .before .before .before .args .s .now) (take (c .before .before .before .before .before .before .before .before .before .before .before .args .a .count) (c .before .before .before .before .before .before .before .before .before .before .before .args .a .entries)) (c .before .before .before .before .before .before .before .before .before .before .before .args .t .now) (take n (c .before .before .before .before .before .before .before .before .before .before .before .args .b .entries))) (c .before .before .before .if2 .taken))))
+returns c =
+    let start = c .before .before .before .before .before .before .before .before .before .before .before in
+    and-t _ _ _ (yes-eq _ _ (c .before .before .before .before .before .before .if1 .taken)) (and-t _ _ _ (yes-eq _ _ (c .before .before .before .if2 .taken)) (and-t _ _ _ (yes-le _ _ (c .before .if3 .taken)) (c .same-entries .ensures ∙ ap (λ (n : ℕ). sameEntries (start .args .s .now) (take (start .args .a .count) (start .args .a .entries)) (start .args .t .now) (take n (start .args .b .entries))) (c .before .before .before .if2 .taken))))
 
 returns-2 : tie.Need-returns-2
 unfolding sameDraft

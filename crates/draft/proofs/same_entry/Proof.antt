@@ -19,7 +19,9 @@ same-flat-requires c κs = search needs
 
 returns : tie.Need-returns
 unfolding sameEntry
-returns c = and-t _ _ _ (yes-eq _ _ (c .before .before .before .if1 .taken)) (c .same-flat .ensures ∙ ap₂ (λ (x y : Flat). sameFlat (c .before .before .before .before .before .before .before .before .args .s .now) x (c .before .before .before .before .before .before .before .before .args .t .now) y) (c .before .before .flatten .ensures) (c .before .flatten2 .ensures))
+returns c =
+    let start = c .before .before .before .before .before .before .before .before in
+    and-t _ _ _ (yes-eq _ _ (c .before .before .before .if1 .taken)) (c .same-flat .ensures ∙ ap₂ (λ (x y : Flat). sameFlat (start .args .s .now) x (start .args .t .now) y) (c .before .before .flatten .ensures) (c .before .flatten2 .ensures))
 
 returns-2 : tie.Need-returns-2
 unfolding sameEntry

@@ -33,7 +33,9 @@ same-octets-requires : tie.Need-same-octets-requires
 same-octets-requires c κs = search needs
 
 returns : tie.Need-returns
-returns c = parts-of (c .before .before .before .before .before .args .s .now) (c .before .before .before .before .before .args .t .now) (c .before .before .before .before .before .args .a) (c .before .before .before .before .before .args .m) (c .before .before .before .before .before .args .b) (c .before .before .before .before .before .args .n) _ (c .same-octets .ensures)
+returns c =
+    let start = c .before .before .before .before .before in
+    parts-of (start .args .s .now) (start .args .t .now) (start .args .a) (start .args .m) (start .args .b) (start .args .n) _ (c .same-octets .ensures)
 
 pub same-parts-spec : {M : Type 1} → statement M
 same-parts-spec =

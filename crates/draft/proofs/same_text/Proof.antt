@@ -3,7 +3,7 @@
 use mathlib.Core.Path.{refl}
 use Rattle.rules.specs.Returns.{and-t, and-f, via}
 use Rattle.draft.specs.Same.{sameText}
-use Rattle.draft.proofs.Comparing.{told-le}
+use Rattle.draft.specs.Truth.{told-le}
 use borrow.Author.Needs.{needs}
 use Rattle.draft.proofs.same_text.Statement.{statement}
 use Rattle.draft.proofs.same_text.Tie as tie

@@ -1,0 +1,65 @@
+-- What a caller makes of what a callee found: of a part of the text area, of how the entries went.
+-- Assumes nothing.
+use Prim.Native.Nat.{ℕ, _+_, _-_, _≤_, _<_}
+use mathlib.Core.Path.{_≡_, sym, _∙_, ap, ap₂}
+use mathlib.Core.List.{List}
+use native.Mathlib.Omega.{arith}
+use lib.ListN.{length, take, drop}
+use lib.Seq.{length-take-le}
+use Rattle.rules.specs.Tests.{_≤?_, pick}
+use Rattle.rules.specs.Table.{document01, classOf, formOf}
+use Rattle.rules.specs.declared.Class.{Class}
+use Rattle.draft.specs.Meaning.{formNumber}
+use Rattle.draft.specs.Draft.{used}
+use Rattle.draft.specs.Same.{flatOf}
+use Rattle.draft.specs.declared.Flat.{Flat}
+use Rattle.draft.specs.declared.Entry.{Entry}
+use Rattle.draft.specs.declared.Draft.{Draft}
+use Rattle.writer.specs.Writing.{measuredOf, writeOf}
+use Rattle.writer.specs.Legal.{all-inside, written, all-made}
+use Rattle.writer.specs.Laying.{Layable}
+use Rattle.writer.specs.declared.Written.the-variants.{Message}
+use Rattle.writer.specs.Judging.{small, fitting, takesOf, takes-none, takes-number, takes-text, measureFrom, onMeasure, measured-is}
+use Rattle.writer.specs.declared.Written.{Written}
+use Rattle.writer.specs.declared.Measure.{Measure}
+
+-- from a start to an end is as long as the length
+pub part-of : (a n : ℕ) → a + n - a ≡ n
+part-of a n = omega arith
+
+pub used-count : (d : Draft) → length (d .entries) ≡ 85 → d .count ≤ 85 → length (used d) ≡ d .count
+used-count d l h = length-take-le (d .count) (d .entries) (omega arith)
+
+pub entries-went : (d : Draft) (texts : List ℕ) (room : ℕ) (m : Measure) → length (d .entries) ≡ 85 → d .count ≤ 85 → m ≡ measureFrom texts 0 0 (used d) → {x : Measure} → m ≡ x → {r : Written} → r ≡ onMeasure x room → r ≡ measuredOf document01 d texts room
+entries-went d texts room m l h e q g = g ∙ ap (λ (m : Measure). onMeasure m room) (sym q ∙ e) ∙ measured-is d texts room (used-count d l h)
+
+-- ---- an entry, by the class of its type and its value laid flat
+module _ (texts : List ℕ) (e : Entry) (o : e .kind < 256) (c : Class) (f : Flat) (k : ℕ) (p : c ≡ classOf document01 (e .kind)) (q : f ≡ flatOf (e .value)) (s : k ≡ formNumber (formOf c)) where
+  same-form : f .form ≡ k → flatOf (e .value) .form ≡ formNumber (formOf (classOf document01 (e .kind)))
+  same-form h = ap (λ (f : Flat). f .form) (sym q) ∙ h ∙ s ∙ ap (λ (c : Class). formNumber (formOf c)) p
+
+  pub entry-none : (f .form ≡ k → ⊥) → 0 ≡ takesOf texts e
+  entry-none n = takes-none texts e o (λ h. n (ap (λ (f : Flat). f .form) q ∙ h ∙ ap (λ (c : Class). formNumber (formOf c)) (sym p) ∙ sym s))
+
+  pub entry-number : (r : ℕ) → f .form ≡ k → f .form < 3 → r ≡ fitting c (small (e .value)) → r ≡ takesOf texts e
+  entry-number r h l g = g ∙ ap (λ (c : Class). fitting c (small (e .value))) p ∙ takes-number texts e o (same-form h) (rw q at l)
+
+  pub entry-text : (r : ℕ) → f .form ≡ k → 3 ≤ f .form → r ≡ pick (f .start + f .length ≤? length texts) (fitting c (take (f .length) (drop (f .start) texts))) 0 → r ≡ takesOf texts e
+  entry-text r h l g =
+      g ∙ ap₂ (λ (c : Class) (f : Flat). pick (f .start + f .length ≤? length texts) (fitting c (take (f .length) (drop (f .start) texts))) 0) p q ∙ takes-text texts e o (same-form h) (rw q at l)
+
+-- ---- an answer that is a message: what is asked before it is laid down
+pub layable : (d : Draft) (texts : List ℕ) (room n : ℕ) (w : Written) → w ≡ writeOf document01 d texts room → w ≡ Message n → Layable d texts room (n - 3) × ((3 ≤ n) × (n ≤ 258))
+layable d texts room n w e q =
+    let r = written document01 d texts room n (sym e ∙ q) in
+    let f = r .0 in
+    let g = r .1 in (
+      record {
+        few = f .few;
+        lie = all-inside document01 texts (used d) (all-made document01 d texts room f);
+        size = omega arith;
+        short = omega (arith, f .short);
+        fits = omega (arith, f .fits);
+      },
+      (omega arith, omega (arith, f .short)),
+    )

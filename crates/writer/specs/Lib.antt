@@ -1,0 +1,8 @@
+-- The root of what is promised of the writer.
+pub mod Writing
+pub mod Legal
+pub mod Judging
+pub mod Laying
+pub mod Reasons
+pub mod RoundTrips
+pub mod Rows

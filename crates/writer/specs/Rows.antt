@@ -1,0 +1,103 @@
+-- Rows of the writer, computed, as one claim: document 01's own messages written from their drafts, and both sides of the limits at which it refuses.
+-- Assumes nothing.
+use Prim.Native.Nat.{ℕ, _+_, _-_}
+use mathlib.Core.Path.{_≡_, refl}
+use mathlib.Core.List.{List, [], _∷_, _++_}
+use lib.ListN.{length, replicate}
+use Rattle.rules.specs.Tests.{_≤?_, _=?_, _and_, _or_, pick}
+use Rattle.rules.specs.Octets.{total, checksum}
+use Rattle.rules.specs.Contents.{within, inSet, digit, pairFits, pairsFit, columnsFit, allIn, contentsFit}
+use Rattle.rules.specs.Table.{document01, rowIn, rowOf, classOf, shapeOf, shape01, formOf}
+use Rattle.rules.specs.Message.{body, octets, messageKind}
+use Rattle.draft.specs.Meaning.{formNumber, kindOf, formIs, tens, ones, spelled}
+use Rattle.draft.specs.Draft.{noEntry, meaningOf, inside, parameterOf, parametersOf, messageOf}
+use Rattle.draft.specs.declared.Value.{Value}
+use Rattle.draft.specs.declared.Value.the-variants.{Date, Code, State, Text, Carried}
+use Rattle.draft.specs.declared.Entry.{Entry}
+use Rattle.draft.specs.declared.Draft.{Draft}
+use Rattle.writer.specs.Writing.{Answer, answerOf, legalEntry, legalBefore, sized, measuredOf, writeOf}
+use Rattle.writer.specs.Reasons.{refusal, success}
+
+-- an entry
+abbrev pub says : ℕ → Value → Entry
+says t v = record { kind = t; value = v }
+
+-- a draft of some entries
+abbrev pub drafted : ℕ → List Entry → Draft
+drafted kind es = record { kind = kind; count = length es; entries = es ++ replicate (85 - length es) noEntry }
+
+-- a draft with its text area, an output with so many octets, and the answer
+pub record Row : Type 0 where
+  pub draft : Draft
+  pub texts : List ℕ
+  pub room : ℕ
+  pub answer : Answer
+
+-- the same, written in a line
+abbrev pub row : Draft → List ℕ → ℕ → Answer → Row
+row d t n a = record { draft = d; texts = t; room = n; answer = a }
+
+-- what the writer answers in each row
+unfoldable pub answered : List Row → List Answer
+answered [] = []
+answered (r ∷ rs) = answerOf (writeOf document01 (r .draft) (r .texts) (r .room)) ∷ answered rs
+
+-- what each row says
+unfoldable pub expected : List Row → List Answer
+expected [] = []
+expected (r ∷ rs) = r .answer ∷ expected rs
+
+-- "40912", and an octet that no number has
+abbrev pub area : List ℕ
+area = 0x34 ∷ 0x30 ∷ 0x39 ∷ 0x31 ∷ 0x32 ∷ 0x41 ∷ []
+
+-- document 01's notice with the lamp on
+abbrev pub lamp : Draft
+lamp = drafted 0x82 (says 0x0B (Code 0xFF) ∷ [])
+
+-- document 01's example, with the caller's number from a place of the area
+abbrev pub caller : ℕ → ℕ → Draft
+caller start n = drafted 0x80 (says 0x01 (Date 6 15 14 30) ∷ says 0x02 (Text start n) ∷ [])
+
+-- a call message with one entry
+abbrev pub one : ℕ → Value → Draft
+one t v = drafted 0x80 (says t v ∷ [])
+
+-- so many parameters of 8 octets
+abbrev pub carried : ℕ → Draft
+carried k = drafted 0x80 (replicate k (says 0x05 (Carried 0 6)))
+
+-- both sides of each limit
+abbrev pub writerRows : List Row
+writerRows =
+    row lamp [] 6 (success 6) ∷
+    row lamp [] 5 (refusal 15 6) ∷
+    row (drafted 0x81 []) [] 6 (refusal 11 0) ∷
+    row (drafted 0x80 []) [] 6 (refusal 14 0) ∷
+    row (record { kind = 0x80; count = 86; entries = [] }) [] 6 (refusal 13 0) ∷
+    row (caller 0 5) area 20 (success 20) ∷
+    row (caller 1 5) area 20 (refusal 12 1) ∷
+    row (caller 2 5) area 20 (refusal 12 1) ∷
+    row (caller 0 0) area 20 (refusal 12 1) ∷
+    row (one 0x01 (Date 12 31 23 59)) [] 13 (success 13) ∷
+    row (one 0x01 (Date 13 31 23 59)) [] 13 (refusal 12 0) ∷
+    row (one 0x01 (Date 12 0 23 59)) [] 13 (refusal 12 0) ∷
+    row (one 0x0D (State 0x55 0x0102)) [] 8 (success 8) ∷
+    row (one 0x0D (State 0x54 0x0102)) [] 8 (refusal 12 0) ∷
+    row (one 0x05 (Text 0 5)) area 20 (refusal 12 0) ∷
+    row (one 0x02 (Carried 0 5)) area 20 (refusal 12 0) ∷
+    row (carried 31) area 251 (success 251) ∷
+    row (carried 31) area 250 (refusal 15 251) ∷
+    row (carried 32) area 300 (refusal 13 0) ∷
+    []
+
+-- the octets that document 01 shows for the lamp and for its example, and the answer of every row
+abbrev pub Claim : Type 0
+Claim =
+    (octets (messageOf lamp []) ≡ 0x82 ∷ 0x03 ∷ 0x0B ∷ 0x01 ∷ 0xFF ∷ 0x70 ∷ [])
+    × ((octets (messageOf (caller 0 5) area) ≡ 0x80 ∷ 0x11 ∷ 0x01 ∷ 0x08 ∷ 0x30 ∷ 0x36 ∷ 0x31 ∷ 0x35 ∷ 0x31 ∷ 0x34 ∷ 0x33 ∷ 0x30 ∷ 0x02 ∷ 0x05 ∷ 0x34 ∷ 0x30 ∷ 0x39 ∷ 0x31 ∷ 0x32 ∷ 0xCB ∷ [])
+    × (answered writerRows ≡ expected writerRows))
+
+pub writer-rows : Claim
+unfolding answered expected answerOf writeOf measuredOf sized legalBefore legalEntry body octets messageOf parametersOf parameterOf spelled meaningOf inside formIs formNumber kindOf formOf classOf rowOf rowIn shapeOf shape01 document01 contentsFit pairsFit columnsFit allIn pairFits digit inSet within messageKind tens ones total checksum pick _and_ _or_ _≤?_ _=?_
+writer-rows = (refl, (refl, refl))

@@ -1,0 +1,73 @@
+-- The writer's rule (document 01, Drafts and Numbers): what it answers, and what the output then holds.
+-- Assumes nothing.
+use Prim.Native.Nat.{ℕ, suc, _+_}
+use mathlib.Core.Bool.{Bool}
+use mathlib.Core.List.{List, [], _∷_}
+use lib.ListN.{length}
+use Rattle.rules.specs.Tests.{_≤?_, _=?_, _and_, pick}
+use Rattle.rules.specs.Contents.{contentsFit}
+use Rattle.rules.specs.Table.{Rules, shapeOf}
+use Rattle.rules.specs.Message.{body, messageKind}
+use Rattle.draft.specs.Meaning.{formNumber, kindOf, formIs, spelled}
+use Rattle.draft.specs.Draft.{meaningOf, inside, parametersOf, used}
+use Rattle.draft.specs.Packing.{laid}
+use Rattle.draft.specs.declared.Entry.{Entry}
+use Rattle.draft.specs.declared.Draft.{Draft}
+use Rattle.writer.specs.declared.Written.{Written}
+use Rattle.writer.specs.declared.Written.the-variants.{Message, Declined}
+
+-- ---- an answer in document 01's words: the number and place of a refusal, the size of a message
+pub record Answer : Type 0 where
+  pub number : ℕ
+  pub place : ℕ
+  pub size : ℕ
+
+-- the number, place and size of each answer, 0 where it has none
+unfoldable pub answerOf : Written → Answer
+answerOf (Message n) = record { number = 0; place = 0; size = n }
+answerOf (Declined f) = record { number = f .number; place = f .place; size = 0 }
+
+-- a refusal with a number at a place
+abbrev pub declined : ℕ → ℕ → Written
+declined k p = Declined (record { number = k; place = p })
+
+-- ---- entries
+-- the octets that would be written for an entry's value
+abbrev pub contentsOf : List ℕ → Entry → List ℕ
+contentsOf texts e = spelled (meaningOf texts (e .value))
+
+-- an entry makes a legal parameter: its type is an octet, its kind of value is its type's, its text lies inside the area, its contents fit
+unfoldable pub legalEntry : Rules → List ℕ → Entry → Bool
+legalEntry R texts e =
+    e .kind ≤? 255
+    and (formNumber (formIs (meaningOf texts (e .value))) =? formNumber (kindOf R (e .kind))
+    and (inside texts (e .value) and contentsFit (shapeOf R (e .kind)) (contentsOf texts e)))
+
+-- how many entries stand before the first that makes none
+unfoldable pub legalBefore : Rules → List ℕ → List Entry → ℕ
+legalBefore R texts [] = 0
+legalBefore R texts (e ∷ es) = pick (legalEntry R texts e) (suc (legalBefore R texts es)) 0
+
+-- ---- the answer
+-- parameters of L octets: over 255 is 13; an output shorter than L + 3 is 15 there; else a message of L + 3
+unfoldable pub sized : ℕ → ℕ → Written
+sized l room = pick (256 ≤? l) (declined 13 0) (pick (suc room ≤? l + 3) (declined 15 (l + 3)) (Message (l + 3)))
+
+-- 12 at the first entry that makes no legal parameter
+unfoldable pub measuredOf : Rules → Draft → List ℕ → ℕ → Written
+measuredOf R d texts room =
+    pick (suc (legalBefore R texts (used d)) ≤? d .count)
+    (declined 12 (legalBefore R texts (used d)))
+    (sized (length (body (parametersOf texts (used d)))) room)
+
+-- in document 01's order: 11, 14, the 85 entries of 13, 12, the 255 octets of 13, 15
+unfoldable pub writeOf : Rules → Draft → List ℕ → ℕ → Written
+writeOf R d texts room =
+    pick (messageKind (d .kind))
+    (pick (d .count =? 0) (declined 14 0) (pick (86 ≤? d .count) (declined 13 0) (measuredOf R d texts room)))
+    (declined 11 0)
+
+-- ---- the output: the message's octets over its beginning, or as it was
+unfoldable pub outputAfter : Written → List ℕ → List ℕ → List ℕ
+outputAfter (Message n) o old = laid o old
+outputAfter (Declined f) o old = old

@@ -1,0 +1,352 @@
+// The writer (document 01, Drafts and Numbers): the octets of the message that a draft stands for, or the number and place of the refusal. Everything is
+// judged before anything is written.
+use draft::Draft;
+use draft::Entry;
+use draft::Value;
+use rules::Class;
+use rules::Fault;
+ghost use mathlib.Core.Path.{_≡_};
+ghost use mathlib.Core.List.{_∷_};
+ghost use Prim.Native.Nat.{_+_, _%_, _≤_, _<_};
+ghost use lib.ListN as list;
+ghost use Rattle.rules.specs.Tests.{_≤?_, pick};
+ghost use Rattle.rules.specs.Octets.{total};
+ghost use Rattle.rules.specs.Table.{document01, shape01};
+ghost use Rattle.rules.specs.ContentJudge.{fitsFrom};
+ghost use Rattle.rules.specs.Message.{front, octets};
+ghost use Rattle.draft.specs.Draft.{used, messageOf};
+ghost use Rattle.draft.specs.Packing.{laid};
+ghost use Rattle.draft.specs.declared.Value.the-variants as value;
+ghost use Rattle.writer.specs.Writing.{declined, sized, measuredOf, writeOf, outputAfter};
+ghost use Rattle.writer.specs.Judging.{spellingOf, small, fitting, takesOf, measureFrom};
+ghost use Rattle.writer.specs.Laying.{parameterOctets, Puttable, Layable};
+
+// A message of `size` octets at the start of the output, or a refusal.
+pub enum Written {
+    Message { size: u16 },
+    Declined { fault: Fault },
+}
+
+// The contents of a value without a text: the first `length` of eight octets.
+struct Spelling {
+    octets: [u8; 8],
+    length: usize,
+}
+
+// How the entries went: the number of the first that makes no legal parameter, or the octets of all parameters together.
+enum Measure {
+    Bad(u16),
+    Size(usize),
+}
+
+// The most octets that contents have: L is at most 255, and a parameter has a type and a length beside them (document 01, The message).
+const MOST: usize = 253;
+
+// From this number on the kinds of value have a text (`draft::form_of`).
+const TEXT: u8 = 3;
+
+// Two digits for each number of a date.
+fn spell_date(month: u8, day: u8, hour: u8, minute: u8) -> Spelling
+    ensures { λ r. ⌜ r ≡ spellingOf (value.Date month day hour minute) ⌝ }
+{
+    Spelling {
+        octets: [
+            48 + month / 10,
+            48 + month % 10,
+            48 + day / 10,
+            48 + day % 10,
+            48 + hour / 10,
+            48 + hour % 10,
+            48 + minute / 10,
+            48 + minute % 10,
+        ],
+        length: 8,
+    }
+}
+
+// A state and its reference, high octet first.
+fn spell_state(state: u8, reference: u16) -> Spelling
+    ensures { λ r. ⌜ r ≡ spellingOf (value.State state reference) ⌝ }
+{
+    let high = (reference / 256) as u8;
+    let low = (reference % 256) as u8;
+    Spelling {
+        octets: [state, high, low, 0, 0, 0, 0, 0],
+        length: 3,
+    }
+}
+
+fn spell(v: Value) -> Spelling
+    ensures { λ r. ⌜ r ≡ spellingOf v ⌝ }
+{
+    match v {
+        Value::Date {
+            month,
+            day,
+            hour,
+            minute,
+        } => spell_date(month, day, hour, minute),
+        Value::Code(x) => Spelling {
+            octets: [x, 0, 0, 0, 0, 0, 0, 0],
+            length: 1,
+        },
+        Value::State { state, reference } => spell_state(state, reference),
+        Value::Text {
+            start: _,
+            length: _,
+        } => Spelling {
+            octets: [0; 8],
+            length: 0,
+        },
+        Value::Carried {
+            start: _,
+            length: _,
+        } => Spelling {
+            octets: [0; 8],
+            length: 0,
+        },
+    }
+}
+
+// May each octet of contents of length n stand where it stands?
+fn octets_fit(class: Class, part: &[u8], n: u8) -> bool
+    requires { ⌜ list.length (now part) ≡ n ⌝ }
+    ensures { λ r. ⌜ r ≡ fitsFrom (shape01 class) n 0 0 (now (part .entry)) ⌝ }
+{
+    let mut memory: u8 = 0;
+    let mut index: u8 = 0;
+    while index < n {
+        let x = part[index as usize];
+        if rules::content_ok(class, n, index, memory, x) {
+            memory = rules::remember(class, n, index, memory, x);
+            index += 1;
+        } else {
+            return false;
+        }
+    }
+    true
+}
+
+// The length of contents that fit their class; 0, which no contents have, where they do not.
+fn fitting_length(class: Class, part: &[u8]) -> u8
+    ensures { λ r. ⌜ r ≡ fitting class (now (part .entry)) ⌝ }
+{
+    if MOST < part.len() {
+        return 0;
+    }
+    let n = part.len() as u8;
+    // in a room that the parameter fills
+    if rules::length_fits(class, n + 2, n) {
+        if octets_fit(class, part, n) { n } else { 0 }
+    } else {
+        0
+    }
+}
+
+fn number_length(class: Class, v: Value) -> u8
+    ensures { λ r. ⌜ r ≡ fitting class (small v) ⌝ }
+{
+    let spelling = spell(v);
+    let n = spelling.length;
+    let octets = spelling.octets;
+    fitting_length(class, &octets[..n])
+}
+
+fn text_length(class: Class, texts: &[u8], start: usize, length: usize) -> u8
+    ensures { λ r. ⌜ r ≡ pick (start + length ≤? list.length (now (texts .entry))) (fitting class (list.take length (list.drop start (now (texts .entry))))) 0 ⌝ }
+{
+    if draft::lies(texts, start, length) {
+        let end = start + length;
+        fitting_length(class, &texts[start..end])
+    } else {
+        0
+    }
+}
+
+// The length of the contents of an entry that makes a legal parameter, else 0: its kind of value is its type's, its text lies inside, its contents fit.
+fn entry_length(e: Entry, texts: &[u8]) -> u8
+    ensures { λ r. ⌜ r ≡ takesOf (now (texts .entry)) e ⌝ }
+{
+    let value = e.value;
+    let class = rules::class_of(e.kind);
+    let flat = draft::flatten(value);
+    if flat.form == draft::form_of(class) {
+        if flat.form < TEXT {
+            number_length(class, value)
+        } else {
+            text_length(class, texts, flat.start, flat.length)
+        }
+    } else {
+        0
+    }
+}
+
+fn measure_entries(draft: Draft, texts: &[u8]) -> Measure
+    requires { ⌜ draft .count ≤ 85 ⌝ }
+    ensures { λ r. ⌜ r ≡ measureFrom (now (texts .entry)) 0 0 (used draft) ⌝ }
+{
+    let n = draft.count;
+    let entries = draft.entries;
+    let mut size: usize = 0;
+    let mut i = 0;
+    while i < n {
+        let e = entries[i];
+        let length = entry_length(e, texts);
+        if length == 0 {
+            return Measure::Bad(i as u16);
+        }
+        size += 2 + length as usize;
+        i += 1;
+    }
+    Measure::Size(size)
+}
+
+fn refusal(number: u8, place: u16) -> Written
+    ensures { λ r. ⌜ r ≡ declined number place ⌝ }
+{
+    Written::Declined {
+        fault: Fault { number, place },
+    }
+}
+
+// A body of so many octets in an output with so much room.
+fn with_room(size: usize, room: usize) -> Written
+    ensures { λ r. ⌜ r ≡ sized size room ⌝ }
+{
+    if 255 < size {
+        return refusal(13, 0);
+    }
+    let whole = size as u16 + 3;
+    if room < whole as usize {
+        refusal(15, whole)
+    } else {
+        Written::Message { size: whole }
+    }
+}
+
+fn with_entries(draft: Draft, texts: &[u8], room: usize) -> Written
+    requires { ⌜ draft .count ≤ 85 ⌝ }
+    ensures { λ r. ⌜ r ≡ measuredOf document01 draft (now (texts .entry)) room ⌝ }
+{
+    let measured = measure_entries(draft, texts);
+    match measured {
+        Measure::Bad(i) => refusal(12, i),
+        Measure::Size(size) => with_room(size, room),
+    }
+}
+
+// What the writer answers, in document 01's order: 11, 14, the 85 entries of 13, 12 from the first entry on, the 255 octets of 13, and 15.
+fn judge(draft: Draft, texts: &[u8], room: usize) -> Written
+    ensures { λ r. ⌜ r ≡ writeOf document01 draft (now (texts .entry)) room ⌝ }
+{
+    if rules::message_kind(draft.kind) {
+        if draft.count == 0 {
+            return refusal(14, 0);
+        }
+        if 85 < draft.count {
+            return refusal(13, 0);
+        }
+        with_entries(draft, texts, room)
+    } else {
+        refusal(11, 0)
+    }
+}
+
+fn put_parameter(out: &mut [u8], kind: u8, part: &[u8]) -> usize
+    requires { ⌜ (2 + list.length (now part) ≤ list.length (now out)) × (list.length (now part) < 256) ⌝ }
+    ensures { λ r. ⌜ (now (out .exit) ≡ laid (kind ∷ list.length (now (part .entry)) ∷ now (part .entry)) (now (out .entry))) × (r ≡ 2 + list.length (now (part .entry))) ⌝ }
+{
+    out[0] = kind;
+    out[1] = part.len() as u8;
+    bytes::copy(part, &mut out[2..]);
+    2 + part.len()
+}
+
+fn put_number(out: &mut [u8], kind: u8, v: Value) -> usize
+    requires { ⌜ 2 + list.length (small v) ≤ list.length (now out) ⌝ }
+    ensures { λ r. ⌜ (now (out .exit) ≡ laid (kind ∷ list.length (small v) ∷ small v) (now (out .entry))) × (r ≡ 2 + list.length (small v)) ⌝ }
+{
+    let spelling = spell(v);
+    let n = spelling.length;
+    let octets = spelling.octets;
+    put_parameter(out, kind, &octets[..n])
+}
+
+fn put_text(out: &mut [u8], kind: u8, texts: &[u8], start: usize, length: usize) -> usize
+    requires { ⌜ (2 + length ≤ list.length (now out)) × ((start + length ≤ list.length (now texts)) × (length < 256)) ⌝ }
+    ensures { λ r. ⌜ (now (out .exit) ≡ laid (kind ∷ length ∷ list.take length (list.drop start (now (texts .entry)))) (now (out .entry))) × (r ≡ 2 + length) ⌝ }
+{
+    let end = start + length;
+    put_parameter(out, kind, &texts[start..end])
+}
+
+// The parameter that an entry makes, from the output's first octet on.
+fn put_entry(out: &mut [u8], e: Entry, texts: &[u8]) -> usize
+    requires { ⌜ Puttable e (now texts) (list.length (now out)) ⌝ }
+    ensures { λ r. ⌜ (now (out .exit) ≡ laid (parameterOctets (now (texts .entry)) e) (now (out .entry))) × (r ≡ list.length (parameterOctets (now (texts .entry)) e)) ⌝ }
+{
+    let value = e.value;
+    let flat = draft::flatten(value);
+    if flat.form < TEXT {
+        put_number(out, e.kind, value)
+    } else {
+        put_text(out, e.kind, texts, flat.start, flat.length)
+    }
+}
+
+// All but the checksum: each parameter is laid down from its own place onward, in the output's rest.
+fn put_front(draft: Draft, texts: &[u8], out: &mut [u8], size: u8) -> usize
+    requires { ⌜ Layable draft (now texts) (list.length (now out)) size ⌝ }
+    ensures { λ r. ⌜ (now (out .exit) ≡ laid (front (messageOf draft (now (texts .entry)))) (now (out .entry))) × (r ≡ list.length (front (messageOf draft (now (texts .entry))))) ⌝ }
+{
+    let n = draft.count;
+    let entries = draft.entries;
+    out[0] = draft.kind;
+    out[1] = size;
+    let mut at = 2;
+    let mut next = 0;
+    while next < n {
+        let e = entries[next];
+        let taken = put_entry(&mut out[at..], e, texts);
+        at += taken;
+        next += 1;
+    }
+    at
+}
+
+fn sum_of(s: &[u8]) -> u8
+    ensures { λ r. ⌜ r ≡ total (now (s .entry)) % 256 ⌝ }
+{
+    let mut sum: u8 = 0;
+    let mut i = 0;
+    while i < s.len() {
+        sum = std::num::wrapping_add_u8(sum, s[i]);
+        i += 1;
+    }
+    sum
+}
+
+// The whole message: the checksum makes the sum of all octets 0 modulo 256 (000, section 2).
+fn put_message(draft: Draft, texts: &[u8], out: &mut [u8], size: u8)
+    requires { ⌜ Layable draft (now texts) (list.length (now out)) size ⌝ }
+    ensures { λ r. ⌜ now (out .exit) ≡ laid (octets (messageOf draft (now (texts .entry)))) (now (out .entry)) ⌝ }
+{
+    let end = put_front(draft, texts, out, size);
+    let sum = sum_of(&out[..end]);
+    out[end] = std::num::wrapping_sub_u8(0, sum);
+}
+
+// Writes the message that a draft stands for to the start of the output, or refuses; octets after the message stay, and in a refusal all of them.
+pub fn write(draft: Draft, texts: &[u8], out: &mut [u8]) -> Written
+    ensures answer { λ r. ⌜ r ≡ writeOf document01 draft (now (texts .entry)) (list.length (now (out .entry))) ⌝ }
+    ensures output { λ r. ⌜ now (out .exit) ≡ outputAfter r (octets (messageOf draft (now (texts .entry)))) (now (out .entry)) ⌝ }
+{
+    let answer = judge(draft, texts, out.len());
+    match answer {
+        Written::Message { size } => {
+            put_message(draft, texts, out, (size - 3) as u8);
+            Written::Message { size }
+        }
+        Written::Declined { fault } => Written::Declined { fault },
+    }
+}
