@@ -1,0 +1,103 @@
+// Document 01's messages, written from drafts and printed as octets in hex, a line each; a refusal as its number and place.
+use draft::Draft;
+use draft::Entry;
+use draft::Value;
+use libc::STDOUT_FILENO;
+use rules::Fault;
+use writer::Written;
+
+fn digit(n: u8) -> u8 {
+    if n < 10 { 48 + n } else { 55 + n % 16 }
+}
+
+fn print_octet(x: u8) {
+    let pair = [digit(x / 16), digit(x % 16), 32];
+    io::write_all(STDOUT_FILENO, &pair);
+}
+
+fn print_octets(s: &[u8]) {
+    let mut i = 0;
+    while i < s.len() {
+        print_octet(s[i]);
+        i += 1;
+    }
+    io::write_all(STDOUT_FILENO, b"\n");
+}
+
+fn print_fault(f: Fault) {
+    io::print_decimal(STDOUT_FILENO, f.number as u64);
+    io::write_all(STDOUT_FILENO, b" at ");
+    io::print_decimal(STDOUT_FILENO, f.place as u64);
+    io::write_all(STDOUT_FILENO, b"\n");
+}
+
+fn show_in(out: &mut [u8], d: Draft, texts: &[u8]) {
+    let answer = writer::write(d, texts, out);
+    match answer {
+        Written::Message { size } => {
+            let n = size as usize;
+            if n <= out.len() {
+                print_octets(&out[..n]);
+            }
+        }
+        Written::Declined { fault } => print_fault(fault),
+    }
+}
+
+fn show(d: Draft, texts: &[u8]) {
+    let mut out = [0u8; 258];
+    show_in(&mut out, d, texts);
+}
+
+fn one(kind: u8, a: Entry) -> Draft {
+    let mut d = draft::empty(kind);
+    d.entries[0] = a;
+    d.count = 1;
+    d
+}
+
+fn two(kind: u8, a: Entry, b: Entry) -> Draft {
+    let mut d = one(kind, a);
+    d.entries[1] = b;
+    d.count = 2;
+    d
+}
+
+fn code(kind: u8, x: u8) -> Entry {
+    Entry {
+        kind,
+        value: Value::Code(x),
+    }
+}
+
+fn caller(start: usize, length: usize) -> Entry {
+    Entry {
+        kind: 0x02,
+        value: Value::Text { start, length },
+    }
+}
+
+fn time() -> Entry {
+    Entry {
+        kind: 0x01,
+        value: Value::Date {
+            month: 6,
+            day: 15,
+            hour: 14,
+            minute: 30,
+        },
+    }
+}
+
+fn main() {
+    let texts = b"740912";
+    show(two(0x80, time(), caller(1, 5)), texts);
+    show(one(0x82, code(0x0B, 0xFF)), texts);
+    show(one(0x82, code(0x13, 2)), texts);
+    show(two(0x82, code(0x13, 2), code(0x13, 5)), texts);
+    show(two(0x80, code(0x04, 0x50), caller(0, 1)), texts);
+    show(one(0x81, code(0x13, 2)), texts);
+    show(draft::empty(0x82), texts);
+    show(two(0x82, code(0x13, 2), code(0x0B, 0x80)), texts);
+    show(one(0x80, caller(2, 5)), texts);
+}
