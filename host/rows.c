@@ -1,4 +1,5 @@
-/* Document 01's rows through the archive, as the firmware calls it: whole, octet by octet and cut in two everywhere; and records that are no listener's.
+/* Document 01's rows through the archive, as the firmware calls it: heard whole, octet by octet and cut in two everywhere; read; settled; and records that are
+ * no listener's, no draft's and no desk's.
  * Says how many answers it compared; the first that differs ends it with status 1. */
 #include <stdio.h>
 #include <stdlib.h>
@@ -121,9 +122,70 @@ static void records_that_are_none(void) {
         }
 }
 
+/* the whole read of each row: as the listener, but 8 at the number of octets where it waits, and 7 where octets follow */
+static void read_whole(const struct row *r) {
+    uint8_t o[300], draft[ANTHERCUP_DRAFT], texts[ANTHERCUP_TEXTS], desk[ANTHERCUP_DESK];
+    size_t n = octets_of(r->octets, o);
+    unsigned number = r->number, place = r->place;
+    if (!r->number && !r->size) number = ANTHERCUP_EARLY, place = (unsigned)n;
+    if (r->size && r->size < n) number = ANTHERCUP_FOLLOWED, place = r->size;
+    uint64_t answer = anthercup_read(o, n, draft, sizeof draft, texts, sizeof texts);
+    same(r->octets, anthercup_number(answer), number);
+    same(r->octets, anthercup_place(answer), place);
+    anthercup_new_desk(desk, sizeof desk);
+    answer = anthercup_settle(desk, sizeof desk, o, n);
+    same(r->octets, anthercup_number(answer), number);
+    same(r->octets, anthercup_place(answer), place);
+}
+
+/* document 01's notices on a desk */
+static void notice_is(const char *octets, int waiting, unsigned lamp) {
+    uint8_t o[300], desk[ANTHERCUP_DESK];
+    size_t n = octets_of(octets, o);
+    same("new desk", (unsigned long)anthercup_new_desk(desk, sizeof desk), 0);
+    same(octets, (unsigned long)anthercup_settle(desk, sizeof desk, o, n), 0);
+    same(octets, (unsigned long)anthercup_waiting(desk), (unsigned long)waiting);
+    same(octets, anthercup_lamp(desk), lamp);
+}
+
+/* records of every size around the right one; of desks every value of every octet beside a desk of which nothing is known, and beside one that is full */
+static void other_records(void) {
+    uint8_t o[] = {0x82, 3, 0x13, 1, 2, 0x65}, record[ANTHERCUP_DRAFT + 16], before[sizeof record], texts[ANTHERCUP_TEXTS];
+    for (size_t size = 0; size < sizeof record; size++) {
+        memset(record, 0x5A, sizeof record);
+        uint64_t answer = anthercup_read(o, sizeof o, record, size, texts, sizeof texts);
+        same("the size of a draft", (unsigned long)answer, size == ANTHERCUP_DRAFT ? 0 : ANTHERCUP_RECORD);
+        for (size_t i = size == ANTHERCUP_DRAFT ? size : 0; i < sizeof record; i++) same("a draft that stays", record[i], 0x5A);
+        memset(record, 0, sizeof record);
+        if (size < 64) same("the size of a desk", anthercup_number(anthercup_settle(record, size, o, sizeof o)), size == ANTHERCUP_DESK ? 0 : ANTHERCUP_RECORD);
+        if (size < 64) same("the size of a new desk", anthercup_number(anthercup_new_desk(record, size)), size == ANTHERCUP_DESK ? 0 : ANTHERCUP_RECORD);
+    }
+    for (unsigned full = 0; full < 2; full++)
+        for (size_t at = 0; at < ANTHERCUP_DESK; at++)
+            for (unsigned v = 0; v < 256; v++) {
+                uint8_t desk[ANTHERCUP_DESK] = {(uint8_t)full, full ? 255 : 0, full ? 2 : 0, 0};
+                desk[at] = (uint8_t)v;
+                int good = desk[0] <= 1 && (desk[0] == 1 || desk[1] == 0) && desk[2] <= 2 && desk[3] == 0;
+                memcpy(before, desk, sizeof desk);
+                uint64_t answer = anthercup_settle(desk, sizeof desk, o, sizeof o);
+                same("a desk's codes", (unsigned long)answer, good ? 0 : ANTHERCUP_RECORD);
+                if (good) same("waiting", (unsigned long)anthercup_waiting(desk), 2);
+                else same("a desk that stays", (unsigned long)memcmp(before, desk, sizeof desk), 0);
+            }
+}
+
 int main(void) {
-    for (size_t i = 0; i < sizeof rows / sizeof rows[0]; i++) all_cuttings(&rows[i]);
+    for (size_t i = 0; i < sizeof rows / sizeof rows[0]; i++) {
+        all_cuttings(&rows[i]);
+        read_whole(&rows[i]);
+    }
     records_that_are_none();
+    notice_is("82030B01FF70", -1, ANTHERCUP_LAMP_ON);
+    notice_is("82030B01006F", -1, ANTHERCUP_LAMP_OFF);
+    notice_is("820313010265", 2, ANTHERCUP_LAMP_UNKNOWN);
+    notice_is("820613010213010549", 2, ANTHERCUP_LAMP_UNKNOWN);
+    notice_is("8006040150020137EB", -1, ANTHERCUP_LAMP_UNKNOWN);
+    other_records();
     printf("rows: %lu answers as document 01 has them\n", compared);
     return 0;
 }

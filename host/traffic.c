@@ -24,9 +24,14 @@ static void same(const char *what, const uint8_t *o, size_t n, unsigned long got
     if (got != wanted) differ(what, o, n, got, wanted);
 }
 
+/* what the second reader says of the first n octets, given what it says of all: the answer where it has come by then, else that it waits */
+static struct second_answer at_cut(struct second_answer whole, size_t n) {
+    struct second_answer waits = {SECOND_WAITS, 0, 0, 0, n};
+    return whole.answer != SECOND_WAITS && whole.taken <= n ? whole : waits;
+}
+
 /* the record has been offered o[0..n) since its reset, and took `taken` of them in all */
-static void as_second(const uint8_t *o, size_t n, uint64_t answer, size_t taken) {
-    struct second_answer s = second_listen(o, n);
+static void as_second(const uint8_t *o, size_t n, struct second_answer s, uint64_t answer, size_t taken) {
     same("number", o, n, anthercup_number(answer), s.number);
     same("place", o, n, anthercup_place(answer), s.place);
     same("size", o, n, anthercup_size(answer), s.size);
@@ -35,7 +40,7 @@ static void as_second(const uint8_t *o, size_t n, uint64_t answer, size_t taken)
     same("octet 7", o, n, (unsigned long)(answer >> 56), 0);
 }
 
-static void in_runs(struct traffic *t, const uint8_t *o, size_t n, uint32_t most) {
+static void in_runs(struct traffic *t, const uint8_t *o, size_t n, struct second_answer whole, uint32_t most) {
     uint8_t l[ANTHERCUP_LISTENER];
     size_t at = 0, taken = 0;
     same("reset", o, 0, (unsigned long)anthercup_reset(l, sizeof l), 0);
@@ -45,7 +50,7 @@ static void in_runs(struct traffic *t, const uint8_t *o, size_t n, uint32_t most
         uint64_t answer = anthercup_listen(l, sizeof l, o + at, run);
         at += run;
         taken += anthercup_taken(answer);
-        if (at == n || traffic_number(t, 8) == 0) as_second(o, at, answer, taken);
+        as_second(o, at, traffic_number(t, 32) ? at_cut(whole, at) : second_listen(o, at), answer, taken);
         if (at == n) return;
     }
 }
@@ -122,13 +127,14 @@ static void read_as_second(struct traffic *t, const uint8_t *o, size_t n, size_t
     same("read: the rest of the area", o, n, (unsigned long)memcmp(texts + laid, texts_before + laid, sizeof texts - laid), 0);
 }
 
-/* with room, with every area near the limit, and with records of other sizes */
+/* with room; some with every area near the limit; and with records of other sizes */
 static void reads(struct traffic *t, const uint8_t *o, size_t n) {
     struct second_draft s;
     read_as_second(t, o, n, ANTHERCUP_DRAFT, ANTHERCUP_TEXTS);
-    if (second_read(o, n, ANTHERCUP_TEXTS, &s).number == 0)
+    if (traffic_number(t, 8) == 0 && second_read(o, n, ANTHERCUP_TEXTS, &s).number == 0)
         for (size_t area = s.text_octets < 2 ? 0 : s.text_octets - 2u; area <= s.text_octets + 1u; area++) read_as_second(t, o, n, ANTHERCUP_DRAFT, area);
-    read_as_second(t, o, n, traffic_number(t, 2) ? traffic_number(t, ANTHERCUP_DRAFT) : ANTHERCUP_DRAFT - 2 + traffic_number(t, 5), traffic_number(t, 260));
+    if (traffic_number(t, 4) == 0)
+        read_as_second(t, o, n, traffic_number(t, 2) ? traffic_number(t, ANTHERCUP_DRAFT) : ANTHERCUP_DRAFT - 2 + traffic_number(t, 5), traffic_number(t, 260));
 }
 
 /* what a desk's record shows, as the second reader keeps it */
@@ -168,14 +174,15 @@ static void settles(struct traffic *t, const uint8_t *o, size_t n, uint8_t *desk
 int main(int argc, char **argv) {
     struct traffic t;
     uint8_t o[TRAFFIC_OCTETS], desk[ANTHERCUP_DESK];
-    long messages = argc > 1 ? atol(argv[1]) : 50000;
+    long messages = argc > 1 ? atol(argv[1]) : 200000;
     traffic_start(&t, 1);
     anthercup_new_desk(desk, sizeof desk);
     for (long i = 0; i < messages; i++) {
         size_t n = traffic_next(&t, o);
-        in_runs(&t, o, n, 0);
-        in_runs(&t, o, n, 40);
-        if (i % 8 == 0) in_runs(&t, o, n, 1);
+        struct second_answer whole = second_listen(o, n);
+        in_runs(&t, o, n, whole, 0);
+        in_runs(&t, o, n, whole, 40);
+        if (i % 8 == 0) in_runs(&t, o, n, whole, 1);
         any_record(&t);
         reads(&t, o, n);
         settles(&t, o, n, desk);
