@@ -1,0 +1,5 @@
+-- The root of the proofs.
+pub mod Putting
+pub mod Keys
+pub mod Rows
+pub mod Whole
