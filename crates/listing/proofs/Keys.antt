@@ -1,15 +1,14 @@
 -- The constants of the code are document 01's rows: the types in their order, and the keys where they stand. antt computes one test over all rows.
 -- Assumes nothing.
-use Prim.Native.Nat.{ℕ, zero, suc, _+_, _≤_, _<_}
-use mathlib.Core.Path.{_≡_, refl, ap₂}
-use mathlib.Core.Bool.{Bool, true, false}
-use mathlib.Core.Logic.{_⊎_, inl, inr}
+use Prim.Native.Nat.{ℕ, _+_, _≤_, _<_}
+use mathlib.Core.Path.{_≡_}
+use mathlib.Core.Bool.{Bool}
 use mathlib.Core.List.{List, [], _∷_, _++_}
-use native.Mathlib.Omega.{arith}
-use lib.ListN.{length, getD}
+use lib.ListN.{getD}
 use lib.Dec.{T}
-use Rattle.rules.specs.Tests.{_≤?_, _=?_, _and_, both, le-of, eq-of, of-eq, decide}
+use Rattle.rules.specs.Tests.{_≤?_, _=?_, _and_, both, le-of, eq-of}
 use Rattle.rules.specs.Table.{document01, ascii}
+use Rattle.listing.specs.Tabled.{same, same-is, below, below-at}
 use Rattle.listing.specs.Put.{part}
 use Rattle.listing.specs.Listing.{rowAt}
 
@@ -21,37 +20,6 @@ starts = 0 ∷ 5 ∷ 12 ∷ 19 ∷ 33 ∷ 38 ∷ 50 ∷ 55 ∷ 63 ∷ 73 ∷ 83 
 
 unfoldable pub keys : List ℕ
 keys = ascii "time=caller=called=caller-absent=name=name-absent=lamp=message=depositor=call-type=first-called=waiting=forwarded=user="
-
--- two lists are the same
-unfoldable pub same : List ℕ → List ℕ → Bool
-same [] [] = true
-same [] (y ∷ b) = false
-same (x ∷ a) [] = false
-same (x ∷ a) (y ∷ b) = x =? y and same a b
-
-pub same-is : (a b : List ℕ) → T (same a b) → a ≡ b
-unfolding same
-same-is [] [] t = refl
-same-is [] (y ∷ b) t = absurd t
-same-is (x ∷ a) [] t = absurd t
-same-is (x ∷ a) (y ∷ b) t = let d = both _ _ t in ap₂ _∷_ (eq-of _ _ (d .0)) (same-is a b (d .1))
-
--- a test of each number below n
-unfoldable pub below : (ℕ → Bool) → ℕ → Bool
-below f zero = true
-below f (suc n) = f n and below f n
-
-pub below-at : (f : ℕ → Bool) (n i : ℕ) → T (below f n) → i < n → T (f i)
-unfolding below
-below-at f zero i t h = absurd (omega arith)
-below-at f (suc n) i t h = go (both _ _ t) (decide (i =? n)) (below-at f n i)
-  where
-    go : T (f n) × T (below f n) → T (i =? n) ⊎ (T (i =? n) → ⊥) → (T (below f n) → i < n → T (f i)) → T (f i)
-    go d (inl e) r = let z = eq-of i n e in rw z (d .0)
-    go d (inr e) r = r (d .1) (less (λ z. e (of-eq i n z)))
-      where
-        less : (i ≡ n → ⊥) → i < n
-        less z = omega arith
 
 abbrev test : ℕ → Bool
 test i = (getD kinds i 0 =? rowAt i .kind) and (getD starts i 0 ≤? getD starts (i + 1) 0) and (getD starts (i + 1) 0 ≤? 119) and same (part keys (getD starts i 0) (getD starts (i + 1) 0)) (rowAt i .key ++ ascii "=")

@@ -103,9 +103,12 @@ textOf v = record { octets = v ++ replicate (292 - length v) 0; length = length 
 
 -- ---- for the code: the same from the octets, row by row
 
--- the row of document 01 with a number
+-- the row of document 01 with a number, from 0
+abbrev pub noRow : Row
+noRow = record { kind = 0; class = Carried; rival = 0; key = [] }
+
 unfoldable pub rowAt : ℕ → Row
-rowAt i = getD (document01 .rows) i (record { kind = 0; class = Carried; rival = 0; key = [] })
+rowAt i = getD (document01 .rows) i noRow
 
 -- its line, from where its contents stand
 unfoldable pub partLines : Rules → List ℕ → Row → List Line
