@@ -7,7 +7,7 @@ use mathlib.Core.Bool.{Bool, true, false}
 use mathlib.Core.List.{List, [], _∷_, _++_}
 use mathlib.Core.Option.{Option, none, some}
 use native.Mathlib.Omega.{arith}
-use lib.ListN.{length, length-append, getD}
+use lib.ListN.{length, length-append, getD, replicate}
 use lib.Dec.{T}
 use Rattle.rules.specs.Tests.{_=?_, pick, pick-case, both, either, le-of}
 use Rattle.rules.specs.Octets.{Octets}
@@ -21,8 +21,9 @@ use Rattle.rules.specs.declared.Class.{Class}
 use Rattle.rules.specs.declared.Class.the-variants.{Date, Number, Absent, Name, Lamp, Identity, CallType, Waiting, Forwarded, User, Carried}
 use Rattle.rules.specs.declared.Fault.{Fault}
 use Rattle.message.specs.Parameters.{few}
+use Rattle.listing.specs.declared.Text.{Text}
 use Rattle.listing.specs.Numerals.{decimal, hex, two-digits, three-digits, five-digits}
-use Rattle.listing.specs.Listing.{half, clock, lampWord, stateWord, reference, printed, Line, lineText, written, lineOf, linesFor, rowLines, rowAt, kindLine, carriedLine, linesOf, refusal}
+use Rattle.listing.specs.Listing.{half, clock, lampWord, stateWord, reference, printed, Line, lineText, written, lineOf, linesFor, rowLines, rowAt, kindLine, carriedLine, linesOf, refusal, textOf}
 
 -- ---- values
 
@@ -176,3 +177,8 @@ refusal-short f a b =
     let k : Line = record { key = ascii "refused"; value = decimal (f .number) } in
     let p : Line = record { key = ascii "at"; value = decimal (f .place) } in
     omega (arith, length-append (lineText k) (written (p ∷ [])), line-long k, one-line p, three-digits (f .number) a, three-digits (f .place) b)
+
+-- so a listing lies within its buffer
+pub text-inside : (t : Text) (v : List ℕ) → t ≡ textOf v → t .length ≤ length (t .octets)
+unfolding textOf
+text-inside t v e = omega (arith, ap (λ (x : Text). x .length) e, ap (λ (x : Text). length (x .octets)) e, length-append v (replicate {A = ℕ} (292 - length v) 0))
