@@ -1,0 +1,42 @@
+-- The constants of the code are document 01's rows: the types in their order, and the keys where they stand. antt computes one test over all rows.
+-- Assumes nothing.
+use Prim.Native.Nat.{ℕ, _+_, _≤_, _<_}
+use mathlib.Core.Path.{_≡_}
+use mathlib.Core.Bool.{Bool}
+use mathlib.Core.List.{List, [], _∷_, _++_}
+use lib.ListN.{getD}
+use lib.Dec.{T}
+use Rattle.rules.specs.Tests.{_≤?_, _=?_, _and_, both, le-of, eq-of}
+use Rattle.rules.specs.Table.{document01, ascii}
+use Rattle.listing.specs.Tabled.{same, same-is, below, below-at}
+use Rattle.listing.specs.Put.{part}
+use Rattle.listing.specs.Listing.{rowAt}
+
+unfoldable pub kinds : List ℕ
+kinds = 0x01 ∷ 0x02 ∷ 0x03 ∷ 0x04 ∷ 0x07 ∷ 0x08 ∷ 0x0B ∷ 0x0D ∷ 0x0E ∷ 0x11 ∷ 0x12 ∷ 0x13 ∷ 0x15 ∷ 0x16 ∷ []
+
+unfoldable pub starts : List ℕ
+starts = 0 ∷ 5 ∷ 12 ∷ 19 ∷ 33 ∷ 38 ∷ 50 ∷ 55 ∷ 63 ∷ 73 ∷ 83 ∷ 96 ∷ 104 ∷ 114 ∷ 119 ∷ []
+
+unfoldable pub keys : List ℕ
+keys = ascii "time=caller=called=caller-absent=name=name-absent=lamp=message=depositor=call-type=first-called=waiting=forwarded=user="
+
+abbrev test : ℕ → Bool
+test i = (getD kinds i 0 =? rowAt i .kind) and (getD starts i 0 ≤? getD starts (i + 1) 0) and (getD starts (i + 1) 0 ≤? 119) and same (part keys (getD starts i 0) (getD starts (i + 1) 0)) (rowAt i .key ++ ascii "=")
+
+tested : T (below test 14)
+unfolding below same rowAt document01 ascii kinds starts keys _=?_ _≤?_ _and_
+tested = tt
+
+pub record Key (i : ℕ) : Type 0 where
+  pub kind : getD kinds i 0 ≡ rowAt i .kind
+  pub order : getD starts i 0 ≤ getD starts (i + 1) 0
+  pub ends : getD starts (i + 1) 0 ≤ 119
+  pub key : part keys (getD starts i 0) (getD starts (i + 1) 0) ≡ rowAt i .key ++ ascii "="
+
+pub key-at : (i : ℕ) → i < 14 → Key i
+key-at i h =
+    let d = both _ _ (below-at test 14 i tested h) in
+    let e = both _ _ (d .0) in
+    let f = both _ _ (e .0) in
+    record { kind = eq-of _ _ (f .0); order = le-of _ _ (f .1); ends = le-of _ _ (e .1); key = same-is _ _ (d .1) }

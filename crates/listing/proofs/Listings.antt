@@ -1,0 +1,57 @@
+-- What the promise of `listing` says of any octets, over the written rules.
+-- Assumes nothing.
+use Prim.Native.Nat.{ℕ, _-_, _≤_, _<_}
+use mathlib.Core.Path.{_≡_, refl, sym, _∙_, ap, ap₂, subst}
+use mathlib.Core.Logic.{_↔_}
+use mathlib.Core.List.{List, _++_}
+use mathlib.Core.Option.{Option, some}
+use lib.ListN.{length, take, drop, replicate}
+use lib.Seq.{take-append-seam, drop-append-seam}
+use Rattle.rules.specs.Octets.{Octets}
+use Rattle.rules.specs.Table.{document01, classOf, styleOf}
+use Rattle.rules.specs.ContentLaw.{document01-sound}
+use Rattle.rules.specs.Unique.{document01-told}
+use Rattle.rules.specs.Message as message
+use Rattle.rules.specs.Message.{octets, LegalMessage, Accepts}
+use Rattle.rules.specs.Counting.{counted, carriedIn}
+use Rattle.rules.specs.declared.Fault.{Fault}
+use Rattle.message.specs.declared.Verdict.{Verdict}
+use Rattle.message.specs.declared.Verdict.the-variants.{Accepted, Declined}
+use Rattle.message.specs.Verdict.{verdictOf}
+use Rattle.message.specs.Judges.{judges}
+use Rattle.message.specs.Parameters.{messageIn, message-in}
+use Rattle.listing.specs.declared.Text.{Text}
+use Rattle.listing.specs.Listing.{Line, written, linesOf, listed, refusal, listingOf, textOf}
+use Rattle.listing.proofs.listing.Reads as listing
+
+-- the octets of a listing
+abbrev pub shown : Text → List ℕ
+shown r = take (r .length) (r .octets)
+
+of-text : (v : List ℕ) → (shown (textOf v) ≡ v) × (drop (textOf v .length) (textOf v .octets) ≡ replicate (292 - length v) 0)
+unfolding textOf
+of-text v = (take-append-seam v (replicate (292 - length v) 0), drop-append-seam v (replicate (292 - length v) 0))
+
+module _ (κs : _) (a : _) (r : _) (s : _) (p : listing.Post κs a r s) where
+  -- its octets are the listing, and zeros stand behind them
+  pub lists : shown r ≡ listingOf document01 (a .0 .now)
+  lists = ap shown p ∙ of-text (listingOf document01 (a .0 .now)) .0
+
+  pub zeros-behind : drop (r .length) (r .octets) ≡ replicate (292 - length (listingOf document01 (a .0 .now))) 0
+  zeros-behind = ap (λ (x : Text). drop (x .length) (x .octets)) p ∙ of-text (listingOf document01 (a .0 .now)) .1
+
+  -- of a message's octets: its lines, and nothing else
+  pub lists-message : (m : message.Message) → LegalMessage document01 m → octets m ≡ a .0 .now → shown r ≡ written (linesOf document01 m)
+  unfolding listingOf listed
+  lists-message m l e =
+      let o = a .0 .now in
+      let w : Accepts document01 o = (m, l, e) in
+      let v : verdictOf document01 o ≡ Accepted (length o) = judges o (document01-told .octets o w) .accepted (length o) .1 (refl, w) in
+      lists
+      ∙ ap (λ (x : Verdict). written (listed document01 o x)) v
+      ∙ ap (λ (x : message.Message). written (linesOf document01 x)) (ap messageIn (sym e) ∙ message-in document01 document01-sound m l)
+
+  -- of a refusal: number and place, as the verdict has them
+  pub lists-refusal : (f : Fault) → verdictOf document01 (a .0 .now) ≡ Declined f → shown r ≡ written (refusal f)
+  unfolding listingOf listed
+  lists-refusal f e = lists ∙ ap (λ (x : Verdict). written (listed document01 (a .0 .now) x)) e

@@ -1,0 +1,66 @@
+-- What each function that puts octets owes its callers: words from their tests, texts from copies and single stores.
+-- Assumes nothing.
+use Prim.Native.Nat.{ℕ, suc, _+_, _-_, _≤_, _<_}
+use mathlib.Core.Path.{_≡_, refl, sym, _∙_, ap, ap₂}
+use mathlib.Core.List.{List, [], _∷_, _++_, append-nil}
+use native.Mathlib.Numerals.{add-one}
+use native.Mathlib.Omega.{arith}
+use lib.ListN.{length, length-drop, take, drop, drop-of-length-le, set}
+use lib.Seq.{take-length, take-all, drop-drop, set-split}
+use borrow.Rule.Slice.PartMut.{putMid}
+use Rattle.rules.specs.Tests.{_=?_, pick, pick-yes, pick-not, of-eq, eq-of}
+use Rattle.rules.specs.Table.{ascii}
+use Rattle.listing.specs.Put.{Room, Put, put-whole}
+use Rattle.listing.specs.Listing.{lampWord, stateWord, kindLine, lineText}
+
+-- ---- a text copied over the rest of the area, from a place on
+rest-put : (a : ℕ) (xs ys : List ℕ) → putMid a (length xs - a) xs ys ≡ take a xs ++ ys
+rest-put a xs ys = ap (λ (t : List ℕ). take a xs ++ t) (ap (λ (t : List ℕ). ys ++ t) (drop-of-length-le (drop a xs) {i = length xs - a} (omega (arith, length-drop a xs))) ∙ append-nil ys)
+
+pub copied : (v old last : List ℕ) (at : ℕ) → Room v at old →
+    last ≡ take (length v) v ++ drop (length v) (take (length old - at) (drop at old)) →
+    Put v at old (at + length v) (putMid at (length old - at) old last)
+unfolding Room
+copied v old last at h e =
+    let m : take (length old - at) (drop at old) ≡ drop at old = take-all (length old - at) (drop at old) (omega (arith, length-drop at old)) in
+    put-whole v at old (putMid at (length old - at) old last) h
+    (rest-put at old last
+    ∙ ap (λ (t : List ℕ). take at old ++ t) (e ∙ ap₂ (λ (x y : List ℕ). x ++ drop (length v) y) (take-length v) m ∙ ap (λ (x : List ℕ). v ++ x) (drop-drop (length v) at old)))
+
+-- one octet stored
+pub stored : (x at : ℕ) (old : List ℕ) → Room (x ∷ []) at old → Put (x ∷ []) at old (at + 1) (set old at x)
+unfolding Room
+stored x at old h = put-whole (x ∷ []) at old (set old at x) h (set-split old at x (omega arith) ∙ ap (λ (n : ℕ). take at old ++ x ∷ drop n old) (sym (add-one at)))
+
+-- ---- room for what is the same
+pub room-same : (v w : List ℕ) (at : ℕ) (old : List ℕ) → v ≡ w → Room w at old → Room v at old
+unfolding Room
+room-same v w at old e h = omega (arith, ap length e)
+
+-- ---- words
+pub is-off : (x : ℕ) → x ≡ 0 → ascii "off" ≡ lampWord x
+unfolding lampWord
+is-off x e = sym (pick-yes (x =? 0) (ascii "off") (ascii "on") (of-eq x 0 e))
+
+pub is-on : (x : ℕ) → (x ≡ 0 → ⊥) → ascii "on" ≡ lampWord x
+unfolding lampWord
+is-on x e = sym (pick-not (x =? 0) (ascii "off") (ascii "on") (λ t. e (eq-of x 0 t)))
+
+pub is-unset : (x : ℕ) → x ≡ 0x55 → ascii "unset" ≡ stateWord x
+unfolding stateWord
+is-unset x e = sym (pick-yes (x =? 0x55) (ascii "unset") (lampWord x) (of-eq x 0x55 e))
+
+pub is-set : (x : ℕ) → (x ≡ 0x55 → ⊥) → lampWord x ≡ stateWord x
+unfolding stateWord
+is-set x e = sym (pick-not (x =? 0x55) (ascii "unset") (lampWord x) (λ t. e (eq-of x 0x55 t)))
+
+abbrev kindText : List ℕ → List ℕ
+kindText w = ascii "kind" ++ ascii "=" ++ w ++ ascii "\n"
+
+pub is-call : (x : ℕ) → x ≡ 0x80 → ascii "kind=call\n" ≡ lineText (kindLine x)
+unfolding lineText kindLine ascii
+is-call x e = ap kindText (sym (pick-yes (x =? 0x80) (ascii "call") (ascii "notice") (of-eq x 0x80 e)))
+
+pub is-notice : (x : ℕ) → (x ≡ 0x80 → ⊥) → ascii "kind=notice\n" ≡ lineText (kindLine x)
+unfolding lineText kindLine ascii
+is-notice x e = ap kindText (sym (pick-not (x =? 0x80) (ascii "call") (ascii "notice") (λ t. e (eq-of x 0x80 t))))

@@ -1,0 +1,183 @@
+-- What the functions over rows owe their callers: the line of a row, the lines of the rows so far, and how many parameters are carried.
+-- Assumes nothing.
+use Prim.Native.Nat.{ℕ, zero, suc, _+_, _-_, _≤_, _<_}
+use mathlib.Core.Path.{_≡_, refl, sym, _∙_, ap, ap₂}
+use mathlib.Core.List.{List, [], _∷_, _++_, append-assoc, append-nil}
+use mathlib.Core.Bool.{Bool, true, false}
+use native.Mathlib.Numerals.{add-one}
+use native.Mathlib.Omega.{arith}
+use lib.ListN.{length, length-append, getD, take, drop, take-append-drop}
+use lib.Seq.{take-suc}
+use Rattle.rules.specs.Tests.{pick, picked-by}
+use Rattle.rules.specs.Table.{Rules, Row, document01, listed, rivalOf, ascii}
+use Rattle.rules.specs.Message as message
+use Rattle.rules.specs.Counting.{carriedIn}
+use Rattle.rules.specs.declared.Fault.{Fault}
+use Rattle.message.specs.declared.Found.{Found}
+use Rattle.message.specs.declared.Found.the-variants.{Parameter, Nothing}
+use Rattle.message.specs.declared.Part.{Part}
+use Rattle.message.specs.declared.Part.the-variants.{At, Nowhere}
+use Rattle.message.specs.Walking.{parameterAt, matched, searchFrom, countedAt, partOf}
+use Rattle.message.specs.Searching.{found-inside}
+use Rattle.message.specs.Parameters.{parametersFrom, parametersIn, no-more, none-here, one-here}
+use Rattle.listing.specs.Numerals.{decimal}
+use Rattle.listing.specs.Put.{Room, Put, put-then, put-same, put-none}
+use Rattle.listing.specs.Listing.{Line, lineText, written, lineOf, linesFor, partLines, rowsAt, rowAt, kindLine, carriedLine, linesAt, numberLine, refusal}
+use Rattle.listing.proofs.Keys.{kinds, Key, key-at}
+
+-- ---- where contents stand, they lie inside
+not-at : (s n : ℕ) → Nowhere ≡ At s n → ⊥
+not-at s n e = let z : _≡_ {A = ℕ} 0 1 = cc in omega arith
+
+search-inside : (turns t u : ℕ) (o : List ℕ) (at s n : ℕ) → searchFrom turns t u o at ≡ At s n → s + n ≤ length o
+unfolding searchFrom matched
+search-inside zero t u o at s n e = absurd (not-at s n e)
+search-inside (suc turns) t u o at s n e = go (parameterAt o at) refl (search-inside turns t u o) e
+  where
+    go : (f : Found) → f ≡ parameterAt o at → ((p s n : ℕ) → searchFrom turns t u o p ≡ At s n → s + n ≤ length o) → matched t u f (searchFrom turns t u o) ≡ At s n → s + n ≤ length o
+    go (Parameter k b l) q ih e =
+        picked-by (s + n ≤ length o) _ _ _ _ e
+        (λ _ d. let x : b ≡ s = cc in let y : l ≡ n = cc in omega (arith, found-inside o at (Parameter k b l) k b l q refl))
+        (λ _ d. picked-by (s + n ≤ length o) _ _ _ _ d (λ _ z. absurd (not-at s n z)) (λ _ z. ih (b + l) s n z))
+    go Nothing q ih e = absurd (not-at s n e)
+
+pub part-inside : (o : List ℕ) (t : ℕ) (p : Part) (s n : ℕ) → p ≡ countedAt o t → p ≡ At s n → s + n ≤ length o
+unfolding countedAt
+part-inside o t p s n e q =
+    picked-by (s + n ≤ length o) _ _ _ _ (sym e ∙ q) (λ _ d. search-inside (length o) t (rivalOf document01 t) o 2 s n d) (λ _ d. absurd (not-at s n d))
+
+-- ---- the line of a row
+one-line : (l : Line) → written (l ∷ []) ≡ lineText l
+unfolding written
+one-line l = append-nil (lineText l)
+
+module _ (o : List ℕ) (i : ℕ) (h : i < 14) (p : Part) (e : p ≡ countedAt o (getD kinds i 0)) where
+  stands : partLines document01 o (rowAt i) ≡ linesFor document01 (rowAt i) (partOf o p)
+  unfolding partLines
+  stands = ap (λ (x : Part). linesFor document01 (rowAt i) (partOf o x)) (ap (countedAt o) (sym (key-at i h .kind)) ∙ sym e)
+
+  pub row-line : (s n : ℕ) → p ≡ At s n → lineText (lineOf document01 (rowAt i) (take (s + n - s) (drop s o))) ≡ written (partLines document01 o (rowAt i))
+  unfolding linesFor partOf
+  row-line s n q =
+      let z : s + n - s ≡ n = omega arith in
+      ap (λ (k : ℕ). lineText (lineOf document01 (rowAt i) (take k (drop s o)))) z
+      ∙ sym (one-line (lineOf document01 (rowAt i) (take n (drop s o))))
+      ∙ ap written (sym (stands ∙ ap (λ (x : Part). linesFor document01 (rowAt i) (partOf o x)) q))
+
+  pub row-none : p ≡ Nowhere → [] ≡ written (partLines document01 o (rowAt i))
+  unfolding linesFor partOf written
+  row-none q = ap written (sym (stands ∙ ap (λ (x : Part). linesFor document01 (rowAt i) (partOf o x)) q))
+
+-- ---- line after line
+pub written-append : (a b : List Line) → written (a ++ b) ≡ written a ++ written b
+unfolding written
+written-append [] b = refl
+written-append (l ∷ a) b = ap (λ (v : List ℕ). lineText l ++ v) (written-append a b) ∙ sym (append-assoc (lineText l) (written a) (written b))
+
+abbrev rows : List Row
+rows = document01 .rows
+
+module _ (o : List ℕ) where
+  -- the text of some rows
+  abbrev textAt : List Row → List ℕ
+  textAt rs = written (rowsAt document01 o rs)
+
+  rows-append : (a b : List Row) → textAt (a ++ b) ≡ textAt a ++ textAt b
+  unfolding rowsAt written
+  rows-append [] b = refl
+  rows-append (r ∷ a) b =
+      written-append (partLines document01 o r) (rowsAt document01 o (a ++ b))
+      ∙ ap (λ (v : List ℕ). written (partLines document01 o r) ++ v) (rows-append a b)
+      ∙ sym (append-assoc (written (partLines document01 o r)) (textAt a) (textAt b))
+      ∙ ap (λ (v : List ℕ). v ++ textAt b) (sym (written-append (partLines document01 o r) (rowsAt document01 o a)))
+
+  row-alone : (r : Row) → textAt (r ∷ []) ≡ written (partLines document01 o r)
+  unfolding rowsAt
+  row-alone r = ap written (append-nil (partLines document01 o r))
+
+  fourteen : length rows ≡ 14
+  unfolding document01
+  fourteen = refl
+
+  pub row-next : (i : ℕ) → i < 14 → textAt (take (i + 1) rows) ≡ textAt (take i rows) ++ written (partLines document01 o (rowAt i))
+  unfolding rowAt
+  row-next i h =
+      ap (λ (n : ℕ). textAt (take n rows)) (add-one i)
+      ∙ ap textAt (take-suc rows i _ (omega (arith, fourteen)))
+      ∙ rows-append (take i rows) (rowAt i ∷ [])
+      ∙ ap (λ (v : List ℕ). textAt (take i rows) ++ v) (row-alone (rowAt i))
+
+  module _ (at : ℕ) (old : List ℕ) where
+    pub no-rows : Put (textAt (take 0 rows)) at old at old
+    unfolding rowsAt written
+    no-rows = put-none at old
+
+    module _ (i : ℕ) (h : i < 14) (end : ℕ) (now : List ℕ) (p : Put (textAt (take i rows)) at old end now) where
+      pub row-room : Room (textAt rows) at old → Room (written (partLines document01 o (rowAt i))) end now
+      unfolding Room
+      row-room r =
+          let a = ap length (sym (rows-append (take (i + 1) rows) (drop (i + 1) rows)) ∙ ap textAt (take-append-drop (i + 1) rows)) in
+          let b = length-append (textAt (take (i + 1) rows)) (textAt (drop (i + 1) rows)) in
+          let d = ap length (row-next i h) ∙ length-append (textAt (take i rows)) (written (partLines document01 o (rowAt i))) in
+          omega (arith, p .ends, p .long)
+
+      pub row-more : (last : ℕ) (next : List ℕ) → Put (written (partLines document01 o (rowAt i))) end now last next → Put (textAt (take (i + 1) rows)) at old last next
+      row-more last next q = put-same _ _ at old last next (sym (row-next i h)) (put-then _ _ at old end now last next p q)
+
+    pub all-rows : (i end : ℕ) (now : List ℕ) → i ≤ 14 → 14 ≤ i → Put (textAt (take i rows)) at old end now → Put (textAt rows) at old end now
+    unfolding document01
+    all-rows i end now a b p = let z : i ≡ 14 = omega arith in put-same _ _ at old end now (ap (λ (n : ℕ). textAt (take n rows)) z) p
+
+-- ---- how many are carried
+module _ (o : List ℕ) where
+  abbrev pub Counted : ℕ → ℕ → ℕ → Type 0
+  Counted count at turns = (count + carriedIn document01 (parametersFrom turns o at) ≡ carriedIn document01 (parametersIn o)) × (count + turns ≤ 85)
+
+  pub none-counted : Counted 0 2 85
+  unfolding parametersIn
+  none-counted = (omega arith, omega arith)
+
+  one-more : (b : Bool) (n : ℕ) → pick b n (suc n) ≡ pick b 0 1 + n
+  unfolding pick
+  one-more true n = omega arith
+  one-more false n = omega arith
+
+  few : (b : Bool) → pick b 0 1 ≤ 1
+  unfolding pick
+  few true = omega arith
+  few false = omega arith
+
+  module _ (count at turns : ℕ) (i : Counted count at turns) where
+    module _ (h : 0 < turns) (k s n x : ℕ) (e : Parameter k s n ≡ parameterAt o at) (d : x ≡ pick (listed document01 k) 0 1) where
+      pub counted-small : count + x ≤ 85
+      counted-small = omega (arith, few (listed document01 k), i .1)
+
+      pub counted-more : Counted (count + x) (s + n) (turns - 1)
+      unfolding carriedIn
+      counted-more =
+          let p = ap (carriedIn document01) (one-here turns o at h k s n e) ∙ one-more (listed document01 k) (carriedIn document01 (parametersFrom (turns - 1) o (s + n))) in
+          (omega (arith, i .0), omega (arith, i .1, few (listed document01 k)))
+
+    pub counted-none : 0 < turns → Nothing ≡ parameterAt o at → count ≡ carriedIn document01 (parametersIn o)
+    unfolding carriedIn
+    counted-none h e = let p = ap (carriedIn document01) (none-here turns o at h e) in omega (arith, i .0)
+
+    pub counted-end : turns ≤ 0 → count ≡ carriedIn document01 (parametersIn o)
+    unfolding carriedIn
+    counted-end h = let p = ap (carriedIn document01) (no-more turns o at h) in omega (arith, i .0)
+
+-- ---- the whole text
+pub carried-line : (n : ℕ) → numberLine (ascii "carried=") n ≡ written (carriedLine n ∷ [])
+unfolding numberLine written carriedLine lineText ascii
+carried-line n = sym (append-nil (ascii "carried=" ++ decimal n ++ ascii "\n"))
+
+pub message-text : (o : List ℕ) (x n : ℕ) → x ≡ getD o 0 0 → n ≡ carriedIn document01 (parametersIn o) → lineText (kindLine x) ++ written (rowsAt document01 o rows) ++ numberLine (ascii "carried=") n ≡ written (linesAt document01 o)
+unfolding linesAt written
+message-text o x n e d =
+    append-assoc (lineText (kindLine x)) (written (rowsAt document01 o rows)) (numberLine (ascii "carried=") n)
+    ∙ ap₂ (λ (k : ℕ) (v : List ℕ). lineText (kindLine k) ++ v) e
+    (ap (λ (v : List ℕ). written (rowsAt document01 o rows) ++ v) (ap (λ (k : ℕ). numberLine (ascii "carried=") k) d ∙ carried-line (carriedIn document01 (parametersIn o))) ∙ sym (written-append (rowsAt document01 o rows) (carriedLine (carriedIn document01 (parametersIn o)) ∷ [])))
+
+pub refusal-text : (f : Fault) → numberLine (ascii "refused=") (f .number) ++ numberLine (ascii "at=") (f .place) ≡ written (refusal f)
+unfolding refusal written lineText numberLine ascii
+refusal-text f = ap (λ (v : List ℕ). numberLine (ascii "refused=") (f .number) ++ v) (sym (append-nil (numberLine (ascii "at=") (f .place))))

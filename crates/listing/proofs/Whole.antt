@@ -1,0 +1,86 @@
+-- What `listing` owes its callers: the lines from an accepted message's octets are those of the message that they are, and they fit the buffer.
+-- Assumes nothing.
+use Prim.Native.Nat.{ℕ, _+_, _-_, _≤_, _<_}
+use mathlib.Core.Path.{_≡_, refl, sym, _∙_, ap, ap₂, subst}
+use mathlib.Core.List.{List, [], _∷_, _++_}
+use mathlib.Core.Option.{Option}
+use native.Mathlib.Omega.{arith}
+use lib.ListN.{length, getD, drop, replicate, length-replicate, replicate-append-replicate}
+use lib.Seq.{drop-at}
+use Rattle.rules.specs.Octets.{Octets}
+use Rattle.rules.specs.Table.{Row, document01}
+use Rattle.rules.specs.ContentLaw.{document01-sound}
+use Rattle.rules.specs.Message as message
+use Rattle.rules.specs.Message.{octets, LegalMessage, Accepts}
+use Rattle.rules.specs.Counting.{counted, carriedIn}
+use Rattle.rules.specs.declared.Fault.{Fault}
+use Rattle.message.specs.declared.Verdict.{Verdict}
+use Rattle.message.specs.declared.Verdict.the-variants.{Accepted, Declined}
+use Rattle.message.specs.Verdict.{verdictOf}
+use Rattle.message.specs.Judges.{judges}
+use Rattle.message.specs.Walking.{countedAt, partOf}
+use Rattle.message.specs.Searching.{counted-part}
+use Rattle.message.specs.Parameters.{parametersIn, messageIn, message-in}
+use Rattle.listing.specs.declared.Text.{Text}
+use Rattle.listing.specs.Put.{Room, Put, put-first}
+use Rattle.listing.specs.Listing.{Line, written, kindLine, carriedLine, linesFor, rowLines, linesOf, partLines, rowsAt, linesAt, listed, refusal, listingOf, textOf}
+use Rattle.listing.specs.Longest.{longest, refusal-short}
+
+-- ---- the rows from the octets, and from the message
+rows-same : (o : List ℕ) (m : message.Message) → ((t : ℕ) → partOf o (countedAt o t) ≡ counted document01 m t) → (rs : List Row) → rowsAt document01 o rs ≡ rowLines document01 m rs
+unfolding rowsAt rowLines partLines
+rows-same o m e [] = refl
+rows-same o m e (r ∷ rs) = ap₂ (λ (x : Option (List ℕ)) (ls : List Line). linesFor document01 r x ++ ls) (e (r .kind)) (rows-same o m e rs)
+
+lines-same : (m : message.Message) → LegalMessage document01 m → linesAt document01 (octets m) ≡ linesOf document01 (messageIn (octets m))
+unfolding linesAt linesOf messageIn
+lines-same m l =
+    ap (λ (ls : List Line). kindLine (getD (octets m) 0 0) ∷ (ls ++ carriedLine (carriedIn document01 (parametersIn (octets m))) ∷ []))
+    (rows-same (octets m) (messageIn (octets m)) (λ t. counted-part m t ∙ ap (λ (x : message.Message). counted document01 x t) (sym (message-in document01 document01-sound m l))) (document01 .rows))
+
+pub record Lists (o v : List ℕ) : Type 0 where
+  pub is : v ≡ listingOf document01 o
+  pub short : length v ≤ 292
+
+module _ (o : List ℕ) (q : Octets o) (v : Verdict) (e : v ≡ verdictOf document01 o) where
+  pub lists-message : (n : ℕ) → v ≡ Accepted n → Lists o (written (linesAt document01 o))
+  unfolding listingOf listed
+  lists-message n d = go (judges o q .accepted n .0 (sym e ∙ d) .1)
+    where
+      go : Accepts document01 o → Lists o (written (linesAt document01 o))
+      go a =
+          let m = a .0 in
+          let l = a .1 in
+          let s : linesAt document01 o ≡ linesOf document01 (messageIn o) = subst (λ (x : List ℕ). linesAt document01 x ≡ linesOf document01 (messageIn x)) (a .2) (lines-same m l) in
+          let k : messageIn o ≡ m = ap messageIn (sym (a .2)) ∙ message-in document01 document01-sound m l in
+          record {
+            is = ap written s ∙ ap (λ (x : Verdict). written (listed document01 o x)) (sym d ∙ e);
+            short = omega (arith, longest m l, ap (λ (ls : List Line). length (written ls)) (s ∙ ap (linesOf document01) k));
+          }
+
+  pub lists-refusal : (f : Fault) → v ≡ Declined f → Lists o (written (refusal f))
+  unfolding listingOf listed
+  lists-refusal f d =
+      let j = judges o q in
+      record {
+        is = ap (λ (x : Verdict). written (listed document01 o x)) (sym d ∙ e);
+        short = refusal-short f (omega (arith, j .numbers f (sym e ∙ d) .1)) (omega (arith, j .near f (sym e ∙ d)));
+      }
+
+-- ---- in the buffer
+zeros : (n k z : ℕ) → n ≤ k → drop n (replicate k z) ≡ replicate (k - n) z
+zeros n k z h =
+    let e : n + (k - n) ≡ k = omega arith in
+    ap (drop n) (sym (replicate-append-replicate n (k - n) z ∙ ap (λ (x : ℕ). replicate x z) e)) ∙ drop-at (replicate n z) (replicate (k - n) z) n (length-replicate n z)
+
+module _ (o v : List ℕ) (l : Lists o v) where
+  pub listing-room : Room v 0 (replicate 292 0)
+  unfolding Room
+  listing-room = omega (arith, l .short, length-replicate {A = ℕ} 292 0)
+
+  pub listing-text : (end : ℕ) (new : List ℕ) → Put v 0 (replicate 292 0) end new → (record { octets = new; length = end }) ≡ textOf (listingOf document01 o)
+  unfolding textOf
+  listing-text end new p =
+      let n : end ≡ length v = omega (arith, p .ends) in
+      let w : new ≡ v ++ replicate (292 - length v) 0 = put-first v (replicate 292 0) end new p ∙ ap (λ (x : List ℕ). v ++ x) (zeros (length v) 292 0 (l .short)) in
+      (λ i. record { octets = w i; length = n i }) ∙ ap textOf (l .is)

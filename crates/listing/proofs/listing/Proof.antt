@@ -1,0 +1,49 @@
+-- `listing::listing` meets its contract: the verdict, and then its lines, in a buffer that has room for them.
+-- Assumes nothing.
+use native.Mathlib.Omega.{arith}
+use Rattle.rules.specs.Octets.{octets-at}
+use Rattle.listing.proofs.Whole.{lists-message, lists-refusal, listing-room, listing-text}
+use borrow.Author.Needs.{needs}
+use Rattle.listing.proofs.listing.Statement.{statement}
+use Rattle.listing.proofs.listing.Tie as tie
+
+judge-requires : tie.Need-judge-requires
+judge-requires c κs = search needs
+
+enum-told : tie.Need-enum-told
+enum-told c = search needs
+
+slice-aggregate-put-message : tie.Need-slice-aggregate-put-message
+slice-aggregate-put-message c = search needs
+
+put-message-requires : tie.Need-put-message-requires
+put-message-requires c κs = listing-room _ _ (lists-message (c .before .before .before .before .before .args .octets .now) (octets-at (c .before .before .before .before .before .args .octets .now) (λ i. omega (arith, c .before .before .before .before .shared-slice-known .given i))) _ (c .before .before .before .judge .ensures) _ (c .before .enum-told .given .1))
+
+enum-known-verdict : tie.Need-enum-known-verdict
+enum-known-verdict c = search needs
+
+slice-aggregate-put-refusal : tie.Need-slice-aggregate-put-refusal
+slice-aggregate-put-refusal c = search needs
+
+put-refusal-requires : tie.Need-put-refusal-requires
+put-refusal-requires c κs = listing-room _ _ (lists-refusal (c .before .before .before .before .before .before .args .octets .now) (octets-at (c .before .before .before .before .before .before .args .octets .now) (λ i. omega (arith, c .before .before .before .before .before .shared-slice-known .given i))) _ (c .before .before .before .before .judge .ensures) _ (c .before .before .verdict .given .1))
+
+returns : tie.Need-returns
+returns c = listing-text _ _ (lists-message (c .before .before .before .before .before .before .before .args .octets .now) (octets-at (c .before .before .before .before .before .before .before .args .octets .now) (λ i. omega (arith, c .before .before .before .before .before .before .shared-slice-known .given i))) _ (c .before .before .before .before .before .judge .ensures) _ (c .before .before .before .enum-told .given .1)) _ _ (c .before .put-message .ensures)
+
+returns-2 : tie.Need-returns-2
+returns-2 c = listing-text _ _ (lists-refusal (c .before .before .before .before .before .before .before .before .args .octets .now) (octets-at (c .before .before .before .before .before .before .before .before .args .octets .now) (λ i. omega (arith, c .before .before .before .before .before .before .before .shared-slice-known .given i))) _ (c .before .before .before .before .before .before .judge .ensures) _ (c .before .before .before .before .verdict .given .1)) _ _ (c .before .put-refusal .ensures)
+
+pub listing-spec : {M : Type 1} → statement M
+listing-spec =
+    tie.close
+    (tie.spec
+    judge-requires
+    enum-told
+    slice-aggregate-put-message
+    put-message-requires
+    enum-known-verdict
+    slice-aggregate-put-refusal
+    put-refusal-requires
+    returns
+    returns-2)

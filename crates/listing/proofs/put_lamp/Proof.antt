@@ -1,0 +1,49 @@
+-- `listing::put_lamp` meets its contract.
+-- Assumes nothing.
+use Rattle.listing.specs.Put.{put-same}
+use Rattle.listing.proofs.Putting.{room-same, is-off, is-on}
+use Rattle.rules.specs.Table.{ascii}
+use borrow.Author.Needs.{needs}
+use Rattle.listing.proofs.put_lamp.Statement.{statement}
+use Rattle.listing.proofs.put_lamp.Tie as tie
+
+slice-aggregate-put : tie.Need-slice-aggregate-put
+slice-aggregate-put c = search needs
+
+put-requires : tie.Need-put-requires
+unfolding ascii
+put-requires c κs = room-same _ _ _ _ (is-off (c .before .before .before .before .args .x) (c .before .before .if1 .taken)) (c .before .before .before .before .pre)
+
+slice-aggregate-put-2 : tie.Need-slice-aggregate-put-2
+slice-aggregate-put-2 c = search needs
+
+put-requires-2 : tie.Need-put-requires-2
+unfolding ascii
+put-requires-2 c κs = room-same _ _ _ _ (is-on (c .before .before .before .before .args .x) (c .before .before .if1 .left)) (c .before .before .before .before .pre)
+
+same-length : tie.Need-same-length
+same-length c = search needs
+
+returns : tie.Need-returns
+unfolding ascii
+returns c = put-same _ _ _ _ _ _ (is-off (c .before .before .before .before .before .before .before .args .x) (c .before .before .before .before .before .if1 .taken)) (c .before .before .put .ensures)
+
+same-length-2 : tie.Need-same-length-2
+same-length-2 c = search needs
+
+returns-2 : tie.Need-returns-2
+unfolding ascii
+returns-2 c = put-same _ _ _ _ _ _ (is-on (c .before .before .before .before .before .before .before .args .x) (c .before .before .before .before .before .if1 .left)) (c .before .before .put2 .ensures)
+
+pub put-lamp-spec : {M : Type 1} → statement M
+put-lamp-spec =
+    tie.close
+    (tie.spec
+    slice-aggregate-put
+    put-requires
+    slice-aggregate-put-2
+    put-requires-2
+    same-length
+    returns
+    same-length-2
+    returns-2)

@@ -1,0 +1,55 @@
+-- `listing::put_message` meets its contract: the kind, the rows and the number of carried parameters, one behind the other.
+-- Assumes nothing.
+use mathlib.Core.Path.{refl, ap}
+use mathlib.Core.List.{_++_}
+use Rattle.listing.specs.Put.{put-then, put-same, room-left, room-then}
+use Rattle.listing.proofs.Putting.{room-same}
+use Rattle.listing.proofs.Rows.{message-text}
+use Rattle.listing.specs.Listing.{kindLine, lineText, rowsAt, written, numberLine}
+use Rattle.rules.specs.Table.{document01, ascii}
+use Rattle.rules.specs.Counting.{carriedIn}
+use Rattle.message.specs.Parameters.{parametersIn}
+use borrow.Author.Needs.{needs}
+use Rattle.listing.proofs.put_message.Statement.{statement}
+use Rattle.listing.proofs.put_message.Tie as tie
+
+octet-requires : tie.Need-octet-requires
+octet-requires c κs = search needs
+
+put-kind-requires : tie.Need-put-kind-requires
+unfolding ascii
+put-kind-requires c κs = room-left (lineText (kindLine (c .before .octet .result))) (written (rowsAt document01 (c .before .before .before .before .args .octets .now) (document01 .rows))) _ _ (room-left ((lineText (kindLine (c .before .octet .result))) ++ (written (rowsAt document01 (c .before .before .before .before .args .octets .now) (document01 .rows)))) (numberLine (ascii "carried=") (carriedIn document01 (parametersIn (c .before .before .before .before .args .octets .now)))) _ _ (room-same _ _ _ _ (message-text (c .before .before .before .before .args .octets .now) (c .before .octet .result) (carriedIn document01 (parametersIn (c .before .before .before .before .args .octets .now))) (c .before .octet .ensures) refl) (c .before .before .before .before .pre)))
+
+put-rows-requires : tie.Need-put-rows-requires
+unfolding ascii
+put-rows-requires c κs = room-then (lineText (kindLine (c .before .before .before .before .before .octet .result))) (written (rowsAt document01 (c .before .before .before .before .before .before .before .before .args .octets .now) (document01 .rows))) _ _ _ _ (room-left ((lineText (kindLine (c .before .before .before .before .before .octet .result))) ++ (written (rowsAt document01 (c .before .before .before .before .before .before .before .before .args .octets .now) (document01 .rows)))) (numberLine (ascii "carried=") (carriedIn document01 (parametersIn (c .before .before .before .before .before .before .before .before .args .octets .now)))) _ _ (room-same _ _ _ _ (message-text (c .before .before .before .before .before .before .before .before .args .octets .now) (c .before .before .before .before .before .octet .result) (carriedIn document01 (parametersIn (c .before .before .before .before .before .before .before .before .args .octets .now))) (c .before .before .before .before .before .octet .ensures) refl) (c .before .before .before .before .before .before .before .before .pre))) (c .before .before .before .put-kind .ensures)
+
+slice-aggregate-put-number : tie.Need-slice-aggregate-put-number
+slice-aggregate-put-number c = search needs
+
+carried-requires : tie.Need-carried-requires
+carried-requires c κs = search needs
+
+put-number-requires : tie.Need-put-number-requires
+unfolding ascii
+put-number-requires c κs = room-same _ _ _ _ (ap (numberLine (ascii "carried=")) (c .before .carried .ensures)) (room-then ((lineText (kindLine (c .before .before .before .before .before .before .before .before .before .before .before .octet .result))) ++ (written (rowsAt document01 (c .before .before .before .before .before .before .before .before .before .before .before .before .before .before .args .octets .now) (document01 .rows)))) (numberLine (ascii "carried=") (carriedIn document01 (parametersIn (c .before .before .before .before .before .before .before .before .before .before .before .before .before .before .args .octets .now)))) _ _ _ _ (room-same _ _ _ _ (message-text (c .before .before .before .before .before .before .before .before .before .before .before .before .before .before .args .octets .now) (c .before .before .before .before .before .before .before .before .before .before .before .octet .result) (carriedIn document01 (parametersIn (c .before .before .before .before .before .before .before .before .before .before .before .before .before .before .args .octets .now))) (c .before .before .before .before .before .before .before .before .before .before .before .octet .ensures) refl) (c .before .before .before .before .before .before .before .before .before .before .before .before .before .before .pre)) (put-then _ _ _ _ _ _ _ _ (c .before .before .before .before .before .before .before .before .before .put-kind .ensures) (c .before .before .before .before .before .put-rows .ensures)))
+
+same-length : tie.Need-same-length
+same-length c = search needs
+
+returns : tie.Need-returns
+unfolding ascii
+returns c = put-same _ _ _ _ _ _ (message-text (c .before .before .before .before .before .before .before .before .before .before .before .before .before .before .before .before .before .args .octets .now) _ _ (c .before .before .before .before .before .before .before .before .before .before .before .before .before .before .octet .ensures) (c .before .before .before .before .carried .ensures)) (put-then _ _ _ _ _ _ _ _ (put-then _ _ _ _ _ _ _ _ (c .before .before .before .before .before .before .before .before .before .before .before .before .put-kind .ensures) (c .before .before .before .before .before .before .before .before .put-rows .ensures)) (c .before .before .put-number .ensures))
+
+pub put-message-spec : {M : Type 1} → statement M
+put-message-spec =
+    tie.close
+    (tie.spec
+    octet-requires
+    put-kind-requires
+    put-rows-requires
+    slice-aggregate-put-number
+    carried-requires
+    put-number-requires
+    same-length
+    returns)

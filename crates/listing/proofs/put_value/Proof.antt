@@ -1,0 +1,231 @@
+-- `listing::put_value` meets its contract: each class in its style.
+-- Assumes nothing.
+use mathlib.Core.Path.{sym, _∙_, ap}
+use lib.ListN.{getD}
+use Rattle.listing.specs.Put.{put-same, put-none}
+use Rattle.listing.proofs.Putting.{room-same}
+use Rattle.listing.specs.Listing.{printed, lampWord}
+use Rattle.listing.specs.Numerals.{decimal, hex}
+use Rattle.rules.specs.Table.{styleOf}
+use Rattle.rules.specs.declared.Class.{Class}
+use borrow.Author.Needs.{needs}
+use Rattle.listing.proofs.put_value.Statement.{statement}
+use Rattle.listing.proofs.put_value.Tie as tie
+
+enum-told : tie.Need-enum-told
+enum-told c = search needs
+
+put-clock-requires : tie.Need-put-clock-requires
+unfolding printed styleOf
+put-clock-requires c κs = room-same _ _ _ _ (ap (λ (k : Class). printed (styleOf k) (c .before .before .before .before .before .args .contents .now)) (sym (c .before .enum-told .given .1))) (c .before .before .before .before .before .pre)
+
+enum-told-2 : tie.Need-enum-told-2
+enum-told-2 c = search needs
+
+put-requires : tie.Need-put-requires
+unfolding printed styleOf
+put-requires c κs = room-same _ _ _ _ (ap (λ (k : Class). printed (styleOf k) (c .before .before .before .before .before .args .contents .now)) (sym (c .before .enum-told2 .given .1))) (c .before .before .before .before .before .pre)
+
+enum-told-3 : tie.Need-enum-told-3
+enum-told-3 c = search needs
+
+put-requires-2 : tie.Need-put-requires-2
+unfolding printed styleOf
+put-requires-2 c κs = room-same _ _ _ _ (ap (λ (k : Class). printed (styleOf k) (c .before .before .before .before .before .args .contents .now)) (sym (c .before .enum-told3 .given .1))) (c .before .before .before .before .before .pre)
+
+enum-told-4 : tie.Need-enum-told-4
+enum-told-4 c = search needs
+
+put-requires-3 : tie.Need-put-requires-3
+unfolding printed styleOf
+put-requires-3 c κs = room-same _ _ _ _ (ap (λ (k : Class). printed (styleOf k) (c .before .before .before .before .before .args .contents .now)) (sym (c .before .enum-told4 .given .1))) (c .before .before .before .before .before .pre)
+
+enum-told-5 : tie.Need-enum-told-5
+enum-told-5 c = search needs
+
+octet-requires : tie.Need-octet-requires
+octet-requires c κs = search needs
+
+put-lamp-requires : tie.Need-put-lamp-requires
+unfolding printed styleOf
+put-lamp-requires c κs = room-same _ _ _ _ (ap lampWord (c .before .octet .ensures) ∙ ap (λ (k : Class). printed (styleOf k) (c .before .before .before .before .before .before .args .contents .now)) (sym (c .before .before .enum-told5 .given .1))) (c .before .before .before .before .before .before .pre)
+
+enum-told-6 : tie.Need-enum-told-6
+enum-told-6 c = search needs
+
+put-identity-requires : tie.Need-put-identity-requires
+unfolding printed styleOf
+put-identity-requires c κs = room-same _ _ _ _ (ap (λ (k : Class). printed (styleOf k) (c .before .before .before .before .before .args .contents .now)) (sym (c .before .enum-told6 .given .1))) (c .before .before .before .before .before .pre)
+
+enum-told-7 : tie.Need-enum-told-7
+enum-told-7 c = search needs
+
+octet-requires-2 : tie.Need-octet-requires-2
+octet-requires-2 c κs = search needs
+
+put-hex-requires : tie.Need-put-hex-requires
+unfolding printed styleOf
+put-hex-requires c κs = room-same _ _ _ _ (ap hex (c .before .octet2 .ensures) ∙ ap (λ (k : Class). printed (styleOf k) (c .before .before .before .before .before .before .args .contents .now)) (sym (c .before .before .enum-told7 .given .1))) (c .before .before .before .before .before .before .pre)
+
+enum-told-8 : tie.Need-enum-told-8
+enum-told-8 c = search needs
+
+octet-requires-3 : tie.Need-octet-requires-3
+octet-requires-3 c κs = search needs
+
+cast-put-decimal : tie.Need-cast-put-decimal
+cast-put-decimal c = search needs
+
+put-decimal-requires : tie.Need-put-decimal-requires
+unfolding printed styleOf
+put-decimal-requires c κs = room-same _ _ _ _ (ap decimal (c .before .octet3 .ensures) ∙ ap (λ (k : Class). printed (styleOf k) (c .before .before .before .before .before .before .args .contents .now)) (sym (c .before .before .enum-told8 .given .1))) (c .before .before .before .before .before .before .pre)
+
+enum-told-9 : tie.Need-enum-told-9
+enum-told-9 c = search needs
+
+octet-requires-4 : tie.Need-octet-requires-4
+octet-requires-4 c κs = search needs
+
+put-hex-requires-2 : tie.Need-put-hex-requires-2
+unfolding printed styleOf
+put-hex-requires-2 c κs = room-same _ _ _ _ (ap hex (c .before .octet4 .ensures) ∙ ap (λ (k : Class). printed (styleOf k) (c .before .before .before .before .before .before .args .contents .now)) (sym (c .before .before .enum-told9 .given .1))) (c .before .before .before .before .before .before .pre)
+
+enum-told-10 : tie.Need-enum-told-10
+enum-told-10 c = search needs
+
+octet-requires-5 : tie.Need-octet-requires-5
+octet-requires-5 c κs = search needs
+
+put-hex-requires-3 : tie.Need-put-hex-requires-3
+unfolding printed styleOf
+put-hex-requires-3 c κs = room-same _ _ _ _ (ap hex (c .before .octet5 .ensures) ∙ ap (λ (k : Class). printed (styleOf k) (c .before .before .before .before .before .before .args .contents .now)) (sym (c .before .before .enum-told10 .given .1))) (c .before .before .before .before .before .before .pre)
+
+enum-told-11 : tie.Need-enum-told-11
+enum-told-11 c = search needs
+
+same-length : tie.Need-same-length
+same-length c = search needs
+
+returns : tie.Need-returns
+unfolding printed styleOf
+returns c = put-same _ _ _ _ _ _ (ap (λ (k : Class). printed (styleOf k) (c .before .before .before .before .before .before .before .before .args .contents .now)) (sym (c .before .before .before .before .enum-told .given .1))) (c .before .before .put-clock .ensures)
+
+same-length-2 : tie.Need-same-length-2
+same-length-2 c = search needs
+
+returns-2 : tie.Need-returns-2
+unfolding printed styleOf
+returns-2 c = put-same _ _ _ _ _ _ (ap (λ (k : Class). printed (styleOf k) (c .before .before .before .before .before .before .before .before .args .contents .now)) (sym (c .before .before .before .before .enum-told2 .given .1))) (c .before .before .put .ensures)
+
+same-length-3 : tie.Need-same-length-3
+same-length-3 c = search needs
+
+returns-3 : tie.Need-returns-3
+unfolding printed styleOf
+returns-3 c = put-same _ _ _ _ _ _ (ap (λ (k : Class). printed (styleOf k) (c .before .before .before .before .before .before .before .before .args .contents .now)) (sym (c .before .before .before .before .enum-told3 .given .1))) (c .before .before .put2 .ensures)
+
+same-length-4 : tie.Need-same-length-4
+same-length-4 c = search needs
+
+returns-4 : tie.Need-returns-4
+unfolding printed styleOf
+returns-4 c = put-same _ _ _ _ _ _ (ap (λ (k : Class). printed (styleOf k) (c .before .before .before .before .before .before .before .before .args .contents .now)) (sym (c .before .before .before .before .enum-told4 .given .1))) (c .before .before .put3 .ensures)
+
+same-length-5 : tie.Need-same-length-5
+same-length-5 c = search needs
+
+returns-5 : tie.Need-returns-5
+unfolding printed styleOf
+returns-5 c = put-same _ _ _ _ _ _ (ap lampWord (c .before .before .before .before .octet .ensures) ∙ ap (λ (k : Class). printed (styleOf k) (c .before .before .before .before .before .before .before .before .before .args .contents .now)) (sym (c .before .before .before .before .before .enum-told5 .given .1))) (c .before .before .put-lamp .ensures)
+
+same-length-6 : tie.Need-same-length-6
+same-length-6 c = search needs
+
+returns-6 : tie.Need-returns-6
+unfolding printed styleOf
+returns-6 c = put-same _ _ _ _ _ _ (ap (λ (k : Class). printed (styleOf k) (c .before .before .before .before .before .before .before .before .args .contents .now)) (sym (c .before .before .before .before .enum-told6 .given .1))) (c .before .before .put-identity .ensures)
+
+same-length-7 : tie.Need-same-length-7
+same-length-7 c = search needs
+
+returns-7 : tie.Need-returns-7
+unfolding printed styleOf
+returns-7 c = put-same _ _ _ _ _ _ (ap hex (c .before .before .before .before .octet2 .ensures) ∙ ap (λ (k : Class). printed (styleOf k) (c .before .before .before .before .before .before .before .before .before .args .contents .now)) (sym (c .before .before .before .before .before .enum-told7 .given .1))) (c .before .before .put-hex .ensures)
+
+same-length-8 : tie.Need-same-length-8
+same-length-8 c = search needs
+
+returns-8 : tie.Need-returns-8
+unfolding printed styleOf
+returns-8 c = put-same _ _ _ _ _ _ (ap decimal (c .before .before .before .before .octet3 .ensures) ∙ ap (λ (k : Class). printed (styleOf k) (c .before .before .before .before .before .before .before .before .before .args .contents .now)) (sym (c .before .before .before .before .before .enum-told8 .given .1))) (c .before .before .put-decimal .ensures)
+
+same-length-9 : tie.Need-same-length-9
+same-length-9 c = search needs
+
+returns-9 : tie.Need-returns-9
+unfolding printed styleOf
+returns-9 c = put-same _ _ _ _ _ _ (ap hex (c .before .before .before .before .octet4 .ensures) ∙ ap (λ (k : Class). printed (styleOf k) (c .before .before .before .before .before .before .before .before .before .args .contents .now)) (sym (c .before .before .before .before .before .enum-told9 .given .1))) (c .before .before .put-hex2 .ensures)
+
+same-length-10 : tie.Need-same-length-10
+same-length-10 c = search needs
+
+returns-10 : tie.Need-returns-10
+unfolding printed styleOf
+returns-10 c = put-same _ _ _ _ _ _ (ap hex (c .before .before .before .before .octet5 .ensures) ∙ ap (λ (k : Class). printed (styleOf k) (c .before .before .before .before .before .before .before .before .before .args .contents .now)) (sym (c .before .before .before .before .before .enum-told10 .given .1))) (c .before .before .put-hex3 .ensures)
+
+returns-11 : tie.Need-returns-11
+unfolding printed styleOf
+returns-11 c = put-same _ _ _ _ _ _ (ap (λ (k : Class). printed (styleOf k) (c .before .before .before .before .args .contents .now)) (sym (c .enum-told11 .given .1))) (put-none _ _)
+
+pub put-value-spec : {M : Type 1} → statement M
+put-value-spec =
+    tie.close
+    (tie.spec
+    enum-told
+    put-clock-requires
+    enum-told-2
+    put-requires
+    enum-told-3
+    put-requires-2
+    enum-told-4
+    put-requires-3
+    enum-told-5
+    octet-requires
+    put-lamp-requires
+    enum-told-6
+    put-identity-requires
+    enum-told-7
+    octet-requires-2
+    put-hex-requires
+    enum-told-8
+    octet-requires-3
+    cast-put-decimal
+    put-decimal-requires
+    enum-told-9
+    octet-requires-4
+    put-hex-requires-2
+    enum-told-10
+    octet-requires-5
+    put-hex-requires-3
+    enum-told-11
+    same-length
+    returns
+    same-length-2
+    returns-2
+    same-length-3
+    returns-3
+    same-length-4
+    returns-4
+    same-length-5
+    returns-5
+    same-length-6
+    returns-6
+    same-length-7
+    returns-7
+    same-length-8
+    returns-8
+    same-length-9
+    returns-9
+    same-length-10
+    returns-10
+    returns-11)

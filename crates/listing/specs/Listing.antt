@@ -1,0 +1,126 @@
+-- The listing of any octets (document 01, What showmsg prints).
+-- Assumes nothing.
+use Prim.Native.Nat.{ℕ, _+_, _*_, _-_}
+use mathlib.Core.List.{List, [], _∷_, _++_}
+use mathlib.Core.Option.{Option, none, some}
+use lib.ListN.{length, getD, replicate}
+use Rattle.rules.specs.Tests.{_=?_, pick}
+use Rattle.rules.specs.Table.{Rules, Row, Style, clock as clockStyle, verbatim, switch, reference as referenceStyle, decimal as decimalStyle, hex as hexStyle, numbered, styleOf, classOf, ascii, document01}
+use Rattle.rules.specs.Message.{Message}
+use Rattle.rules.specs.Counting.{counted, carriedIn}
+use Rattle.rules.specs.declared.Fault.{Fault}
+use Rattle.rules.specs.declared.Class.the-variants.{Carried}
+use Rattle.message.specs.declared.Verdict.{Verdict}
+use Rattle.message.specs.declared.Verdict.the-variants.{Accepted, Declined}
+use Rattle.message.specs.Verdict.{verdictOf}
+use Rattle.message.specs.Walking.{countedAt, partOf}
+use Rattle.message.specs.Parameters.{parametersIn, messageIn}
+use Rattle.listing.specs.declared.Text.{Text}
+use Rattle.listing.specs.Numerals.{decimal, hex}
+
+-- ---- values
+
+-- two numbers of two digits, from the octet i on, with a mark between them
+unfoldable pub half : List ℕ → ℕ → ℕ → List ℕ
+half v i mark = getD v i 0 ∷ getD v (i + 1) 0 ∷ mark ∷ getD v (i + 2) 0 ∷ getD v (i + 3) 0 ∷ []
+
+-- MM-DD HH:MM
+unfoldable pub clock : List ℕ → List ℕ
+clock v = half v 0 0x2D ++ ascii " " ++ half v 4 0x3A
+
+unfoldable pub lampWord : ℕ → List ℕ
+lampWord x = pick (x =? 0) (ascii "off") (ascii "on")
+
+unfoldable pub stateWord : ℕ → List ℕ
+stateWord x = pick (x =? 0x55) (ascii "unset") (lampWord x)
+
+-- two octets, the high one first
+unfoldable pub reference : List ℕ → ℕ
+reference v = 256 * getD v 1 0 + getD v 2 0
+
+-- what a style makes of contents
+unfoldable pub printed : Style → List ℕ → List ℕ
+printed clockStyle v = clock v
+printed verbatim v = v
+printed switch v = lampWord (getD v 0 0)
+printed referenceStyle v = stateWord (getD v 0 0) ++ ascii " " ++ decimal (reference v)
+printed decimalStyle v = decimal (getD v 0 0)
+printed hexStyle v = hex (getD v 0 0)
+printed numbered v = []
+
+-- ---- lines
+
+pub record Line : Type 0 where
+  pub key : List ℕ
+  pub value : List ℕ
+
+-- key=value, and the line end
+unfoldable pub lineText : Line → List ℕ
+lineText l = l .key ++ ascii "=" ++ l .value ++ ascii "\n"
+
+unfoldable pub written : List Line → List ℕ
+written [] = []
+written (l ∷ ls) = lineText l ++ written ls
+
+-- the line of a row with contents
+unfoldable pub lineOf : Rules → Row → List ℕ → Line
+lineOf R r v = record { key = r .key; value = printed (styleOf (classOf R (r .kind))) v }
+
+-- no line where nothing counts
+unfoldable pub linesFor : Rules → Row → Option (List ℕ) → List Line
+linesFor R r none = []
+linesFor R r (some v) = lineOf R r v ∷ []
+
+unfoldable pub rowLines : Rules → Message → List Row → List Line
+rowLines R m [] = []
+rowLines R m (r ∷ rs) = linesFor R r (counted R m (r .kind)) ++ rowLines R m rs
+
+unfoldable pub kindLine : ℕ → Line
+kindLine x = record { key = ascii "kind"; value = pick (x =? 0x80) (ascii "call") (ascii "notice") }
+
+unfoldable pub carriedLine : ℕ → Line
+carriedLine n = record { key = ascii "carried"; value = decimal n }
+
+-- the kind, what counts in the order of the rows, and the number of carried parameters
+unfoldable pub linesOf : Rules → Message → List Line
+linesOf R m = kindLine (m .kind) ∷ (rowLines R m (R .rows) ++ carriedLine (carriedIn R (m .parameters)) ∷ [])
+
+-- number and place of a refusal
+unfoldable pub refusal : Fault → List Line
+refusal f = (record { key = ascii "refused"; value = decimal (f .number) }) ∷ (record { key = ascii "at"; value = decimal (f .place) }) ∷ []
+
+unfoldable pub listed : Rules → List ℕ → Verdict → List Line
+listed R o (Accepted n) = linesOf R (messageIn o)
+listed R o (Declined f) = refusal f
+
+-- what showmsg prints of octets
+unfoldable pub listingOf : Rules → List ℕ → List ℕ
+listingOf R o = written (listed R o (verdictOf R o))
+
+-- a listing in its buffer, zeros behind it
+unfoldable pub textOf : List ℕ → Text
+textOf v = record { octets = v ++ replicate (292 - length v) 0; length = length v }
+
+-- ---- for the code: the same from the octets, row by row
+
+-- the row of document 01 with a number, from 0
+abbrev pub noRow : Row
+noRow = record { kind = 0; class = Carried; rival = 0; key = [] }
+
+unfoldable pub rowAt : ℕ → Row
+rowAt i = getD (document01 .rows) i noRow
+
+-- its line, from where its contents stand
+unfoldable pub partLines : Rules → List ℕ → Row → List Line
+partLines R o r = linesFor R r (partOf o (countedAt o (r .kind)))
+
+unfoldable pub rowsAt : Rules → List ℕ → List Row → List Line
+rowsAt R o [] = []
+rowsAt R o (r ∷ rs) = partLines R o r ++ rowsAt R o rs
+
+unfoldable pub linesAt : Rules → List ℕ → List Line
+linesAt R o = kindLine (getD o 0 0) ∷ (rowsAt R o (R .rows) ++ carriedLine (carriedIn R (parametersIn o)) ∷ [])
+
+-- a line of a number, its key with the `=`
+unfoldable pub numberLine : List ℕ → ℕ → List ℕ
+numberLine k n = k ++ decimal n ++ ascii "\n"

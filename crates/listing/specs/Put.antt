@@ -1,0 +1,81 @@
+-- Octets put behind those that stand in a lent area, one text behind the other.
+-- Assumes nothing.
+use Prim.Native.Nat.{ℕ, _+_, _-_, _≤_}
+use mathlib.Core.Path.{_≡_, refl, sym, _∙_, ap, ap₂}
+use mathlib.Core.List.{List, [], _∷_, _++_, append-assoc, append-nil}
+use native.Mathlib.Nat.{add-zero}
+use native.Mathlib.Omega.{arith}
+use lib.ListN.{length, length-append, length-drop, take, drop, take-append-drop}
+use lib.Seq.{drop-drop, length-take-le, take-at, drop-at}
+
+-- the text v fits behind the first `at` octets of the area
+unfoldable pub Room : List ℕ → ℕ → List ℕ → Type 0
+Room v at old = at + length v ≤ length old
+
+-- the octets of a text from start to end
+abbrev pub part : List ℕ → ℕ → ℕ → List ℕ
+part v start end = take (end - start) (drop start v)
+
+-- v was put behind the first `at` octets of the area: it ends at `end`, what stood before it and behind it is as it was
+pub record Put (v : List ℕ) (at : ℕ) (old : List ℕ) (end : ℕ) (new : List ℕ) : Type 0 where
+  pub ends : end ≡ at + length v
+  pub long : length new ≡ length old
+  pub front : take end new ≡ take at old ++ v
+  pub behind : drop end new ≡ drop end old
+
+-- nothing was put
+pub put-none : (at : ℕ) (old : List ℕ) → Put [] at old at old
+put-none at old = record { ends = sym (add-zero at); long = refl; front = sym (append-nil (take at old)); behind = refl }
+
+-- one text, and another behind it
+pub put-then : (v w : List ℕ) (at : ℕ) (old : List ℕ) (mid : ℕ) (next : List ℕ) (end : ℕ) (new : List ℕ) → Put v at old mid next → Put w mid next end new → Put (v ++ w) at old end new
+put-then v w at old mid next end new p q = record {
+  ends = omega (arith, p .ends, q .ends, length-append v w);
+  long = q .long ∙ p .long;
+  front = q .front ∙ ap (λ (l : List ℕ). l ++ w) (p .front) ∙ append-assoc (take at old) v w;
+  behind =
+      q .behind
+      ∙ ap (λ (n : ℕ). drop n next) (q .ends)
+      ∙ sym (drop-drop (length w) mid next)
+      ∙ ap (drop (length w)) (p .behind)
+      ∙ drop-drop (length w) mid old
+      ∙ ap (λ (n : ℕ). drop n old) (sym (q .ends));
+}
+
+-- a text that is the same
+pub put-same : (v w : List ℕ) (at : ℕ) (old : List ℕ) (end : ℕ) (new : List ℕ) → v ≡ w → Put v at old end new → Put w at old end new
+put-same v w at old end new e p = record {
+  ends = p .ends ∙ ap (λ (l : List ℕ). at + length l) e;
+  long = p .long;
+  front = p .front ∙ ap (λ (l : List ℕ). take at old ++ l) e;
+  behind = p .behind;
+}
+
+-- an area that is its front, the text and its old rest
+pub put-whole : (v : List ℕ) (at : ℕ) (old new : List ℕ) → Room v at old → new ≡ take at old ++ (v ++ drop (at + length v) old) → Put v at old (at + length v) new
+unfolding Room
+put-whole v at old new h e =
+    let f : length (take at old) ≡ at = length-take-le at old (omega arith) in
+    let n : length (take at old ++ v) ≡ at + length v = length-append (take at old) v ∙ ap (λ (k : ℕ). k + length v) f in
+    let d : new ≡ (take at old ++ v) ++ drop (at + length v) old = e ∙ sym (append-assoc (take at old) v (drop (at + length v) old)) in
+    record {
+      ends = refl;
+      long = ap length d ∙ length-append (take at old ++ v) (drop (at + length v) old) ∙ omega (arith, n, length-drop (at + length v) old);
+      front = ap (take (at + length v)) d ∙ take-at (take at old ++ v) (drop (at + length v) old) (at + length v) n;
+      behind = ap (drop (at + length v)) d ∙ drop-at (take at old ++ v) (drop (at + length v) old) (at + length v) n;
+    }
+
+-- what was put from the beginning is the area's front
+pub put-first : (v old : List ℕ) (end : ℕ) (new : List ℕ) → Put v 0 old end new → new ≡ v ++ drop (length v) old
+put-first v old end new p =
+    let z : end ≡ length v = omega (arith, p .ends) in
+    sym (take-append-drop end new) ∙ ap₂ _++_ (p .front) (p .behind ∙ ap (λ (n : ℕ). drop n old) z)
+
+-- ---- room for parts
+pub room-left : (v w : List ℕ) (at : ℕ) (old : List ℕ) → Room (v ++ w) at old → Room v at old
+unfolding Room
+room-left v w at old h = omega (arith, length-append v w)
+
+pub room-then : (v w : List ℕ) (at : ℕ) (old : List ℕ) (mid : ℕ) (next : List ℕ) → Room (v ++ w) at old → Put v at old mid next → Room w mid next
+unfolding Room
+room-then v w at old mid next h p = omega (arith, length-append v w, p .ends, p .long)

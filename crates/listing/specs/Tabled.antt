@@ -1,0 +1,58 @@
+-- Tests over lists and over numbers below a bound, for tables that antt computes; and what each of them tells.
+-- Assumes nothing.
+use Prim.Native.Nat.{ℕ, zero, suc, _<_}
+use mathlib.Core.Path.{_≡_, refl, ap₂, subst}
+use mathlib.Core.Bool.{Bool, true, false}
+use mathlib.Core.Logic.{_⊎_, inl, inr}
+use mathlib.Core.List.{List, [], _∷_}
+use native.Mathlib.Omega.{arith}
+use lib.Dec.{T}
+use Rattle.rules.specs.Tests.{_=?_, _and_, pick, both, join, eq-of, of-eq, decide}
+
+-- two lists are the same
+unfoldable pub same : List ℕ → List ℕ → Bool
+same [] [] = true
+same [] (y ∷ b) = false
+same (x ∷ a) [] = false
+same (x ∷ a) (y ∷ b) = x =? y and same a b
+
+pub same-is : (a b : List ℕ) → T (same a b) → a ≡ b
+unfolding same
+same-is [] [] t = refl
+same-is [] (y ∷ b) t = absurd t
+same-is (x ∷ a) [] t = absurd t
+same-is (x ∷ a) (y ∷ b) t = let d = both _ _ t in ap₂ _∷_ (eq-of _ _ (d .0)) (same-is a b (d .1))
+
+pub same-self : (a : List ℕ) → T (same a a)
+unfolding same
+same-self [] = tt
+same-self (x ∷ a) = join _ _ (of-eq x x refl) (same-self a)
+
+-- two lists differ
+unfoldable pub differ : List ℕ → List ℕ → Bool
+differ a b = pick (same a b) false true
+
+pub differ-is : (a b : List ℕ) → T (differ a b) → a ≡ b → ⊥
+unfolding differ pick
+differ-is a b t e = go (same a b) (subst (λ (x : List ℕ). T (same a x)) e (same-self a)) t
+  where
+    go : (s : Bool) → T s → T (pick s false true) → ⊥
+    go true s u = u
+    go false s u = s
+
+-- a test of each number below n
+unfoldable pub below : (ℕ → Bool) → ℕ → Bool
+below f zero = true
+below f (suc n) = f n and below f n
+
+pub below-at : (f : ℕ → Bool) (n i : ℕ) → T (below f n) → i < n → T (f i)
+unfolding below
+below-at f zero i t h = absurd (omega arith)
+below-at f (suc n) i t h = go (both _ _ t) (decide (i =? n)) (below-at f n i)
+  where
+    go : T (f n) × T (below f n) → T (i =? n) ⊎ (T (i =? n) → ⊥) → (T (below f n) → i < n → T (f i)) → T (f i)
+    go d (inl e) r = let z = eq-of i n e in rw z (d .0)
+    go d (inr e) r = r (d .1) (less (λ z. e (of-eq i n z)))
+      where
+        less : (i ≡ n → ⊥) → i < n
+        less z = omega arith

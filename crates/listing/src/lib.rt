@@ -1,0 +1,343 @@
+// The listing of a message (document 01, What showmsg prints): a key=value line for each value that counts, in the order of the table; or the two lines of
+// a refusal. It comes back by value, in a buffer of the longest listing, so that it needs no refusal of its own.
+use message::Found;
+use message::Part;
+use message::Verdict;
+use rules::Class;
+use rules::Fault;
+ghost use mathlib.Core.Path.{_≡_};
+ghost use mathlib.Core.List.{[], _∷_, _++_};
+ghost use Prim.Native.Nat.{_+_, _<_, _≤_};
+ghost use lib.ListN.{length, getD};
+ghost use Rattle.rules.specs.Tests.{pick};
+ghost use Rattle.rules.specs.Table.{document01, listed, styleOf, ascii};
+ghost use Rattle.rules.specs.Counting.{carriedIn};
+ghost use Rattle.message.specs.Parameters.{parametersIn};
+ghost use Rattle.listing.specs.Numerals.{hexDigit, hex, decimal};
+ghost use Rattle.listing.specs.Put.{Room, Put, part};
+ghost use Rattle.listing.specs.Listing.{half, clock, lampWord, stateWord, reference, printed, kindLine, numberLine, lineText, lineOf, rowAt, partLines, rowsAt, linesAt, written, refusal, listingOf, textOf};
+
+// A listing: its first `length` octets; those behind them are 0.
+pub struct Text {
+    pub octets: [u8; 292],
+    pub length: usize,
+}
+
+// The types in the order of the listing, and where the key of each begins in the row of keys; behind the last, where they end.
+const KINDS: [u8; 14] = [
+    0x01,
+    0x02,
+    0x03,
+    0x04,
+    0x07,
+    0x08,
+    0x0B,
+    0x0D,
+    0x0E,
+    0x11,
+    0x12,
+    0x13,
+    0x15,
+    0x16,
+];
+
+const STARTS: [u8; 15] = [0, 5, 12, 19, 33, 38, 50, 55, 63, 73, 83, 96, 104, 114, 119];
+
+// ---- octets put behind those that stand there
+
+fn put(text: &[u8], out: &mut [u8], at: usize) -> usize
+    requires { ⌜ Room (now text) at (now out) ⌝ }
+    ensures { λ r. ⌜ Put (now (text .entry)) at (now (out .entry)) r (now (out .exit)) ⌝ }
+{
+    bytes::copy(text, &mut out[at..]);
+    at + text.len()
+}
+
+fn put_part(text: &[u8], start: usize, end: usize, out: &mut [u8], at: usize) -> usize
+    requires { ⌜ (start ≤ end) × (end ≤ length (now text)) × Room (part (now text) start end) at (now out) ⌝ }
+    ensures { λ r. ⌜ Put (part (now (text .entry)) start end) at (now (out .entry)) r (now (out .exit)) ⌝ }
+{
+    put(&text[start..end], out, at)
+}
+
+fn put_octet(x: u8, out: &mut [u8], at: usize) -> usize
+    requires { ⌜ Room (x ∷ []) at (now out) ⌝ }
+    ensures { λ r. ⌜ Put (x ∷ []) at (now (out .entry)) r (now (out .exit)) ⌝ }
+{
+    out[at] = x;
+    at + 1
+}
+
+fn octet(s: &[u8], i: usize) -> u8
+    ensures { λ r. ⌜ r ≡ getD (now (s .entry)) i 0 ⌝ }
+{
+    if i < s.len() { s[i] } else { 0 }
+}
+
+// ---- numbers
+
+// The digits of the quotient by ten, and then the last one.
+fn put_decimal(n: u16, out: &mut [u8], at: usize) -> usize
+    requires { ⌜ Room (decimal n) at (now out) ⌝ }
+    ensures { λ r. ⌜ Put (decimal n) at (now (out .entry)) r (now (out .exit)) ⌝ }
+{
+    if n < 10 {
+        put_octet(48 + n as u8, out, at)
+    } else {
+        let last = put_decimal(n / 10, out, at);
+        put_octet(48 + (n % 10) as u8, out, last)
+    }
+}
+
+fn hex_digit(k: u8) -> u8
+    requires { ⌜ k < 16 ⌝ }
+    ensures { λ r. ⌜ r ≡ hexDigit k ⌝ }
+{
+    if k <= 9 { 48 + k } else { 55 + k }
+}
+
+fn put_hex(x: u8, out: &mut [u8], at: usize) -> usize
+    requires { ⌜ Room (hex x) at (now out) ⌝ }
+    ensures { λ r. ⌜ Put (hex x) at (now (out .entry)) r (now (out .exit)) ⌝ }
+{
+    let text = [hex_digit(x / 16), hex_digit(x % 16)];
+    put(&text, out, at)
+}
+
+// ---- values
+
+// Two numbers of two digits with a mark between them.
+fn put_half(contents: &[u8], i: usize, mark: u8, out: &mut [u8], at: usize) -> usize
+    requires { ⌜ (i ≤ 4) × Room (half (now contents) i mark) at (now out) ⌝ }
+    ensures { λ r. ⌜ Put (half (now (contents .entry)) i mark) at (now (out .entry)) r (now (out .exit)) ⌝ }
+{
+    let text = [
+        octet(contents, i),
+        octet(contents, i + 1),
+        mark,
+        octet(contents, i + 2),
+        octet(contents, i + 3),
+    ];
+    put(&text, out, at)
+}
+
+fn put_clock(contents: &[u8], out: &mut [u8], at: usize) -> usize
+    requires { ⌜ Room (clock (now contents)) at (now out) ⌝ }
+    ensures { λ r. ⌜ Put (clock (now (contents .entry))) at (now (out .entry)) r (now (out .exit)) ⌝ }
+{
+    let date = put_half(contents, 0, b'-', out, at);
+    let gap = put_octet(b' ', out, date);
+    put_half(contents, 4, b':', out, gap)
+}
+
+fn put_lamp(x: u8, out: &mut [u8], at: usize) -> usize
+    requires { ⌜ Room (lampWord x) at (now out) ⌝ }
+    ensures { λ r. ⌜ Put (lampWord x) at (now (out .entry)) r (now (out .exit)) ⌝ }
+{
+    if x == 0 {
+        put(b"off", out, at)
+    } else {
+        put(b"on", out, at)
+    }
+}
+
+fn put_state(x: u8, out: &mut [u8], at: usize) -> usize
+    requires { ⌜ Room (stateWord x) at (now out) ⌝ }
+    ensures { λ r. ⌜ Put (stateWord x) at (now (out .entry)) r (now (out .exit)) ⌝ }
+{
+    if x == 0x55 {
+        put(b"unset", out, at)
+    } else {
+        put_lamp(x, out, at)
+    }
+}
+
+fn reference_of(contents: &[u8]) -> u16
+    ensures { λ r. ⌜ r ≡ reference (now (contents .entry)) ⌝ }
+{
+    let high = octet(contents, 1);
+    let low = octet(contents, 2);
+    256 * (high as u16) + low as u16
+}
+
+fn put_identity(contents: &[u8], out: &mut [u8], at: usize) -> usize
+    requires { ⌜ Room (stateWord (getD (now contents) 0 0) ++ ascii " " ++ decimal (reference (now contents))) at (now out) ⌝ }
+    ensures { λ r. ⌜ Put (stateWord (getD (now (contents .entry)) 0 0) ++ ascii " " ++ decimal (reference (now (contents .entry)))) at (now (out .entry)) r (now (out .exit)) ⌝ }
+{
+    let state = put_state(octet(contents, 0), out, at);
+    let gap = put_octet(b' ', out, state);
+    put_decimal(reference_of(contents), out, gap)
+}
+
+// The value that contents say, in the style of their class.
+fn put_value(class: Class, contents: &[u8], out: &mut [u8], at: usize) -> usize
+    requires { ⌜ Room (printed (styleOf class) (now contents)) at (now out) ⌝ }
+    ensures { λ r. ⌜ Put (printed (styleOf class) (now (contents .entry))) at (now (out .entry)) r (now (out .exit)) ⌝ }
+{
+    match class {
+        Class::Date => put_clock(contents, out, at),
+        Class::Number => put(contents, out, at),
+        Class::Absent => put(contents, out, at),
+        Class::Name => put(contents, out, at),
+        Class::Lamp => put_lamp(octet(contents, 0), out, at),
+        Class::Identity => put_identity(contents, out, at),
+        Class::CallType => put_hex(octet(contents, 0), out, at),
+        Class::Waiting => put_decimal(octet(contents, 0) as u16, out, at),
+        Class::Forwarded => put_hex(octet(contents, 0), out, at),
+        Class::User => put_hex(octet(contents, 0), out, at),
+        Class::Carried => at,
+    }
+}
+
+// ---- lines
+
+// The key of a row, and `=`.
+fn put_key(i: usize, out: &mut [u8], at: usize) -> usize
+    requires { ⌜ (i < 14) × Room (rowAt i .key ++ ascii "=") at (now out) ⌝ }
+    ensures { λ r. ⌜ Put (rowAt i .key ++ ascii "=") at (now (out .entry)) r (now (out .exit)) ⌝ }
+{
+    let start = STARTS[i] as usize;
+    let end = STARTS[i + 1] as usize;
+    put_part(
+        b"time=caller=called=caller-absent=name=name-absent=lamp=message=depositor=call-type=first-called=waiting=forwarded=user=",
+        start,
+        end,
+        out,
+        at,
+    )
+}
+
+fn put_line(i: usize, contents: &[u8], out: &mut [u8], at: usize) -> usize
+    requires { ⌜ (i < 14) × Room (lineText (lineOf document01 (rowAt i) (now contents))) at (now out) ⌝ }
+    ensures { λ r. ⌜ Put (lineText (lineOf document01 (rowAt i) (now (contents .entry)))) at (now (out .entry)) r (now (out .exit)) ⌝ }
+{
+    let class = rules::class_of(KINDS[i]);
+    let key = put_key(i, out, at);
+    let value = put_value(class, contents, out, key);
+    put_octet(b'\n', out, value)
+}
+
+// The line of a row, if its type counts.
+fn put_row(octets: &[u8], i: usize, out: &mut [u8], at: usize) -> usize
+    requires { ⌜ (i < 14) × Room (written (partLines document01 (now octets) (rowAt i))) at (now out) ⌝ }
+    ensures { λ r. ⌜ Put (written (partLines document01 (now (octets .entry)) (rowAt i))) at (now (out .entry)) r (now (out .exit)) ⌝ }
+{
+    let part = message::counted(octets, KINDS[i]);
+    match part {
+        Part::At { start, length } => {
+            let end = start + length as usize;
+            put_line(i, &octets[start..end], out, at)
+        }
+        Part::Nowhere => at,
+    }
+}
+
+fn put_rows(octets: &[u8], out: &mut [u8], at: usize) -> usize
+    requires { ⌜ Room (written (rowsAt document01 (now octets) (document01 .rows))) at (now out) ⌝ }
+    ensures { λ r. ⌜ Put (written (rowsAt document01 (now (octets .entry)) (document01 .rows))) at (now (out .entry)) r (now (out .exit)) ⌝ }
+{
+    let mut end = at;
+    let mut i: usize = 0;
+    while i < 14 {
+        end = put_row(octets, i, out, end);
+        i += 1;
+    }
+    end
+}
+
+// A line of a key, `=` with it, and a number.
+fn put_number(key: &[u8], n: u16, out: &mut [u8], at: usize) -> usize
+    requires { ⌜ Room (numberLine (now key) n) at (now out) ⌝ }
+    ensures { λ r. ⌜ Put (numberLine (now (key .entry)) n) at (now (out .entry)) r (now (out .exit)) ⌝ }
+{
+    let number = put(key, out, at);
+    let end = put_decimal(n, out, number);
+    put_octet(b'\n', out, end)
+}
+
+fn put_kind(x: u8, out: &mut [u8], at: usize) -> usize
+    requires { ⌜ Room (lineText (kindLine x)) at (now out) ⌝ }
+    ensures { λ r. ⌜ Put (lineText (kindLine x)) at (now (out .entry)) r (now (out .exit)) ⌝ }
+{
+    if x == 0x80 {
+        put(b"kind=call\n", out, at)
+    } else {
+        put(b"kind=notice\n", out, at)
+    }
+}
+
+// ---- the listing
+
+fn one_if_carried(kind: u8) -> u16
+    ensures { λ r. ⌜ r ≡ pick (listed document01 kind) 0 1 ⌝ }
+{
+    if rules::is_listed(kind) { 0 } else { 1 }
+}
+
+// How many parameters are carried, repeats too.
+fn carried(octets: &[u8]) -> u16
+    ensures { λ r. ⌜ r ≡ carriedIn document01 (parametersIn (now (octets .entry))) ⌝ }
+{
+    let mut count: u16 = 0;
+    let mut at: usize = 2;
+    let mut turns: usize = 85;
+    while 0 < turns {
+        let found = message::parameter(octets, at);
+        match found {
+            Found::Parameter {
+                kind,
+                start,
+                length,
+            } => {
+                count += one_if_carried(kind);
+                at = start + length as usize;
+                turns -= 1;
+            }
+            Found::Nothing => {
+                return count;
+            }
+        }
+    }
+    count
+}
+
+fn put_message(octets: &[u8], out: &mut [u8]) -> usize
+    requires { ⌜ Room (written (linesAt document01 (now octets))) 0 (now out) ⌝ }
+    ensures { λ r. ⌜ Put (written (linesAt document01 (now (octets .entry)))) 0 (now (out .entry)) r (now (out .exit)) ⌝ }
+{
+    let kind = put_kind(octet(octets, 0), out, 0);
+    let rows = put_rows(octets, out, kind);
+    put_number(b"carried=", carried(octets), out, rows)
+}
+
+fn put_refusal(fault: Fault, out: &mut [u8]) -> usize
+    requires { ⌜ Room (written (refusal fault)) 0 (now out) ⌝ }
+    ensures { λ r. ⌜ Put (written (refusal fault)) 0 (now (out .entry)) r (now (out .exit)) ⌝ }
+{
+    let place = put_number(b"refused=", fault.number as u16, out, 0);
+    put_number(b"at=", fault.place, out, place)
+}
+
+// What showmsg prints of any octets.
+pub fn listing(octets: &[u8]) -> Text
+    ensures { λ r. ⌜ r ≡ textOf (listingOf document01 (now (octets .entry))) ⌝ }
+{
+    let mut out = [0u8; 292];
+    let verdict = message::judge(octets);
+    match verdict {
+        Verdict::Accepted { size: _ } => {
+            let length = put_message(octets, &mut out);
+            Text {
+                octets: out,
+                length,
+            }
+        }
+        Verdict::Declined { fault } => {
+            let length = put_refusal(fault, &mut out);
+            Text {
+                octets: out,
+                length,
+            }
+        }
+    }
+}
