@@ -1,0 +1,294 @@
+/*
+ * Writes what the program `rows` reads and what it must print: the rows of
+ * 01's table, whose outcomes stand here by hand, and both sides of every
+ * limit, with what the second reader says. Each case is octets behind their
+ * length in two octets. Usage: rows CASES LINES
+ */
+#include <stdio.h>
+#include <string.h>
+
+#include "second.h"
+
+static FILE *cases, *lines;
+static int wrong;
+
+/* ---- One case ---- */
+
+static void put_case(const uint8_t *o, size_t n, const char *by_hand)
+{
+    struct second_answer heard = second_listen(o, n);
+    struct second_draft draft;
+    struct second_verdict read = second_read(o, n, SECOND_TEXTS, &draft);
+    char text[SECOND_LISTING], said[2 * SECOND_LISTING];
+    size_t listed = second_listing(o, n, text), at = 0;
+    uint8_t size[2] = {(uint8_t)(n >> 8), (uint8_t)n};
+
+    fwrite(size, 1, 2, cases);
+    fwrite(o, 1, n, cases);
+    for (size_t i = 0; i < listed; i++)
+        said[at++] = text[i] == '\n' ? ' ' : text[i];
+    if (heard.answer == SECOND_WAITS)
+        at += (size_t)sprintf(said + at, "| L waits");
+    else if (heard.answer == SECOND_MESSAGE)
+        at += (size_t)sprintf(said + at, "| L size %zu", heard.size);
+    else
+        at += (size_t)sprintf(said + at, "| L %u at %zu", heard.number,
+                              heard.place);
+    at += (size_t)sprintf(said + at, ", took %zu", heard.taken);
+    if (read.number)
+        sprintf(said + at, " | read %u at %zu", read.number, read.place);
+    else
+        sprintf(said + at, " | read size %zu", n);
+
+    for (size_t i = 0; i < n; i++)
+        fprintf(lines, "%02x ", o[i]);
+    fprintf(lines, "| %s\n", by_hand ? by_hand : said);
+    if (by_hand && strcmp(by_hand, said)) {
+        printf("rows: by hand %s\n      the second reader %s\n", by_hand, said);
+        wrong = 1;
+    }
+}
+
+/* the octets of "80 0B 01" */
+static size_t octets_of(const char *hex, uint8_t *o)
+{
+    size_t n = 0;
+    unsigned x;
+    int used;
+
+    while (sscanf(hex, " %2x%n", &x, &used) == 1) {
+        o[n++] = (uint8_t)x;
+        hex += used;
+    }
+    return n;
+}
+
+static void hex_case(const char *hex, const char *by_hand)
+{
+    uint8_t o[300];
+    put_case(o, octets_of(hex, o), by_hand);
+}
+
+/* ---- 01's table ---- */
+
+static const char *const table[][2] = {
+    {"", "refused=8 at=0 | L waits, took 0 | read 8 at 0"},
+    {"81", "refused=1 at=0 | L 1 at 0, took 1 | read 1 at 0"},
+    {"80 02", "refused=2 at=1 | L 2 at 1, took 2 | read 2 at 1"},
+    {"80 03", "refused=8 at=2 | L waits, took 2 | read 8 at 2"},
+    {"80 0B 01", "refused=3 at=2 | L 3 at 2, took 3 | read 3 at 2"},
+    {"80 0A 01", "refused=8 at=3 | L waits, took 3 | read 8 at 3"},
+    {"80 0C 01", "refused=3 at=2 | L 3 at 2, took 3 | read 3 at 2"},
+    {"80 0D 01", "refused=8 at=3 | L waits, took 3 | read 8 at 3"},
+    {"80 16 02 14", "refused=8 at=4 | L waits, took 4 | read 8 at 4"},
+    {"80 17 02 14", "refused=4 at=3 | L 4 at 3, took 4 | read 4 at 3"},
+    {"80 17 02 15", "refused=4 at=3 | L 4 at 3, took 4 | read 4 at 3"},
+    {"80 FF 05 FD", "refused=8 at=4 | L waits, took 4 | read 8 at 4"},
+    {"80 FF 05 FC", "refused=4 at=3 | L 4 at 3, took 4 | read 4 at 3"},
+    {"80 0A 01 08 31 33",
+     "refused=5 at=5 | L 5 at 5, took 6 | read 5 at 5"},
+    {"82 03 0B 01 80", "refused=5 at=4 | L 5 at 4, took 5 | read 5 at 4"},
+    {"82 03 0B 01 FF 70",
+     "kind=notice lamp=on carried=0 | L size 6, took 6 | read size 6"},
+    {"82 03 0B 01 FF 71", "refused=6 at=5 | L 6 at 5, took 6 | read 6 at 5"},
+    {"82 03 0B 01 FF 70 00",
+     "refused=7 at=6 | L size 6, took 6 | read 7 at 6"},
+    {"82 03 13 01 02 65",
+     "kind=notice waiting=2 carried=0 | L size 6, took 6 | read size 6"},
+    {"82 06 13 01 02 13 01 05 49",
+     "kind=notice waiting=2 carried=0 | L size 9, took 9 | read size 9"},
+    {"80 06 04 01 50 02 01 37 EB",
+     "kind=call caller-absent=P carried=0 | L size 9, took 9 | read size 9"},
+    {"80 11 01 08 30 36 31 35 31 34 33 30 02 05 34 30 39 31 32 CB",
+     "kind=call time=06-15 14:30 caller=40912 carried=0 | L size 20, took 20 "
+     "| read size 20"},
+};
+
+/* ---- Both sides of every limit ---- */
+
+/* the listed types, and carried ones beside and between them */
+static const uint8_t types[] = {0x00, 0x01, 0x02, 0x03, 0x04, 0x05, 0x07,
+                                0x08, 0x0B, 0x0D, 0x0E, 0x11, 0x12, 0x13,
+                                0x15, 0x16, 0x17, 0xFF};
+
+/* lengths on both sides of 1, 3, 8, 20, 50 and 253 */
+static const unsigned lengths[] = {0,  1,  2,  3,  4,  7,   8,   9,  19,
+                                   20, 21, 49, 50, 51, 252, 253, 254};
+
+/* octets on both sides of each range of contents */
+static const struct {
+    uint8_t type, n;
+    const char *octets;
+} contents[] = {
+    {0x02, 1, "1F 20 21 22 23 24 27 28 29 2A 2B 2C 2D 2E 2F 30 39 3A FF"},
+    {0x03, 1, "1F 20 21 2F 30 39 3A"},
+    {0x0E, 1, "1F 20 21 2F 30 39 3A"},
+    {0x12, 1, "1F 20 21 2F 30 39 3A"},
+    {0x04, 1, "00 4E 4F 50 51 FF"},
+    {0x08, 1, "00 4E 4F 50 51 FF"},
+    {0x07, 1, "00 1F 20 7E 7F FF"},
+    {0x0B, 1, "00 01 7F 80 FE FF"},
+    {0x0D, 3, "00 01 54 55 56 FE FF"},
+    {0x11, 1, "00 01 07 08 0F 10 11 12 4F 50 51 52 80 81 FF"},
+    {0x13, 1, "00 01 FF"},
+    {0x15, 1, "00 06 07 7F 80 FF"},
+    {0x16, 1, "00 0F 10 FF"},
+    {0x05, 1, "00 FF"},
+};
+
+/* dates up to an octet on a side of a limit */
+static const char *const dates[] = {
+    "/",        "0",        "1",        "2",        "00",       "01",
+    "09",       "0:",       "1/",       "10",       "12",       "13",
+    "010",      "013",      "014",      "01/",      "0100",     "0101",
+    "0129",     "0130",     "0131",     "0132",     "01010",    "01012",
+    "01013",    "0101:",    "010100",   "010119",   "010123",   "010124",
+    "01012/",   "0101000",  "0101005",  "0101006",  "010100/",  "01010000",
+    "01010059", "0101005:", "12312359", "02300000", "04310000",
+};
+
+static void limits(void)
+{
+    uint8_t o[300] = {0x80, 3};
+
+    for (unsigned x = 0x7F; x <= 0x83; x++)
+        for (unsigned l = 0; l <= 4; l++) {
+            uint8_t start[2] = {(uint8_t)x, (uint8_t)l};
+            put_case(start, 2, NULL);
+        }
+    hex_case("00", NULL);
+    hex_case("FF", NULL);
+    hex_case("82 FF", NULL);
+
+    /* each type in each room on a side of a limit */
+    for (size_t t = 0; t < sizeof types; t++)
+        for (unsigned room = 3; room <= 14; room++) {
+            o[1] = (uint8_t)room;
+            o[2] = types[t];
+            put_case(o, 3, NULL);
+        }
+
+    /* each length, with nothing, 1, 2 and 3 octets left after it */
+    for (size_t t = 0; t < sizeof types; t++)
+        for (size_t i = 0; i < sizeof lengths / sizeof *lengths; i++)
+            for (unsigned left = 0; left <= 3; left++) {
+                unsigned room = 2 + lengths[i] + left;
+                if (room < 3 || room > 255)
+                    continue;
+                o[1] = (uint8_t)room;
+                o[2] = types[t];
+                o[3] = (uint8_t)lengths[i];
+                put_case(o, 4, NULL);
+            }
+
+    /* each octet of contents, alone and as the message's last parameter */
+    for (size_t c = 0; c < sizeof contents / sizeof *contents; c++) {
+        uint8_t x[32];
+        size_t n = octets_of(contents[c].octets, x);
+        for (size_t i = 0; i < n; i++) {
+            unsigned sum = 0;
+            size_t size = 4u + contents[c].n;
+            memset(o, 0xFF, sizeof o);
+            o[0] = 0x82;
+            o[1] = (uint8_t)(2 + contents[c].n);
+            o[2] = contents[c].type;
+            o[3] = contents[c].n;
+            o[4] = x[i];
+            for (size_t k = 0; k < size; k++)
+                sum += o[k];
+            o[size] = (uint8_t)(256 - sum % 256);
+            put_case(o, size + 1, NULL);
+            o[size]++;
+            put_case(o, size + 1, NULL);
+        }
+    }
+
+    for (size_t i = 0; i < sizeof dates / sizeof *dates; i++) {
+        uint8_t d[12] = {0x80, 0x0A, 0x01, 0x08};
+        size_t n = strlen(dates[i]);
+        memcpy(d + 4, dates[i], n);
+        put_case(d, 4 + n, NULL);
+    }
+}
+
+/* ---- What counts, and long messages ---- */
+
+static uint8_t built[300];
+
+static void begin(uint8_t kind)
+{
+    built[0] = kind;
+    built[1] = 0;
+}
+
+static void add(uint8_t type, uint8_t n, uint8_t x)
+{
+    uint8_t *at = built + 2 + built[1];
+    at[0] = type;
+    at[1] = n;
+    memset(at + 2, x, n);
+    built[1] = (uint8_t)(built[1] + 2 + n);
+}
+
+static void end(void)
+{
+    unsigned sum = 0;
+    size_t n = 2u + built[1];
+    for (size_t i = 0; i < n; i++)
+        sum += built[i];
+    built[n] = (uint8_t)(256 - sum % 256);
+    put_case(built, n + 1, NULL);
+    built[n + 1] = '\n';
+    put_case(built, n + 2, NULL);
+    put_case(built, n, NULL);
+}
+
+static void whole(void)
+{
+    /* a pair in both orders, and a third of the first type */
+    begin(0x80), add(0x02, 1, '1'), add(0x04, 1, 'P'), add(0x02, 1, '2'), end();
+    begin(0x80), add(0x04, 1, 'P'), add(0x02, 1, '1'), add(0x04, 1, 'O'), end();
+    begin(0x80), add(0x07, 1, 'A'), add(0x08, 1, 'O'), end();
+    begin(0x80), add(0x08, 1, 'O'), add(0x07, 1, 'A'), end();
+    /* repeats, and carried ones, which are only numbered */
+    begin(0x82), add(0x0B, 1, 0x00), add(0x0B, 1, 0xFF), end();
+    begin(0x82), add(0x05, 1, 1), add(0x05, 1, 2), add(0x99, 4, 3), end();
+    begin(0x80), add(0x0D, 3, 0xFF), add(0x11, 1, 0x81), end();
+    begin(0x82), add(0x0D, 3, 0x00), add(0x15, 1, 0x06), add(0x16, 1, 0x0A),
+        end();
+    /* 85 parameters, the most there are */
+    begin(0x80);
+    for (int i = 0; i < 85; i++)
+        add(0x05, 1, 0);
+    end();
+    /* one carried parameter of 253 octets, the longest */
+    begin(0x82), add(0x17, 253, 0), end();
+    /* the longest listing: each value as long as it can be */
+    begin(0x82), add(0x01, 8, '0');
+    memcpy(built + 4, "12312359", 8);
+    add(0x02, 20, '0'), add(0x03, 20, '1'), add(0x07, 50, 'A');
+    add(0x0B, 1, 0x00), add(0x0D, 3, 0xFF);
+    built[2 + built[1] - 3] = 0x55;
+    add(0x0E, 20, '2'), add(0x11, 1, 0xFF), add(0x12, 20, '3');
+    add(0x13, 1, 0xFF), add(0x15, 1, 0xFF), add(0x16, 1, 0x0F);
+    for (int i = 0; i < 10; i++)
+        add(0x05, 1, 0);
+    end();
+}
+
+int main(int argc, char **argv)
+{
+    if (argc != 3)
+        return 2;
+    cases = fopen(argv[1], "wb");
+    lines = fopen(argv[2], "wb");
+    if (!cases || !lines)
+        return 2;
+    for (size_t i = 0; i < sizeof table / sizeof *table; i++)
+        hex_case(table[i][0], table[i][1]);
+    limits();
+    whole();
+    wrong |= ferror(cases) | ferror(lines);
+    wrong |= fclose(cases) | fclose(lines);
+    return wrong ? 1 : 0;
+}
