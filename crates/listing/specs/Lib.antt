@@ -5,4 +5,5 @@ pub mod Put
 pub mod Listing
 pub mod Longest
 pub mod Lines
+pub mod Plain
 pub mod Examples

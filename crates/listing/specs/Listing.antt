@@ -1,7 +1,8 @@
 -- The listing of any octets (document 01, What showmsg prints).
 -- Assumes nothing.
 use Prim.Native.Nat.{ℕ, _+_, _*_, _-_}
-use mathlib.Core.List.{List, [], _∷_, _++_}
+use mathlib.Core.Path.{_≡_, refl, sym, _∙_, ap}
+use mathlib.Core.List.{List, [], _∷_, _++_, append-assoc, append-nil}
 use mathlib.Core.Option.{Option, none, some}
 use lib.ListN.{length, getD, replicate}
 use Rattle.rules.specs.Tests.{_=?_, pick}
@@ -61,6 +62,15 @@ lineText l = l .key ++ ascii "=" ++ l .value ++ ascii "\n"
 unfoldable pub written : List Line → List ℕ
 written [] = []
 written (l ∷ ls) = lineText l ++ written ls
+
+pub written-one : (l : Line) → written (l ∷ []) ≡ lineText l
+unfolding written
+written-one l = append-nil (lineText l)
+
+pub written-append : (a b : List Line) → written (a ++ b) ≡ written a ++ written b
+unfolding written
+written-append [] b = refl
+written-append (l ∷ a) b = ap (λ (v : List ℕ). lineText l ++ v) (written-append a b) ∙ sym (append-assoc (lineText l) (written a) (written b))
 
 -- the line of a row with contents
 unfoldable pub lineOf : Rules → Row → List ℕ → Line
