@@ -25,10 +25,12 @@ use Rattle.listing.specs.Listing.{half, clock, lampWord, stateWord, refe
 abbrev pub Row : Type 0
 Row = List ℕ × String
 
+-- what is printed of each
 unfoldable pub listings : List Row → List (List ℕ)
 listings [] = []
 listings (r ∷ rs) = listingOf document01 (r .0) ∷ listings rs
 
+-- what each row says
 unfoldable pub texts : List Row → List (List ℕ)
 texts [] = []
 texts (r ∷ rs) = ascii (r .1) ∷ texts rs

@@ -6,4 +6,5 @@ pub mod Listing
 pub mod Longest
 pub mod Lines
 pub mod Plain
+pub mod First
 pub mod Examples

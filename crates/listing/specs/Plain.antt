@@ -28,6 +28,7 @@ unfoldable pub cutFrom : List ℕ → List ℕ → List (List ℕ)
 cutFrom a [] = []
 cutFrom a (x ∷ t) = pick (x =? 0x0A) (a ∷ cutFrom [] t) (cutFrom (a ++ x ∷ []) t)
 
+-- the lines of a text, each without its 0AH
 unfoldable pub cut : List ℕ → List (List ℕ)
 cut t = cutFrom [] t
 
@@ -35,6 +36,7 @@ cut t = cutFrom [] t
 unfoldable pub bare : Line → List ℕ
 bare l = l .key ++ ascii "=" ++ l .value
 
+-- each line so
 unfoldable pub bares : List Line → List (List ℕ)
 bares [] = []
 bares (l ∷ ls) = bare l ∷ bares ls
@@ -52,6 +54,7 @@ cut-line a (x ∷ l) t p =
     ∙ cut-line (a ++ x ∷ []) l t (every-tail (λ (x : ℕ). 0x20 ≤? x) x l p)
     ∙ ap (λ (v : List ℕ). v ∷ cutFrom [] t) (append-assoc a (x ∷ []) l)
 
+-- every line is plain
 abbrev pub Plain : List Line → Type 0
 Plain [] = Unit {0}
 Plain (l ∷ ls) = T (plain (bare l)) × Plain ls
@@ -72,6 +75,7 @@ cut-written (l ∷ ls) p =
 unfoldable plainSet : List Range → Bool
 plainSet s = every (λ (r : Range). 0x20 ≤? r .0) s
 
+-- no contents of a shape have an octet below 20H
 unfoldable plainShape : Shape → Bool
 plainShape (pairs rs) = true
 plainShape (columns ss) = every plainSet ss
