@@ -1,19 +1,15 @@
 -- What the promise of `listing` says of any octets, over the written rules.
 -- Assumes nothing.
-use Prim.Native.Nat.{ℕ, _-_, _≤_, _<_}
-use mathlib.Core.Path.{_≡_, refl, sym, _∙_, ap, ap₂, subst}
-use mathlib.Core.Logic.{_↔_}
-use mathlib.Core.List.{List, _++_}
-use mathlib.Core.Option.{Option, some}
+use Prim.Native.Nat.{ℕ, _-_}
+use mathlib.Core.Path.{_≡_, refl, sym, _∙_, ap}
+use mathlib.Core.List.{List}
 use lib.ListN.{length, take, drop, replicate}
 use lib.Seq.{take-append-seam, drop-append-seam}
-use Rattle.rules.specs.Octets.{Octets}
-use Rattle.rules.specs.Table.{document01, classOf, styleOf}
+use Rattle.rules.specs.Table.{document01}
 use Rattle.rules.specs.ContentLaw.{document01-sound}
 use Rattle.rules.specs.Unique.{document01-told}
 use Rattle.rules.specs.Message as message
 use Rattle.rules.specs.Message.{octets, LegalMessage, Accepts}
-use Rattle.rules.specs.Counting.{counted, carriedIn}
 use Rattle.rules.specs.declared.Fault.{Fault}
 use Rattle.message.specs.declared.Verdict.{Verdict}
 use Rattle.message.specs.declared.Verdict.the-variants.{Accepted, Declined}
@@ -21,7 +17,8 @@ use Rattle.message.specs.Verdict.{verdictOf}
 use Rattle.message.specs.Judges.{judges}
 use Rattle.message.specs.Parameters.{messageIn, message-in}
 use Rattle.listing.specs.declared.Text.{Text}
-use Rattle.listing.specs.Listing.{Line, written, linesOf, listed, refusal, listingOf, textOf}
+use Rattle.listing.specs.Listing.{written, linesOf, listed, refusal, listingOf, textOf}
+use Rattle.listing.specs.Plain.{cut, bares, lines-back}
 use Rattle.listing.proofs.listing.Reads as listing
 
 -- the octets of a listing
@@ -50,6 +47,10 @@ module _ (κs : _) (a : _) (r : _) (s : _) (p : listing.Post κs a r s) where
       lists
       ∙ ap (λ (x : Verdict). written (listed document01 o x)) v
       ∙ ap (λ (x : message.Message). written (linesOf document01 x)) (ap messageIn (sym e) ∙ message-in document01 document01-sound m l)
+
+  -- cut at its line ends it gives them back
+  pub lists-lines : (m : message.Message) → LegalMessage document01 m → octets m ≡ a .0 .now → cut (shown r) ≡ bares (linesOf document01 m)
+  lists-lines m l e = ap cut (lists-message m l e) ∙ lines-back m l
 
   -- of a refusal: number and place, as the verdict has them
   pub lists-refusal : (f : Fault) → verdictOf document01 (a .0 .now) ≡ Declined f → shown r ≡ written (refusal f)

@@ -1,14 +1,14 @@
 -- What each function that puts octets owes its callers: words from their tests, texts from copies and single stores.
 -- Assumes nothing.
-use Prim.Native.Nat.{ℕ, suc, _+_, _-_, _≤_, _<_}
-use mathlib.Core.Path.{_≡_, refl, sym, _∙_, ap, ap₂}
+use Prim.Native.Nat.{ℕ, _+_, _-_}
+use mathlib.Core.Path.{_≡_, sym, _∙_, ap, ap₂}
 use mathlib.Core.List.{List, [], _∷_, _++_, append-nil}
 use native.Mathlib.Numerals.{add-one}
 use native.Mathlib.Omega.{arith}
 use lib.ListN.{length, length-drop, take, drop, drop-of-length-le, set}
 use lib.Seq.{take-length, take-all, drop-drop, set-split}
 use borrow.Rule.Slice.PartMut.{putMid}
-use Rattle.rules.specs.Tests.{_=?_, pick, pick-yes, pick-not, of-eq, eq-of}
+use Rattle.rules.specs.Tests.{_=?_, pick-yes, pick-not, of-eq, eq-of}
 use Rattle.rules.specs.Table.{ascii}
 use Rattle.listing.specs.Put.{Room, Put, put-whole}
 use Rattle.listing.specs.Listing.{lampWord, stateWord, kindLine, lineText}

@@ -9,8 +9,7 @@ use native.Mathlib.Omega.{arith}
 use lib.ListN.{length, length-append, getD, take, drop, take-append-drop}
 use lib.Seq.{take-suc}
 use Rattle.rules.specs.Tests.{pick, picked-by}
-use Rattle.rules.specs.Table.{Rules, Row, document01, listed, rivalOf, ascii}
-use Rattle.rules.specs.Message as message
+use Rattle.rules.specs.Table.{Row, document01, listed, rivalOf, ascii}
 use Rattle.rules.specs.Counting.{carriedIn}
 use Rattle.rules.specs.declared.Fault.{Fault}
 use Rattle.message.specs.declared.Found.{Found}
@@ -22,8 +21,8 @@ use Rattle.message.specs.Searching.{found-inside}
 use Rattle.message.specs.Parameters.{parametersFrom, parametersIn, no-more, none-here, one-here}
 use Rattle.listing.specs.Numerals.{decimal}
 use Rattle.listing.specs.Put.{Room, Put, put-then, put-same, put-none}
-use Rattle.listing.specs.Listing.{Line, lineText, written, lineOf, linesFor, partLines, rowsAt, rowAt, kindLine, carriedLine, linesAt, numberLine, refusal}
-use Rattle.listing.proofs.Keys.{kinds, Key, key-at}
+use Rattle.listing.specs.Listing.{lineText, written, written-one, written-append, lineOf, linesFor, partLines, rowsAt, rowAt, kindLine, carriedLine, linesAt, numberLine, refusal}
+use Rattle.listing.proofs.Keys.{kinds, key-at}
 
 -- ---- where contents stand, they lie inside
 not-at : (s n : ℕ) → Nowhere ≡ At s n → ⊥
@@ -47,10 +46,6 @@ part-inside o t p s n e q =
     picked-by (s + n ≤ length o) _ _ _ _ (sym e ∙ q) (λ _ d. search-inside (length o) t (rivalOf document01 t) o 2 s n d) (λ _ d. absurd (not-at s n d))
 
 -- ---- the line of a row
-one-line : (l : Line) → written (l ∷ []) ≡ lineText l
-unfolding written
-one-line l = append-nil (lineText l)
-
 module _ (o : List ℕ) (i : ℕ) (h : i < 14) (p : Part) (e : p ≡ countedAt o (getD kinds i 0)) where
   stands : partLines document01 o (rowAt i) ≡ linesFor document01 (rowAt i) (partOf o p)
   unfolding partLines
@@ -61,7 +56,7 @@ module _ (o : List ℕ) (i : ℕ) (h : i < 14) (p : Part) (e : p ≡ countedAt o
   row-line s n q =
       let z : s + n - s ≡ n = omega arith in
       ap (λ (k : ℕ). lineText (lineOf document01 (rowAt i) (take k (drop s o)))) z
-      ∙ sym (one-line (lineOf document01 (rowAt i) (take n (drop s o))))
+      ∙ sym (written-one (lineOf document01 (rowAt i) (take n (drop s o))))
       ∙ ap written (sym (stands ∙ ap (λ (x : Part). linesFor document01 (rowAt i) (partOf o x)) q))
 
   pub row-none : p ≡ Nowhere → [] ≡ written (partLines document01 o (rowAt i))
@@ -69,11 +64,6 @@ module _ (o : List ℕ) (i : ℕ) (h : i < 14) (p : Part) (e : p ≡ countedAt o
   row-none q = ap written (sym (stands ∙ ap (λ (x : Part). linesFor document01 (rowAt i) (partOf o x)) q))
 
 -- ---- line after line
-pub written-append : (a b : List Line) → written (a ++ b) ≡ written a ++ written b
-unfolding written
-written-append [] b = refl
-written-append (l ∷ a) b = ap (λ (v : List ℕ). lineText l ++ v) (written-append a b) ∙ sym (append-assoc (lineText l) (written a) (written b))
-
 abbrev rows : List Row
 rows = document01 .rows
 

@@ -1,6 +1,6 @@
 -- What `listing` owes its callers: the lines from an accepted message's octets are those of the message that they are, and they fit the buffer.
 -- Assumes nothing.
-use Prim.Native.Nat.{ℕ, _+_, _-_, _≤_, _<_}
+use Prim.Native.Nat.{ℕ, _+_, _-_, _≤_}
 use mathlib.Core.Path.{_≡_, refl, sym, _∙_, ap, ap₂, subst}
 use mathlib.Core.List.{List, [], _∷_, _++_}
 use mathlib.Core.Option.{Option}
@@ -21,7 +21,6 @@ use Rattle.message.specs.Judges.{judges}
 use Rattle.message.specs.Walking.{countedAt, partOf}
 use Rattle.message.specs.Searching.{counted-part}
 use Rattle.message.specs.Parameters.{parametersIn, messageIn, message-in}
-use Rattle.listing.specs.declared.Text.{Text}
 use Rattle.listing.specs.Put.{Room, Put, put-first}
 use Rattle.listing.specs.Listing.{Line, written, kindLine, carriedLine, linesFor, rowLines, linesOf, partLines, rowsAt, linesAt, listed, refusal, listingOf, textOf}
 use Rattle.listing.specs.Longest.{longest, refusal-short}

@@ -3,7 +3,7 @@
 use Prim.Native.Nat.{ℕ}
 use Prim.Native.String.{String}
 use mathlib.Core.Path.{_≡_, refl}
-use mathlib.Core.List.{List, [], _∷_, _++_}
+use mathlib.Core.List.{List, [], _∷_}
 use lib.ListN.{length, replicate}
 use Rattle.rules.specs.Tests.{_≤?_, _=?_, _and_, _or_, pick}
 use Rattle.rules.specs.Octets.{total, checksum}
@@ -25,10 +25,12 @@ use Rattle.listing.specs.Listing.{half, clock, lampWord, stateWord, refe
 abbrev pub Row : Type 0
 Row = List ℕ × String
 
+-- what is printed of each
 unfoldable pub listings : List Row → List (List ℕ)
 listings [] = []
 listings (r ∷ rs) = listingOf document01 (r .0) ∷ listings rs
 
+-- what each row says
 unfoldable pub texts : List Row → List (List ℕ)
 texts [] = []
 texts (r ∷ rs) = ascii (r .1) ∷ texts rs

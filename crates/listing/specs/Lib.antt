@@ -5,4 +5,6 @@ pub mod Put
 pub mod Listing
 pub mod Longest
 pub mod Lines
+pub mod Plain
+pub mod First
 pub mod Examples

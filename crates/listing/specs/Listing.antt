@@ -1,7 +1,8 @@
 -- The listing of any octets (document 01, What showmsg prints).
 -- Assumes nothing.
 use Prim.Native.Nat.{ℕ, _+_, _*_, _-_}
-use mathlib.Core.List.{List, [], _∷_, _++_}
+use mathlib.Core.Path.{_≡_, refl, sym, _∙_, ap}
+use mathlib.Core.List.{List, [], _∷_, _++_, append-assoc, append-nil}
 use mathlib.Core.Option.{Option, none, some}
 use lib.ListN.{length, getD, replicate}
 use Rattle.rules.specs.Tests.{_=?_, pick}
@@ -28,9 +29,11 @@ half v i mark = getD v i 0 ∷ getD v (i + 1) 0 ∷ mark ∷ getD v (i + 2) 0 �
 unfoldable pub clock : List ℕ → List ℕ
 clock v = half v 0 0x2D ++ ascii " " ++ half v 4 0x3A
 
+-- 00H is off, FFH is on
 unfoldable pub lampWord : ℕ → List ℕ
 lampWord x = pick (x =? 0) (ascii "off") (ascii "on")
 
+-- a lamp's words, and 55H is unset
 unfoldable pub stateWord : ℕ → List ℕ
 stateWord x = pick (x =? 0x55) (ascii "unset") (lampWord x)
 
@@ -50,6 +53,7 @@ printed numbered v = []
 
 -- ---- lines
 
+-- a line of a listing
 pub record Line : Type 0 where
   pub key : List ℕ
   pub value : List ℕ
@@ -58,6 +62,7 @@ pub record Line : Type 0 where
 unfoldable pub lineText : Line → List ℕ
 lineText l = l .key ++ ascii "=" ++ l .value ++ ascii "\n"
 
+-- line after line
 unfoldable pub written : List Line → List ℕ
 written [] = []
 written (l ∷ ls) = lineText l ++ written ls
@@ -66,18 +71,21 @@ written (l ∷ ls) = lineText l ++ written ls
 unfoldable pub lineOf : Rules → Row → List ℕ → Line
 lineOf R r v = record { key = r .key; value = printed (styleOf (classOf R (r .kind))) v }
 
--- no line where nothing counts
+-- of contents that count one line, and none where nothing counts
 unfoldable pub linesFor : Rules → Row → Option (List ℕ) → List Line
 linesFor R r none = []
 linesFor R r (some v) = lineOf R r v ∷ []
 
+-- the lines of some rows, in their order
 unfoldable pub rowLines : Rules → Message → List Row → List Line
 rowLines R m [] = []
 rowLines R m (r ∷ rs) = linesFor R r (counted R m (r .kind)) ++ rowLines R m rs
 
+-- 80H is a call message, 82H a notice
 unfoldable pub kindLine : ℕ → Line
 kindLine x = record { key = ascii "kind"; value = pick (x =? 0x80) (ascii "call") (ascii "notice") }
 
+-- how many parameters are carried
 unfoldable pub carriedLine : ℕ → Line
 carriedLine n = record { key = ascii "carried"; value = decimal n }
 
@@ -89,6 +97,7 @@ linesOf R m = kindLine (m .kind) ∷ (rowLines R m (R .rows) ++ carriedLine (car
 unfoldable pub refusal : Fault → List Line
 refusal f = (record { key = ascii "refused"; value = decimal (f .number) }) ∷ (record { key = ascii "at"; value = decimal (f .place) }) ∷ []
 
+-- an accepted message has its lines, and a refusal its two
 unfoldable pub listed : Rules → List ℕ → Verdict → List Line
 listed R o (Accepted n) = linesOf R (messageIn o)
 listed R o (Declined f) = refusal f
@@ -103,7 +112,7 @@ textOf v = record { octets = v ++ replicate (292 - length v) 0; length = length 
 
 -- ---- for the code: the same from the octets, row by row
 
--- the row of document 01 with a number, from 0
+-- the row of document 01 with a number, from 0, or one that says nothing
 abbrev pub noRow : Row
 noRow = record { kind = 0; class = Carried; rival = 0; key = [] }
 
@@ -114,13 +123,25 @@ rowAt i = getD (document01 .rows) i noRow
 unfoldable pub partLines : Rules → List ℕ → Row → List Line
 partLines R o r = linesFor R r (partOf o (countedAt o (r .kind)))
 
+-- the lines of some rows
 unfoldable pub rowsAt : Rules → List ℕ → List Row → List Line
 rowsAt R o [] = []
 rowsAt R o (r ∷ rs) = partLines R o r ++ rowsAt R o rs
 
+-- the lines of a message's octets
 unfoldable pub linesAt : Rules → List ℕ → List Line
 linesAt R o = kindLine (getD o 0 0) ∷ (rowsAt R o (R .rows) ++ carriedLine (carriedIn R (parametersIn o)) ∷ [])
 
 -- a line of a number, its key with the `=`
 unfoldable pub numberLine : List ℕ → ℕ → List ℕ
 numberLine k n = k ++ decimal n ++ ascii "\n"
+
+-- ---- lines together
+pub written-one : (l : Line) → written (l ∷ []) ≡ lineText l
+unfolding written
+written-one l = append-nil (lineText l)
+
+pub written-append : (a b : List Line) → written (a ++ b) ≡ written a ++ written b
+unfolding written
+written-append [] b = refl
+written-append (l ∷ a) b = ap (λ (v : List ℕ). lineText l ++ v) (written-append a b) ∙ sym (append-assoc (lineText l) (written a) (written b))

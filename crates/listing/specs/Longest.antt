@@ -1,9 +1,8 @@
 -- No listing is longer than its buffer of 292 octets: each value has its widest text, and of a pair only one counts.
 -- Assumes nothing.
 use Prim.Native.Nat.{ℕ, zero, suc, _+_, _*_, _-_, _≤_, _<_}
-use mathlib.Core.Path.{_≡_, refl, sym, _∙_, ap, ap₂, subst}
-use mathlib.Core.Logic.{_⊎_, inl, inr, ⊎-elim}
-use mathlib.Core.Bool.{Bool, true, false}
+use mathlib.Core.Path.{_≡_, refl, sym, _∙_, ap, subst}
+use mathlib.Core.Logic.{_⊎_, ⊎-elim}
 use mathlib.Core.List.{List, [], _∷_, _++_}
 use mathlib.Core.Option.{Option, none, some}
 use native.Mathlib.Omega.{arith}
@@ -11,8 +10,8 @@ use lib.ListN.{length, length-append, getD, replicate}
 use lib.Dec.{T}
 use Rattle.rules.specs.Tests.{_=?_, pick, pick-case, both, either, le-of}
 use Rattle.rules.specs.Octets.{Octets}
-use Rattle.rules.specs.Contents.{Range, Shape, within, inSet, lengths, lengthFits, contentsFit}
-use Rattle.rules.specs.Table.{Rules, Row, document01, rowOf, rowIn, listed, classOf, shapeOf, shape01, rivalOf, styleOf, ascii}
+use Rattle.rules.specs.Contents.{within, inSet, lengths, lengthFits, contentsFit}
+use Rattle.rules.specs.Table.{Row, document01, rowOf, rowIn, listed, classOf, shapeOf, shape01, rivalOf, styleOf, ascii}
 use Rattle.rules.specs.ContentLaw.{document01-sound, fit-length, fit-octets}
 use Rattle.rules.specs.Message as message
 use Rattle.rules.specs.Message.{Message, AllLegal, LegalMessage}
@@ -23,7 +22,7 @@ use Rattle.rules.specs.declared.Fault.{Fault}
 use Rattle.message.specs.Parameters.{few}
 use Rattle.listing.specs.declared.Text.{Text}
 use Rattle.listing.specs.Numerals.{decimal, hex, two-digits, three-digits, five-digits}
-use Rattle.listing.specs.Listing.{half, clock, lampWord, stateWord, reference, printed, Line, lineText, written, lineOf, linesFor, rowLines, rowAt, kindLine, carriedLine, linesOf, refusal, textOf}
+use Rattle.listing.specs.Listing.{half, clock, lampWord, stateWord, reference, printed, Line, lineText, written, lineOf, linesFor, rowLines, rowAt, kindLine, carriedLine, linesOf, refusal, textOf, written-one, written-append}
 
 -- ---- values
 
@@ -79,14 +78,11 @@ line-long : (l : Line) → length (lineText l) ≡ length (l .key) + length (l .
 unfolding lineText ascii
 line-long l = omega (arith, length-append (l .key ++ ascii "=" ++ l .value) (ascii "\n"), length-append (l .key ++ ascii "=") (l .value), length-append (l .key) (ascii "="))
 
-one-line : (l : Line) → length (written (l ∷ [])) ≡ length (l .key) + length (l .value) + 2
-unfolding written
-one-line l = length-append (lineText l) [] ∙ omega (arith, line-long l)
+append-long : (a b : List Line) → length (written (a ++ b)) ≡ length (written a) + length (written b)
+append-long a b = ap length (written-append a b) ∙ length-append (written a) (written b)
 
-pub written-append : (a b : List Line) → length (written (a ++ b)) ≡ length (written a) + length (written b)
-unfolding written
-written-append [] b = omega arith
-written-append (l ∷ a) b = omega (arith, length-append (lineText l) (written (a ++ b)), length-append (lineText l) (written a), written-append a b)
+one-line : (l : Line) → length (written (l ∷ [])) ≡ length (l .key) + length (l .value) + 2
+one-line l = ap length (written-one l) ∙ line-long l
 
 fit-wide : (c : Class) (v : List ℕ) → T (contentsFit (shape01 c) v) → length (printed (styleOf c) v) ≤ widest c
 unfolding document01
@@ -102,7 +98,7 @@ module _ (m : Message) (legal : LegalMessage document01 m) where
   among [] p a l = l .0 .fits
   among (q ∷ b) p a l = among b p a (l .1)
 
-  counted-fits : (t : ℕ) (v : List ℕ) → counted document01 m t ≡ some v → T (contentsFit (shape01 (classOf document01 t)) v)
+  pub counted-fits : (t : ℕ) (v : List ℕ) → counted document01 m t ≡ some v → T (contentsFit (shape01 (classOf document01 t)) v)
   unfolding shapeOf document01
   counted-fits t v e =
       let c = counted-iff document01 m t v .0 e in
@@ -146,7 +142,7 @@ module _ (m : Message) (legal : LegalMessage document01 m) where
   sizes-are : (rs : List Row) → length (written (rowLines document01 m rs)) ≡ sizes rs
   unfolding rowLines written sizes size
   sizes-are [] = refl
-  sizes-are (r ∷ rs) = written-append (linesFor document01 r (counted document01 m (r .kind))) (rowLines document01 m rs) ∙ omega (arith, sizes-are rs)
+  sizes-are (r ∷ rs) = append-long (linesFor document01 r (counted document01 m (r .kind))) (rowLines document01 m rs) ∙ omega (arith, sizes-are rs)
 
   width : (r : Row) (w : ℕ) → length (r .key) + widest (classOf document01 (r .kind)) + 2 ≡ w → size r ≤ w
   unfolding size
@@ -168,7 +164,7 @@ module _ (m : Message) (legal : LegalMessage document01 m) where
   longest =
       let n = carriedIn document01 (m .parameters) in
       omega
-      (arith, rows-wide, length-append (lineText (kindLine (m .kind))) (written (rowLines document01 m (document01 .rows) ++ carriedLine n ∷ [])), line-long (kindLine (m .kind)), kind-wide (m .kind), written-append (rowLines document01 m (document01 .rows)) (carriedLine n ∷ []), one-line (carriedLine n), two-digits n (omega (arith, carried-few (m .parameters), few document01 document01-sound m legal)))
+      (arith, rows-wide, length-append (lineText (kindLine (m .kind))) (written (rowLines document01 m (document01 .rows) ++ carriedLine n ∷ [])), line-long (kindLine (m .kind)), kind-wide (m .kind), append-long (rowLines document01 m (document01 .rows)) (carriedLine n ∷ []), one-line (carriedLine n), two-digits n (omega (arith, carried-few (m .parameters), few document01 document01-sound m legal)))
 
 -- nor is that of a refusal
 pub refusal-short : (f : Fault) → f .number < 1000 → f .place < 1000 → length (written (refusal f)) ≤ 292

@@ -1,7 +1,7 @@
 -- Printed numbers (document 01, What showmsg prints): decimal without leading zeros, and two capital hex digits; and that they read back.
 -- Assumes nothing.
 use Prim.Native.Nat.{ℕ, zero, suc, _+_, _*_, _-_, _/_, _%_, _≤_, _<_}
-use mathlib.Core.Path.{_≡_, refl, sym, _∙_, ap, ap₂}
+use mathlib.Core.Path.{_≡_, refl, sym, _∙_, ap}
 use mathlib.Core.Logic.{_⊎_, inl, inr}
 use mathlib.Core.List.{List, [], _∷_, _++_}
 use native.Mathlib.Omega.{arith}
@@ -14,6 +14,7 @@ unfoldable pub digitsBy : ℕ → ℕ → List ℕ
 digitsBy zero n = []
 digitsBy (suc f) n = pick (n ≤? 9) ((48 + n) ∷ []) (digitsBy f (n / 10) ++ (48 + n % 10) ∷ [])
 
+-- a number in decimal
 unfoldable pub decimal : ℕ → List ℕ
 decimal n = digitsBy (suc n) n
 
@@ -21,6 +22,7 @@ decimal n = digitsBy (suc n) n
 unfoldable pub hexDigit : ℕ → ℕ
 hexDigit k = pick (k ≤? 9) (48 + k) (55 + k)
 
+-- an octet in two hex digits
 unfoldable pub hex : ℕ → List ℕ
 hex n = hexDigit (n / 16) ∷ hexDigit (n % 16) ∷ []
 
@@ -131,6 +133,7 @@ five-digits n h = few-digits 5 n (omega arith) (λ l. omega (arith, four (n / 10
     four n h = few-digits 4 n (omega arith) (λ l. omega (arith, three-digits (n / 10) (omega arith)))
 
 -- ---- hex
+-- what a hex digit says
 unfoldable pub hexValue : ℕ → ℕ
 hexValue c = pick (c ≤? 57) (c - 48) (c - 55)
 

@@ -2,7 +2,6 @@
 -- Assumes nothing.
 use native.Mathlib.Omega.{arith}
 use mathlib.Core.Path.{sym, _∙_}
-use lib.ListN.{length}
 use Rattle.listing.specs.Put.{Room, put-then, put-same}
 use Rattle.listing.proofs.Putting.{room-same}
 use Rattle.listing.specs.Numerals.{decimal-small, decimal-big, decimal-long}

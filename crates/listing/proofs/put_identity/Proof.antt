@@ -1,14 +1,13 @@
 -- `listing::put_identity` meets its contract: state, gap and reference, one behind the other.
 -- Assumes nothing.
-use mathlib.Core.Path.{_≡_, sym, ap, subst}
-use Prim.Native.Nat.{ℕ}
+use mathlib.Core.Path.{ap}
 use lib.ListN.{getD}
-use Rattle.listing.specs.Put.{Put, put-then, put-same, room-left, room-then}
+use Rattle.listing.specs.Put.{put-then, put-same, room-left, room-then}
 use Rattle.listing.proofs.Putting.{room-same}
 use Rattle.listing.specs.Listing.{stateWord, reference}
 use Rattle.listing.specs.Numerals.{decimal}
 use Rattle.rules.specs.Table.{ascii}
-use mathlib.Core.List.{List, _++_}
+use mathlib.Core.List.{_++_}
 use borrow.Author.Needs.{needs}
 use Rattle.listing.proofs.put_identity.Statement.{statement}
 use Rattle.listing.proofs.put_identity.Tie as tie

@@ -1,7 +1,6 @@
 -- `listing::put_value` meets its contract: each class in its style.
 -- Assumes nothing.
 use mathlib.Core.Path.{sym, _∙_, ap}
-use lib.ListN.{getD}
 use Rattle.listing.specs.Put.{put-same, put-none}
 use Rattle.listing.proofs.Putting.{room-same}
 use Rattle.listing.specs.Listing.{printed, lampWord}

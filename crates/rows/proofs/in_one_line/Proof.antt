@@ -1,8 +1,8 @@
 -- `rows::in_one_line` meets its contract. The loop keeps the length; the measure is the octets left.
 -- Assumes nothing.
-use Prim.Native.Nat.{_-_, _≤_}
-use mathlib.Core.Path.{_≡_, refl, _∙_}
-use lib.ListN.{length, length-set}
+use Prim.Native.Nat.{_-_}
+use mathlib.Core.Path.{_≡_}
+use lib.ListN.{length}
 use borrow.Author.Needs.{needs}
 use Rattle.rows.proofs.in_one_line.Statement.{statement}
 use Rattle.rows.proofs.in_one_line.Tie as tie
