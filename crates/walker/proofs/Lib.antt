@@ -1,0 +1,3 @@
+-- The root of the proofs.
+pub mod Settled
+pub mod Stepping
