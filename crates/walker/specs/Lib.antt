@@ -3,4 +3,5 @@ pub mod Steps
 pub mod Walking
 pub mod Begins
 pub mod Walks
+pub mod Moves
 pub mod Rows
