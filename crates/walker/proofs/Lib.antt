@@ -1,3 +1,4 @@
 -- The root of the proofs.
 pub mod Settled
 pub mod Stepping
+pub mod Walked
