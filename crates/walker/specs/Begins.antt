@@ -46,6 +46,36 @@ later-begins first q ps at b = record {
   place = omega (arith, b .place, length-append (q .contents) (body (b .before)));
 }
 
+-- ---- places where no parameter begins
+long : (b : List message.Parameter) (p : message.Parameter) (a : List message.Parameter) → length (body b) + 2 + length (p .contents) ≤ length (body (b ++ p ∷ a))
+unfolding body
+long [] p a = omega (arith, length-append (p .contents) (body a))
+long (q ∷ b) p a = omega (arith, long b p a, length-append (q .contents) (body b), length-append (q .contents) (body (b ++ p ∷ a)))
+
+-- each begins before the place behind the last
+pub begins-before : (first : ℕ) (ps : List message.Parameter) (at : ℕ) → Begins first ps at → at + 2 ≤ first + length (body ps)
+begins-before first ps at b = omega (arith, b .place, long (b .before) (b .p) (b .behind), ap (λ (l : List message.Parameter). length (body l)) (b .is))
+
+apart : (b : List message.Parameter) (p : message.Parameter) (a d : List message.Parameter) (q : message.Parameter) (c : List message.Parameter) → b ++ p ∷ a ≡ d ++ q ∷ c → length (body b) < length (body d) → length (body b) + 2 + length (p .contents) ≤ length (body d)
+unfolding body
+apart [] p a [] q c e h = absurd (omega arith)
+apart [] p a (x ∷ d) q c e h = let z : p ≡ x = cc in omega (arith, ap (λ (y : message.Parameter). length (y .contents)) z, length-append (x .contents) (body d))
+apart (x ∷ b) p a [] q c e h = absurd (omega arith)
+apart (x ∷ b) p a (y ∷ d) q c e h =
+    let z : x ≡ y = cc in
+    let t : b ++ p ∷ a ≡ d ++ q ∷ c = cc in
+    let k = ap (λ (w : message.Parameter). length (w .contents)) z in
+    let m = length-append (x .contents) (body b) in
+    let n = length-append (y .contents) (body d) in
+    omega (arith, apart b p a d q c t (omega arith))
+
+-- none begins inside another
+pub begins-apart : (first : ℕ) (ps : List message.Parameter) (at behind : ℕ) (b : Begins first ps at) → Begins first ps behind → at < behind → at + 2 + length (b .p .contents) ≤ behind
+begins-apart first ps at behind b d h =
+    let x = b .place in
+    let y = d .place in
+    omega (arith, apart (b .before) (b .p) (b .behind) (d .before) (d .p) (d .behind) (sym (b .is) ∙ d .is) (omega arith))
+
 pub not-given : (k s n next : ℕ) → NoMore ≡ Parameter k s n next → ⊥
 not-given k s n next e = let z : _≡_ {A = ℕ} 0 1 = cc in omega arith
 

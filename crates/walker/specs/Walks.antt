@@ -1,12 +1,12 @@
 -- What the walker gives, over the written rules (document 01, Drafts): each parameter where it begins, none anywhere else, refusals exactly as the whole
 -- read's, and one call after the other all the parameters in order, then none for ever.
 -- Assumes nothing.
-use Prim.Native.Nat.{ℕ, zero, suc, _+_, _≤_}
+use Prim.Native.Nat.{ℕ, zero, suc, _+_, _≤_, _<_}
 use mathlib.Core.Path.{_≡_, refl, sym, _∙_, ap, ap₂, subst}
 use mathlib.Core.Logic.{_↔_}
-use mathlib.Core.List.{List, _∷_, _++_}
+use mathlib.Core.List.{List, [], _∷_, _++_}
 use native.Mathlib.Omega.{arith}
-use lib.ListN.{length, take, drop}
+use lib.ListN.{length, length-append, take, drop}
 use Rattle.rules.specs.Octets.{Octets, total, checksum}
 use Rattle.rules.specs.Table.{document01}
 use Rattle.rules.specs.Unique.{document01-told}
@@ -24,7 +24,7 @@ use Rattle.walker.specs.declared.Step.{Step}
 use Rattle.walker.specs.declared.Step.the-variants.{Parameter, NoMore, Refused}
 use Rattle.walker.specs.Steps.{walkFrom, stepUnder, stepOf, told, after, placeAt}
 use Rattle.walker.specs.Walking.{walk-plain, under-inside}
-use Rattle.walker.specs.Begins.{Begins, giving, placeOf, place-behind, walk-begins, walk-begun, walk-none, walk-on, walk-ended, contents-stand}
+use Rattle.walker.specs.Begins.{Begins, giving, placeOf, place-behind, begins-before, begins-apart, walk-begins, walk-begun, walk-none, walk-on, walk-ended, contents-stand}
 
 -- the step r at a place of the octets o gives the parameter p: its type, its contents' own place and size in o, and the place behind them
 pub record Gives (o : List ℕ) (at : ℕ) (p : message.Parameter) (r : Step) : Type 0 where
@@ -45,6 +45,10 @@ pub record Stands (m : Message) (at : ℕ) (r : Step) : Type 0 where
   pub begins : told r .more ≡ 1 → Begins 2 (m .parameters) at
   -- where none begins, there is none
   pub none : (Begins 2 (m .parameters) at → ⊥) → r ≡ NoMore
+  -- that is so at 0 and 1, inside a parameter, at the checksum and beyond
+  pub none-early : at < 2 → r ≡ NoMore
+  pub none-inside : (place : ℕ) (b : Begins 2 (m .parameters) place) → place < at → at < place + 2 + length (b .p .contents) → r ≡ NoMore
+  pub none-late : length (octets m) ≤ at + 1 → r ≡ NoMore
 
 -- the octets o and a place went in, and r came back
 pub record Walks (o : List ℕ) (at : ℕ) (r : Step) : Type 0 where
@@ -117,11 +121,21 @@ module _ (m : Message) (l : LegalMessage document01 m) where
       subst (Gives o at (b .p)) (sym (legal-step at ∙ walk-begins o c 85 at 2 (m .parameters) stand (few document01 document01-sound m l) b))
       (giving-gives o at (b .p) (contents-stand o c at 2 (m .parameters) stand b))
 
+  none-at : (at : ℕ) → (Begins 2 (m .parameters) at → ⊥) → stepOf document01 o at ≡ NoMore
+  none-at at n = legal-step at ∙ walk-none o c 85 at 2 (m .parameters) stand (few document01 document01-sound m l) n
+
+  long-is : length o ≡ 3 + length (body (m .parameters))
+  unfolding octets
+  long-is = omega (arith, length-append (body (m .parameters)) (c ∷ []))
+
   step-stands : (at : ℕ) → Stands m at (stepOf document01 o at)
   step-stands at = record {
     parameter = step-gives at;
     begins = λ e. let g = given-is _ e in walk-begun o c 85 at 2 (m .parameters) stand (few document01 document01-sound m l) _ _ _ _ (sym (legal-step at) ∙ g .4);
-    none = λ n. legal-step at ∙ walk-none o c 85 at 2 (m .parameters) stand (few document01 document01-sound m l) n;
+    none = none-at at;
+    none-early = λ h. none-at at (λ b. omega (arith, b .place, h));
+    none-inside = λ place b h k. none-at at (λ d. omega (arith, begins-apart 2 (m .parameters) place at b d h, k));
+    none-late = λ h. none-at at (λ b. omega (arith, begins-before 2 (m .parameters) at b, long-is, h));
   }
 
   -- ---- one call after the other
