@@ -8,15 +8,11 @@ use Rattle.walker.specs.declared.Walker.{Walker}
 use Rattle.walker.specs.declared.Step.{Step}
 use Rattle.walker.specs.Moves.{Begun, Seen, Moved}
 use Rattle.walker.proofs.step_at.Reads as step-at
-use Rattle.walker.proofs.place_after.Reads as place-after
 
 pub step-at-settled : (κs : _) (a : _) (r r' : _) (s s' : _) → step-at.Post κs a r s → step-at.Post κs a r' s' → r ≡ r'
 step-at-settled κs a r r' s s' p q = p ∙ sym q
 
-pub place-after-settled : (κs : _) (a : _) (r r' : _) (s s' : _) → place-after.Post κs a r s → place-after.Post κs a r' s' → r ≡ r'
-place-after-settled κs a r r' s s' p q = p ∙ sym q
-
--- `new`, `look` and `next` are walked by hand: their promises by the names in their contracts, the lent slice and the walker with it
+-- `new`, `look` and `next` are walked by hand and have no generated reading: their promises go by the names that their contracts give them (`Clauses`)
 pub new-settled : (s : RefT (List ℕ)) (r r' : Walker) → Begun s r → Begun s r' → r ≡ r'
 new-settled s r r' p q = p ∙ sym q
 

@@ -2,7 +2,7 @@
 -- The functions are walked by hand and have no generated reading, so their promises go by the names that their contracts give them: `Begun`, `Seen`, `Moved`.
 -- Assumes nothing.
 use Prim.Native.Nat.{ℕ, _≤_}
-use mathlib.Core.Path.{_≡_, refl, sym, _∙_, ap, ap₂, subst}
+use mathlib.Core.Path.{_≡_, sym, _∙_, ap, ap₂, subst}
 use mathlib.Core.List.{List, _∷_, _++_}
 use lib.ListN.{length}
 use denote.Ref.{RefT, now}
@@ -10,10 +10,9 @@ use Rattle.rules.specs.Octets.{Octets}
 use Rattle.rules.specs.Table.{document01}
 use Rattle.rules.specs.Message as message
 use Rattle.rules.specs.Message.{Message, octets, LegalMessage}
-use Rattle.rules.specs.declared.Fault.{Fault}
 use Rattle.walker.specs.declared.Walker.{Walker}
 use Rattle.walker.specs.declared.Step.{Step}
-use Rattle.walker.specs.declared.Step.the-variants.{NoMore, Refused}
+use Rattle.walker.specs.declared.Step.the-variants.{NoMore}
 use Rattle.walker.specs.Steps.{stepOf, placeAt}
 use Rattle.walker.specs.Walks as walks
 use Rattle.walker.specs.Walks.{Gives, Walks}

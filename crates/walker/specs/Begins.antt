@@ -76,10 +76,10 @@ begins-apart first ps at behind b d h =
     let y = d .place in
     omega (arith, apart (b .before) (b .p) (b .behind) (d .before) (d .p) (d .behind) (sym (b .is) ∙ d .is) (omega arith))
 
-pub not-given : (k s n next : ℕ) → NoMore ≡ Parameter k s n next → ⊥
+not-given : (k s n next : ℕ) → NoMore ≡ Parameter k s n next → ⊥
 not-given k s n next e = let z : _≡_ {A = ℕ} 0 1 = cc in omega arith
 
-pub place-far : (first : ℕ) (ps : List message.Parameter) (k : ℕ) → first ≤ placeOf first ps k
+place-far : (first : ℕ) (ps : List message.Parameter) (k : ℕ) → first ≤ placeOf first ps k
 unfolding placeOf
 place-far first ps zero = omega arith
 place-far first [] (suc k) = omega arith

@@ -1,7 +1,7 @@
 -- How a walk goes on; it refuses nothing, and what it gives lies inside the octets.
 -- Assumes nothing.
 use Prim.Native.Nat.{ℕ, zero, suc, _+_, _-_, _≤_, _<_}
-use mathlib.Core.Path.{_≡_, refl, sym, _∙_, ap}
+use mathlib.Core.Path.{_≡_, refl, _∙_, ap}
 use mathlib.Core.List.{List}
 use native.Mathlib.Omega.{arith}
 use lib.ListN.{length}
@@ -43,7 +43,7 @@ module _ (turns : ℕ) (o : List ℕ) (at place : ℕ) where
 
 -- ---- a walk refuses nothing
 module _ (o : List ℕ) where
-  abbrev pub Plain : Step → Type 0
+  abbrev Plain : Step → Type 0
   Plain r = (told r .number ≡ 0) × ((f : Fault) → r ≡ Refused f → ⊥)
 
   plain-given : (k start n next : ℕ) → Plain (Parameter k start n next)
@@ -66,7 +66,7 @@ module _ (o : List ℕ) where
 
 -- ---- the part that a step gives lies inside the octets
 module _ (o : List ℕ) where
-  abbrev pub Inside : Step → Type 0
+  abbrev Inside : Step → Type 0
   Inside r = told r .start + told r .size ≤ length o
 
   met-inside : (at place : ℕ) (f : Found) → f ≡ parameterAt o place → (go : ℕ → Step) → ((b : ℕ) → Inside (go b)) → Inside (met at place f go)
@@ -74,7 +74,7 @@ module _ (o : List ℕ) where
   met-inside at place (found.Parameter k start n) e go i = pick-case Inside _ _ _ (λ _. omega (arith, found-inside o place _ k start n e refl)) (λ _. i (start + n))
   met-inside at place found.Nothing e go i = omega arith
 
-  pub walk-inside : (turns at place : ℕ) → Inside (walkFrom turns o at place)
+  walk-inside : (turns at place : ℕ) → Inside (walkFrom turns o at place)
   unfolding walkFrom told
   walk-inside zero at place = omega arith
   walk-inside (suc turns) at place = met-inside at place (parameterAt o place) refl (walkFrom turns o at) (walk-inside turns at)

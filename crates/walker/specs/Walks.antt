@@ -18,7 +18,7 @@ use Rattle.message.specs.declared.Verdict.{Verdict}
 use Rattle.message.specs.declared.Verdict.the-variants.{Accepted, Declined}
 use Rattle.message.specs.Verdict.{verdictOf}
 use Rattle.message.specs.Judges.{Judges, judges}
-use Rattle.message.specs.Searching.{Stand, contents-are}
+use Rattle.message.specs.Searching.{Stand}
 use Rattle.message.specs.Parameters.{few}
 use Rattle.walker.specs.declared.Step.{Step}
 use Rattle.walker.specs.declared.Step.the-variants.{Parameter, NoMore, Refused}
@@ -108,7 +108,7 @@ module _ (m : Message) (l : LegalMessage document01 m) where
   abbrev c : ℕ
   c = checksum (total (front m))
 
-  pub legal-step : (at : ℕ) → stepOf document01 o at ≡ walkFrom 85 o at 2
+  legal-step : (at : ℕ) → stepOf document01 o at ≡ walkFrom 85 o at 2
   unfolding stepOf
   legal-step at = accepted-is o at _ (length o) (judges o (document01-told .octets _ (m, l, refl)) .accepted (length o) .1 (refl, (m, l, refl)))
 
@@ -116,7 +116,7 @@ module _ (m : Message) (l : LegalMessage document01 m) where
   unfolding octets
   stand = refl
 
-  pub step-gives : (at : ℕ) (b : Begins 2 (m .parameters) at) → Gives o at (b .p) (stepOf document01 o at)
+  step-gives : (at : ℕ) (b : Begins 2 (m .parameters) at) → Gives o at (b .p) (stepOf document01 o at)
   step-gives at b =
       subst (Gives o at (b .p)) (sym (legal-step at ∙ walk-begins o c 85 at 2 (m .parameters) stand (few document01 document01-sound m l) b))
       (giving-gives o at (b .p) (contents-stand o c at 2 (m .parameters) stand b))

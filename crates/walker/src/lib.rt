@@ -66,7 +66,7 @@ pub fn step_at(message: &[u8], at: usize) -> Step
 }
 
 // The place of the next call: behind the parameter that begins at a place, the same place where none does.
-pub fn place_after(message: &[u8], at: usize) -> usize
+fn place_after(message: &[u8], at: usize) -> usize
     ensures { λ r. ⌜ r ≡ after at (stepOf document01 (now (message .entry)) at) ⌝ }
 {
     let step = step_at(message, at);
