@@ -1,0 +1,43 @@
+-- What the functions over a walker promise, each in one equation (document 01: a walker holding the message slice and a place).
+-- Assumes nothing.
+use Prim.Native.Nat.{ℕ, zero, suc}
+use mathlib.Core.Path.{_≡_, _∙_, ap}
+use mathlib.Core.List.{List}
+use denote.Ref.{RefT, now}
+use Rattle.rules.specs.Table.{document01}
+use Rattle.walker.specs.declared.Walker.{Walker}
+use Rattle.walker.specs.declared.Step.{Step}
+use Rattle.walker.specs.Steps.{stepOf, after, placeAt}
+
+-- a new walker holds the message lent and the place of its first parameter
+abbrev pub begun : RefT (List ℕ) → Walker
+begun s = record { message = s; place = 2 }
+
+-- what stands at a walker's place of its message
+abbrev pub seen : Walker → Step
+seen w = stepOf document01 (now (w .message)) (w .place)
+
+-- a walker moved on holds the same message and the place of the next call
+abbrev pub moved : Walker → Walker
+moved w = record { message = w .message; place = after (w .place) (seen w) }
+
+-- the promises of `new`, `look` and `next`
+abbrev pub Begun : RefT (List ℕ) → Walker → Type 0
+Begun s r = r ≡ begun s
+
+abbrev pub Seen : Walker → Step → Type 0
+Seen w r = r ≡ seen w
+
+abbrev pub Moved : Walker → Walker → Type 0
+Moved w r = r ≡ moved w
+
+-- a walker on the message s that so many calls have moved on
+unfoldable pub Reached : RefT (List ℕ) → ℕ → Walker → Type 0
+Reached s zero w = Begun s w
+Reached s (suc calls) w = (v : Walker) × Reached s calls v × Moved v w
+
+-- it holds s, and the place of the next call
+pub reached : (s : RefT (List ℕ)) (calls : ℕ) (w : Walker) → Reached s calls w → w ≡ record { message = s; place = placeAt document01 (now s) calls }
+unfolding Reached placeAt
+reached s zero w e = e
+reached s (suc calls) w e = e .2 ∙ ap moved (reached s calls (e .0) (e .1))

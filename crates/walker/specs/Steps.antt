@@ -1,0 +1,60 @@
+-- What stands at a place of a message (document 01, Drafts: the tool that walks the parameters of one lent message).
+-- Assumes nothing.
+use Prim.Native.Nat.{ℕ, zero, suc, _+_}
+use mathlib.Core.List.{List}
+use Rattle.rules.specs.Tests.{_=?_, pick}
+use Rattle.rules.specs.Table.{Rules}
+use Rattle.message.specs.declared.Verdict.{Verdict}
+use Rattle.message.specs.declared.Verdict.the-variants.{Accepted, Declined}
+use Rattle.message.specs.declared.Found.{Found}
+use Rattle.message.specs.declared.Found.the-variants as found
+use Rattle.message.specs.Verdict.{verdictOf}
+use Rattle.message.specs.Walking.{parameterAt}
+use Rattle.walker.specs.declared.Step.{Step}
+use Rattle.walker.specs.declared.Step.the-variants.{Parameter, NoMore, Refused}
+
+-- the walk stands at a place and finds a parameter there: it is given where that is the place asked for, else the walk goes on behind it
+unfoldable pub met : ℕ → ℕ → Found → (ℕ → Step) → Step
+met at place (found.Parameter k start n) onward = pick (place =? at) (Parameter k start n (start + n)) (onward (start + n))
+met at place found.Nothing onward = NoMore
+
+-- what stands at the place `at`, for a walk that stands at `place`; each parameter takes one of the turns
+unfoldable pub walkFrom : ℕ → List ℕ → ℕ → ℕ → Step
+walkFrom zero o at place = NoMore
+walkFrom (suc turns) o at place = met at place (parameterAt o place) (walkFrom turns o at)
+
+-- octets that the whole read declines get its number and place; of a message the walk begins at 2 and meets 85 parameters at most
+unfoldable pub stepUnder : Verdict → List ℕ → ℕ → Step
+stepUnder (Accepted n) o at = walkFrom 85 o at 2
+stepUnder (Declined f) o at = Refused f
+
+-- what stands at the place `at` of the octets o, by the whole read's verdict on o
+unfoldable pub stepOf : Rules → List ℕ → ℕ → Step
+stepOf R o at = stepUnder (verdictOf R o) o at
+
+-- this paper's number and place, and the type and the part (its start and size) of a parameter
+pub record Told : Type 0 where
+  pub number : ℕ
+  pub place : ℕ
+  -- 1 for a parameter, 0 for none
+  pub more : ℕ
+  pub kind : ℕ
+  pub start : ℕ
+  pub size : ℕ
+
+-- they are, for each case, 0 where there is none
+unfoldable pub told : Step → Told
+told (Parameter k start n next) = record { number = 0; place = 0; more = 1; kind = k; start = start; size = n }
+told NoMore = record { number = 0; place = 0; more = 0; kind = 0; start = 0; size = 0 }
+told (Refused f) = record { number = f .number; place = f .place; more = 0; kind = 0; start = 0; size = 0 }
+
+-- the place of the next call: behind the parameter given, the same place where none is given
+unfoldable pub after : ℕ → Step → ℕ
+after at (Parameter k start n next) = next
+after at NoMore = at
+after at (Refused f) = at
+
+-- the place of the call that so many calls went before: the first is 2
+unfoldable pub placeAt : Rules → List ℕ → ℕ → ℕ
+placeAt R o zero = 2
+placeAt R o (suc calls) = after (placeAt R o calls) (stepOf R o (placeAt R o calls))
