@@ -173,9 +173,6 @@ module _ (o old : List ℕ) (q : Octets o) where
     unfolding laid
     stands = draft-stands document01 document01-sound document01-drawn m (drop (length (texts m)) old) l
 
-  answer-is : readOf document01 o room .answer ≡ packOf document01 o room
-  unfolding readOf
-  answer-is = refl
 
   refused-all : (f : Fault) → packOf document01 o room ≡ Refused f → (areaAfter document01 o old ≡ old) × (readOf document01 o room .draft ≡ emptyOf 0)
   unfolding areaAfter areaFrom readOf draftFrom
