@@ -173,7 +173,6 @@ module _ (o old : List ℕ) (q : Octets o) where
     unfolding laid
     stands = draft-stands document01 document01-sound document01-drawn m (drop (length (texts m)) old) l
 
-
   refused-all : (f : Fault) → packOf document01 o room ≡ Refused f → (areaAfter document01 o old ≡ old) × (readOf document01 o room .draft ≡ emptyOf 0)
   unfolding areaAfter areaFrom readOf draftFrom
   refused-all f e = (ap (areaFrom document01 o old) e, ap (draftFrom document01 o) e)
