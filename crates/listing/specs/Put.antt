@@ -79,3 +79,18 @@ room-left v w at old h = omega (arith, length-append v w)
 pub room-then : (v w : List ℕ) (at : ℕ) (old : List ℕ) (mid : ℕ) (next : List ℕ) → Room (v ++ w) at old → Put v at old mid next → Room w mid next
 unfolding Room
 room-then v w at old mid next h p = omega (arith, length-append v w, p .ends, p .long)
+
+-- ---- three texts, one behind the other
+module _ (u v w : List ℕ) (at : ℕ) (old : List ℕ) (h : Room (u ++ v ++ w) at old) where
+  pub room-first : Room u at old
+  room-first = room-left u v at old (room-left (u ++ v) w at old h)
+
+  module _ (mid : ℕ) (next : List ℕ) (p : Put u at old mid next) where
+    pub room-second : Room v mid next
+    room-second = room-then u v at old mid next (room-left (u ++ v) w at old h) p
+
+    pub room-third : (last : ℕ) (then : List ℕ) → Put v mid next last then → Room w last then
+    room-third last then q = room-then (u ++ v) w at old last then h (put-then u v at old mid next last then p q)
+
+pub put-three : (u v w : List ℕ) (at : ℕ) (old : List ℕ) (a : ℕ) (x : List ℕ) (b : ℕ) (y : List ℕ) (end : ℕ) (new : List ℕ) → Put u at old a x → Put v a x b y → Put w b y end new → Put (u ++ v ++ w) at old end new
+put-three u v w at old a x b y end new p q r = put-then (u ++ v) w at old b y end new (put-then u v at old a x b y p q) r

@@ -1,13 +1,12 @@
 -- `listing::put_line` meets its contract: key, value and line end, one behind the other.
 -- Assumes nothing.
 use mathlib.Core.Path.{_∙_, ap}
-use mathlib.Core.List.{_++_}
-use Rattle.listing.specs.Put.{put-then, put-same, room-left, room-then}
-use Rattle.listing.proofs.Putting.{room-same}
-use Rattle.listing.proofs.Keys.{kinds, key-at}
-use Rattle.listing.specs.Listing.{lineText, lineOf, rowAt, printed}
 use Rattle.rules.specs.Table.{document01, classOf, styleOf, ascii}
 use Rattle.rules.specs.declared.Class.{Class}
+use Rattle.listing.specs.Put.{put-three, put-same, room-first, room-second, room-third}
+use Rattle.listing.proofs.Putting.{room-same}
+use Rattle.listing.proofs.Keys.{kinds, key-at}
+use Rattle.listing.specs.Listing.{lineText, lineOf, printed}
 use borrow.Author.Needs.{needs}
 use Rattle.listing.proofs.put_line.Statement.{statement}
 use Rattle.listing.proofs.put_line.Tie as tie
@@ -20,22 +19,22 @@ class-of-requires c κs = search needs
 
 put-key-requires : tie.Need-put-key-requires
 unfolding lineText lineOf kinds ascii
-put-key-requires c κs = (c .before .before .before .before .pre .0, room-left (rowAt (c .before .before .before .before .args .i) .key ++ ascii "=") ((lineOf document01 (rowAt (c .before .before .before .before .args .i)) (c .before .before .before .before .args .contents .now)) .value) _ _ (room-left ((rowAt (c .before .before .before .before .args .i) .key ++ ascii "=") ++ ((lineOf document01 (rowAt (c .before .before .before .before .args .i)) (c .before .before .before .before .args .contents .now)) .value)) (ascii "\n") _ _ (c .before .before .before .before .pre .1)))
+put-key-requires c κs = (c .before .before .before .before .pre .0, room-first _ _ _ _ _ (c .before .before .before .before .pre .1))
 
 put-value-requires : tie.Need-put-value-requires
 unfolding lineText lineOf kinds ascii
-put-value-requires c κs = room-same _ _ _ _ (ap (λ (k : Class). printed (styleOf k) (c .before .before .before .before .before .before .before .before .args .contents .now)) (c .before .before .before .before .before .class-of .ensures ∙ ap (classOf document01) (key-at (c .before .before .before .before .before .before .before .before .args .i) (c .before .before .before .before .before .before .before .before .pre .0) .kind))) (room-then (rowAt (c .before .before .before .before .before .before .before .before .args .i) .key ++ ascii "=") ((lineOf document01 (rowAt (c .before .before .before .before .before .before .before .before .args .i)) (c .before .before .before .before .before .before .before .before .args .contents .now)) .value) _ _ _ _ (room-left ((rowAt (c .before .before .before .before .before .before .before .before .args .i) .key ++ ascii "=") ++ ((lineOf document01 (rowAt (c .before .before .before .before .before .before .before .before .args .i)) (c .before .before .before .before .before .before .before .before .args .contents .now)) .value)) (ascii "\n") _ _ (c .before .before .before .before .before .before .before .before .pre .1)) (c .before .before .before .put-key .ensures))
+put-value-requires c κs = room-same _ _ _ _ (ap (λ (k : Class). printed (styleOf k) (c .before .before .before .before .before .before .before .before .args .contents .now)) (c .before .before .before .before .before .class-of .ensures ∙ ap (classOf document01) (key-at (c .before .before .before .before .before .before .before .before .args .i) (c .before .before .before .before .before .before .before .before .pre .0) .kind))) (room-second _ _ _ _ _ (c .before .before .before .before .before .before .before .before .pre .1) _ _ (c .before .before .before .put-key .ensures))
 
 put-octet-requires : tie.Need-put-octet-requires
 unfolding lineText lineOf kinds ascii
-put-octet-requires c κs = room-then ((rowAt (c .before .before .before .before .before .before .before .before .before .before .before .before .args .i) .key ++ ascii "=") ++ ((lineOf document01 (rowAt (c .before .before .before .before .before .before .before .before .before .before .before .before .args .i)) (c .before .before .before .before .before .before .before .before .before .before .before .before .args .contents .now)) .value)) (ascii "\n") _ _ _ _ (c .before .before .before .before .before .before .before .before .before .before .before .before .pre .1) (put-then _ _ _ _ _ _ _ _ (c .before .before .before .before .before .before .before .put-key .ensures) (put-same _ _ _ _ _ _ (ap (λ (k : Class). printed (styleOf k) (c .before .before .before .before .before .before .before .before .before .before .before .before .args .contents .now)) (c .before .before .before .before .before .before .before .before .before .class-of .ensures ∙ ap (classOf document01) (key-at (c .before .before .before .before .before .before .before .before .before .before .before .before .args .i) (c .before .before .before .before .before .before .before .before .before .before .before .before .pre .0) .kind))) (c .before .before .before .put-value .ensures)))
+put-octet-requires c κs = room-third _ _ _ _ _ (c .before .before .before .before .before .before .before .before .before .before .before .before .pre .1) _ _ (c .before .before .before .before .before .before .before .put-key .ensures) _ _ (put-same _ _ _ _ _ _ (ap (λ (k : Class). printed (styleOf k) (c .before .before .before .before .before .before .before .before .before .before .before .before .args .contents .now)) (c .before .before .before .before .before .before .before .before .before .class-of .ensures ∙ ap (classOf document01) (key-at (c .before .before .before .before .before .before .before .before .before .before .before .before .args .i) (c .before .before .before .before .before .before .before .before .before .before .before .before .pre .0) .kind))) (c .before .before .before .put-value .ensures))
 
 same-length : tie.Need-same-length
 same-length c = search needs
 
 returns : tie.Need-returns
 unfolding lineText lineOf kinds ascii
-returns c = put-then _ _ _ _ _ _ _ _ (put-then _ _ _ _ _ _ _ _ (c .before .before .before .before .before .before .before .before .before .before .put-key .ensures) (put-same _ _ _ _ _ _ (ap (λ (k : Class). printed (styleOf k) (c .before .before .before .before .before .before .before .before .before .before .before .before .before .before .before .args .contents .now)) (c .before .before .before .before .before .before .before .before .before .before .before .before .class-of .ensures ∙ ap (classOf document01) (key-at (c .before .before .before .before .before .before .before .before .before .before .before .before .before .before .before .args .i) (c .before .before .before .before .before .before .before .before .before .before .before .before .before .before .before .pre .0) .kind))) (c .before .before .before .before .before .before .put-value .ensures))) (c .before .before .put-octet .ensures)
+returns c = put-three _ _ _ _ _ _ _ _ _ _ _ (c .before .before .before .before .before .before .before .before .before .before .put-key .ensures) (put-same _ _ _ _ _ _ (ap (λ (k : Class). printed (styleOf k) (c .before .before .before .before .before .before .before .before .before .before .before .before .before .before .before .args .contents .now)) (c .before .before .before .before .before .before .before .before .before .before .before .before .class-of .ensures ∙ ap (classOf document01) (key-at (c .before .before .before .before .before .before .before .before .before .before .before .before .before .before .before .args .i) (c .before .before .before .before .before .before .before .before .before .before .before .before .before .before .before .pre .0) .kind))) (c .before .before .before .before .before .before .put-value .ensures)) (c .before .before .put-octet .ensures)
 
 pub put-line-spec : {M : Type 1} → statement M
 put-line-spec =

@@ -1,14 +1,11 @@
 -- `listing::put_message` meets its contract: the kind, the rows and the number of carried parameters, one behind the other.
 -- Assumes nothing.
 use mathlib.Core.Path.{refl, ap}
-use mathlib.Core.List.{_++_}
-use Rattle.listing.specs.Put.{put-then, put-same, room-left, room-then}
+use Rattle.rules.specs.Table.{ascii}
+use Rattle.listing.specs.Put.{put-three, put-same, room-first, room-second, room-third}
 use Rattle.listing.proofs.Putting.{room-same}
 use Rattle.listing.proofs.Rows.{message-text}
-use Rattle.listing.specs.Listing.{kindLine, lineText, rowsAt, written, numberLine}
-use Rattle.rules.specs.Table.{document01, ascii}
-use Rattle.rules.specs.Counting.{carriedIn}
-use Rattle.message.specs.Parameters.{parametersIn}
+use Rattle.listing.specs.Listing.{numberLine}
 use borrow.Author.Needs.{needs}
 use Rattle.listing.proofs.put_message.Statement.{statement}
 use Rattle.listing.proofs.put_message.Tie as tie
@@ -18,11 +15,11 @@ octet-requires c κs = search needs
 
 put-kind-requires : tie.Need-put-kind-requires
 unfolding ascii
-put-kind-requires c κs = room-left (lineText (kindLine (c .before .octet .result))) (written (rowsAt document01 (c .before .before .before .before .args .octets .now) (document01 .rows))) _ _ (room-left ((lineText (kindLine (c .before .octet .result))) ++ (written (rowsAt document01 (c .before .before .before .before .args .octets .now) (document01 .rows)))) (numberLine (ascii "carried=") (carriedIn document01 (parametersIn (c .before .before .before .before .args .octets .now)))) _ _ (room-same _ _ _ _ (message-text (c .before .before .before .before .args .octets .now) (c .before .octet .result) (carriedIn document01 (parametersIn (c .before .before .before .before .args .octets .now))) (c .before .octet .ensures) refl) (c .before .before .before .before .pre)))
+put-kind-requires c κs = room-first _ _ _ _ _ (room-same _ _ _ _ (message-text (c .before .before .before .before .args .octets .now) _ _ (c .before .octet .ensures) refl) (c .before .before .before .before .pre))
 
 put-rows-requires : tie.Need-put-rows-requires
 unfolding ascii
-put-rows-requires c κs = room-then (lineText (kindLine (c .before .before .before .before .before .octet .result))) (written (rowsAt document01 (c .before .before .before .before .before .before .before .before .args .octets .now) (document01 .rows))) _ _ _ _ (room-left ((lineText (kindLine (c .before .before .before .before .before .octet .result))) ++ (written (rowsAt document01 (c .before .before .before .before .before .before .before .before .args .octets .now) (document01 .rows)))) (numberLine (ascii "carried=") (carriedIn document01 (parametersIn (c .before .before .before .before .before .before .before .before .args .octets .now)))) _ _ (room-same _ _ _ _ (message-text (c .before .before .before .before .before .before .before .before .args .octets .now) (c .before .before .before .before .before .octet .result) (carriedIn document01 (parametersIn (c .before .before .before .before .before .before .before .before .args .octets .now))) (c .before .before .before .before .before .octet .ensures) refl) (c .before .before .before .before .before .before .before .before .pre))) (c .before .before .before .put-kind .ensures)
+put-rows-requires c κs = room-second _ _ _ _ _ (room-same _ _ _ _ (message-text (c .before .before .before .before .before .before .before .before .args .octets .now) _ _ (c .before .before .before .before .before .octet .ensures) refl) (c .before .before .before .before .before .before .before .before .pre)) _ _ (c .before .before .before .put-kind .ensures)
 
 slice-aggregate-put-number : tie.Need-slice-aggregate-put-number
 slice-aggregate-put-number c = search needs
@@ -32,14 +29,14 @@ carried-requires c κs = search needs
 
 put-number-requires : tie.Need-put-number-requires
 unfolding ascii
-put-number-requires c κs = room-same _ _ _ _ (ap (numberLine (ascii "carried=")) (c .before .carried .ensures)) (room-then ((lineText (kindLine (c .before .before .before .before .before .before .before .before .before .before .before .octet .result))) ++ (written (rowsAt document01 (c .before .before .before .before .before .before .before .before .before .before .before .before .before .before .args .octets .now) (document01 .rows)))) (numberLine (ascii "carried=") (carriedIn document01 (parametersIn (c .before .before .before .before .before .before .before .before .before .before .before .before .before .before .args .octets .now)))) _ _ _ _ (room-same _ _ _ _ (message-text (c .before .before .before .before .before .before .before .before .before .before .before .before .before .before .args .octets .now) (c .before .before .before .before .before .before .before .before .before .before .before .octet .result) (carriedIn document01 (parametersIn (c .before .before .before .before .before .before .before .before .before .before .before .before .before .before .args .octets .now))) (c .before .before .before .before .before .before .before .before .before .before .before .octet .ensures) refl) (c .before .before .before .before .before .before .before .before .before .before .before .before .before .before .pre)) (put-then _ _ _ _ _ _ _ _ (c .before .before .before .before .before .before .before .before .before .put-kind .ensures) (c .before .before .before .before .before .put-rows .ensures)))
+put-number-requires c κs = room-same _ _ _ _ (ap (numberLine (ascii "carried=")) (c .before .carried .ensures)) (room-third _ _ _ _ _ (room-same _ _ _ _ (message-text (c .before .before .before .before .before .before .before .before .before .before .before .before .before .before .args .octets .now) _ _ (c .before .before .before .before .before .before .before .before .before .before .before .octet .ensures) refl) (c .before .before .before .before .before .before .before .before .before .before .before .before .before .before .pre)) _ _ (c .before .before .before .before .before .before .before .before .before .put-kind .ensures) _ _ (c .before .before .before .before .before .put-rows .ensures))
 
 same-length : tie.Need-same-length
 same-length c = search needs
 
 returns : tie.Need-returns
 unfolding ascii
-returns c = put-same _ _ _ _ _ _ (message-text (c .before .before .before .before .before .before .before .before .before .before .before .before .before .before .before .before .before .args .octets .now) _ _ (c .before .before .before .before .before .before .before .before .before .before .before .before .before .before .octet .ensures) (c .before .before .before .before .carried .ensures)) (put-then _ _ _ _ _ _ _ _ (put-then _ _ _ _ _ _ _ _ (c .before .before .before .before .before .before .before .before .before .before .before .before .put-kind .ensures) (c .before .before .before .before .before .before .before .before .put-rows .ensures)) (c .before .before .put-number .ensures))
+returns c = put-same _ _ _ _ _ _ (message-text (c .before .before .before .before .before .before .before .before .before .before .before .before .before .before .before .before .before .args .octets .now) _ _ (c .before .before .before .before .before .before .before .before .before .before .before .before .before .before .octet .ensures) (c .before .before .before .before .carried .ensures)) (put-three _ _ _ _ _ _ _ _ _ _ _ (c .before .before .before .before .before .before .before .before .before .before .before .before .put-kind .ensures) (c .before .before .before .before .before .before .before .before .put-rows .ensures) (c .before .before .put-number .ensures))
 
 pub put-message-spec : {M : Type 1} → statement M
 put-message-spec =
