@@ -1,3 +1,4 @@
 -- The root of the theorems over several crates.
+pub mod Demand1
 pub mod RoundTrips
 pub mod Rows

@@ -1,0 +1,85 @@
+-- Demand 1: every input gets its answer. For each function that can refuse, and any input at all, an answer is the work or one refusal with a number of its
+-- list; and a refusal leaves everything that was lent or handed in as it was, the listener's own record excepted. Over the promises, whatever outcomes
+-- they allow; the only hypothesis is that octets are below 256, which every slice of octets meets.
+-- Assumes nothing.
+use Prim.Native.Nat.{ℕ, _≤_}
+use mathlib.Core.Path.{_≡_, refl, sym, _∙_, ap}
+use mathlib.Core.Logic.{_⊎_, inl, inr}
+use mathlib.Core.List.{List}
+use native.Mathlib.Omega.{arith}
+use lib.ListN.{length}
+use lib.Dec.{T}
+use Rattle.rules.specs.Octets.{Octets}
+use Rattle.rules.specs.Contents.{within}
+use Rattle.rules.specs.InRange.{low, high}
+use Rattle.rules.specs.declared.Fault.{Fault}
+use Rattle.listener.specs.declared.Answer.the-variants as listened
+use Rattle.listener.proofs.Hearing as hearing
+use Rattle.listener.proofs.listen.Reads as listen
+use Rattle.message.specs.declared.Verdict.the-variants.{Declined as Judged}
+use Rattle.message.proofs.Judging.{verdicts}
+use Rattle.message.proofs.judge.Reads as judge
+use Rattle.draft.specs.Draft.{emptyOf}
+use Rattle.reader.specs.declared.Packed.the-variants as packed
+use Rattle.reader.proofs.Readings.{reads}
+use Rattle.reader.proofs.read.Reads as read
+use Rattle.writer.specs.declared.Written.{Written}
+use Rattle.writer.specs.declared.Written.the-variants.{Message, Declined}
+use Rattle.writer.specs.Reasons.{Went, kind-is-none, no-entries, many-entries, bad-entry, too-long, too-tight, fits, answer-iff}
+use Rattle.writer.proofs.Writing.{refusal-keeps}
+use Rattle.writer.proofs.write.Reads as write
+use Rattle.desk.specs.declared.Answer.the-variants as settled
+use Rattle.desk.proofs.Settling.{settling}
+use Rattle.desk.proofs.settle.Reads as settle
+use Rattle.caption.specs.declared.Found.the-variants as found
+use Rattle.caption.proofs.Finding.{finding}
+use Rattle.caption.proofs.find.Reads as find
+use Rattle.walker.specs.declared.Step.the-variants as step
+use Rattle.walker.proofs.Stepping.{stepping}
+use Rattle.walker.proofs.step_at.Reads as step-at
+
+-- a number from the first to the second
+abbrev pub From : ℕ → ℕ → ℕ → Type 0
+From a b k = (a ≤ k) × (k ≤ b)
+
+-- the listener: 1 to 6; or 17 at 0 for one out of range, which comes back as it was
+pub listen-refuses : (κs : _) (a : _) (r : _) (s : _) → listen.Post κs a r s → Octets (a .1 .0 .now) → (f : Fault) → r .answer ≡ listened.Refused f → From 1 6 (f .number) ⊎ (f ≡ record { number = 17; place = 0 })
+listen-refuses κs a r s p o f e = go (hearing.numbers κs a r s p o f e)
+  where
+    go : T (within (1, 6) (f .number)) ⊎ (f ≡ record { number = 17; place = 0 }) → From 1 6 (f .number) ⊎ (f ≡ record { number = 17; place = 0 })
+    go (inl t) = inl (low 1 6 (f .number) t, high 1 6 (f .number) t)
+    go (inr q) = inr q
+
+-- the whole read: 1 to 9; the area stays, the draft is empty
+pub read-refuses : (κs : _) (a : _) (r : _) (s : _) → read.Post κs a r s → Octets (a .0 .now) → (f : Fault) → r .answer ≡ packed.Refused f → From 1 9 (f .number) × (s .1 .0 .now ≡ a .1 .0 .now) × (r .draft ≡ emptyOf 0)
+read-refuses κs a r s p o f e = let x = reads κs a r s p o .refused f e in ((x .2, x .3), x .0, x .1)
+
+-- the writer: 11 to 15; the output stays
+pub write-refuses : (κs : _) (a : _) (r : _) (s : _) → write.Post κs a r s → (f : Fault) → r ≡ Declined f → From 11 15 (f .number) × (s .1 .1 .0 .now ≡ a .1 .1 .0 .now)
+write-refuses κs a r s p f e = (go r (answer-iff _ _ _ r .0 (p .0)) e, refusal-keeps κs a r s p f e)
+  where
+    fault-of : (g h : Fault) → Declined g ≡ Declined h → g .number ≡ h .number
+    fault-of g h q = let z : g ≡ h = cc in ap (λ (x : Fault). x .number) z
+
+    go : (w : Written) → Went (a .0) (a .1 .0 .now) (length (a .1 .1 .0 .now)) w → w ≡ Declined f → From 11 15 (f .number)
+    go w (kind-is-none n) q = (omega (arith, fault-of _ _ q), omega (arith, fault-of _ _ q))
+    go w (no-entries k z) q = (omega (arith, fault-of _ _ q), omega (arith, fault-of _ _ q))
+    go w (many-entries k m) q = (omega (arith, fault-of _ _ q), omega (arith, fault-of _ _ q))
+    go w (bad-entry i b g) q = (omega (arith, fault-of _ _ q), omega (arith, fault-of _ _ q))
+    go w (too-long b m l) q = (omega (arith, fault-of _ _ q), omega (arith, fault-of _ _ q))
+    go w (too-tight b m l g) q = (omega (arith, fault-of _ _ q), omega (arith, fault-of _ _ q))
+    go w (fits b m l g) q = let z : _≡_ {A = ℕ} 0 1 = cc in absurd (omega arith)
+
+-- the desk: 1 to 8; it comes back as it was
+pub settle-refuses : (κs : _) (a : _) (r : _) (s : _) → settle.Post κs a r s → Octets (a .1 .0 .now) → (f : Fault) → r .answer ≡ settled.Refused f → From 1 8 (f .number) × (r .desk ≡ a .0)
+settle-refuses κs a r s p o f e = let x = settling κs a r s p o in (x .judged .numbers f (x .refused f .0 e), x .refusal-stays f e)
+
+-- the verdict, the caption and the walker: 1 to 8; nothing is lent for writing
+pub judge-refuses : (κs : _) (a : _) (r : _) (s : _) → judge.Post κs a r s → Octets (a .0 .now) → (f : Fault) → r ≡ Judged f → From 1 8 (f .number)
+judge-refuses κs a r s p o f e = verdicts κs a r s p o .numbers f e
+
+pub find-refuses : (κs : _) (a : _) (r : _) (s : _) → find.Post κs a r s → Octets (a .0 .now) → (f : Fault) → r ≡ found.Refused f → From 1 8 (f .number)
+find-refuses κs a r s p o f e = let x = finding κs a r s p o in x .judged .numbers f (x .refused f .0 e)
+
+pub step-refuses : (κs : _) (a : _) (r : _) (s : _) → step-at.Post κs a r s → Octets (a .0 .now) → (f : Fault) → r ≡ step.Refused f → From 1 8 (f .number)
+step-refuses κs a r s p o f e = let x = stepping κs a r s p o in x .judged .numbers f (x .refused f .0 e)
