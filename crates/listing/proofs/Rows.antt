@@ -1,6 +1,6 @@
 -- What the functions over rows owe their callers: the line of a row, the lines of the rows so far, and how many parameters are carried.
 -- Assumes nothing.
-use Prim.Native.Nat.{ℕ, zero, suc, _+_, _-_, _≤_, _<_}
+use Prim.Native.Nat.{ℕ, suc, _+_, _-_, _≤_, _<_}
 use mathlib.Core.Path.{_≡_, refl, sym, _∙_, ap, ap₂}
 use mathlib.Core.List.{List, [], _∷_, _++_, append-assoc, append-nil}
 use mathlib.Core.Bool.{Bool, true, false}
@@ -8,16 +8,16 @@ use native.Mathlib.Numerals.{add-one}
 use native.Mathlib.Omega.{arith}
 use lib.ListN.{length, length-append, getD, take, drop, take-append-drop}
 use lib.Seq.{take-suc}
-use Rattle.rules.specs.Tests.{pick, picked-by}
-use Rattle.rules.specs.Table.{Row, document01, listed, rivalOf, ascii}
+use Rattle.rules.specs.Tests.{pick}
+use Rattle.rules.specs.Table.{Row, document01, listed, ascii}
 use Rattle.rules.specs.Counting.{carriedIn}
 use Rattle.rules.specs.declared.Fault.{Fault}
 use Rattle.message.specs.declared.Found.{Found}
 use Rattle.message.specs.declared.Found.the-variants.{Parameter, Nothing}
 use Rattle.message.specs.declared.Part.{Part}
 use Rattle.message.specs.declared.Part.the-variants.{At, Nowhere}
-use Rattle.message.specs.Walking.{parameterAt, matched, searchFrom, countedAt, partOf}
-use Rattle.message.specs.Searching.{found-inside}
+use Rattle.message.specs.Walking.{parameterAt, countedAt, partOf}
+use Rattle.message.specs.Places.{counted-inside}
 use Rattle.message.specs.Parameters.{parametersFrom, parametersIn, no-more, none-here, one-here}
 use Rattle.listing.specs.Numerals.{decimal}
 use Rattle.listing.specs.Put.{Room, Put, put-then, put-same, put-none}
@@ -25,25 +25,8 @@ use Rattle.listing.specs.Listing.{lineText, written, written-one, writte
 use Rattle.listing.proofs.Keys.{kinds, key-at}
 
 -- ---- where contents stand, they lie inside
-not-at : (s n : ℕ) → Nowhere ≡ At s n → ⊥
-not-at s n e = let z : _≡_ {A = ℕ} 0 1 = cc in omega arith
-
-search-inside : (turns t u : ℕ) (o : List ℕ) (at s n : ℕ) → searchFrom turns t u o at ≡ At s n → s + n ≤ length o
-unfolding searchFrom matched
-search-inside zero t u o at s n e = absurd (not-at s n e)
-search-inside (suc turns) t u o at s n e = go (parameterAt o at) refl (search-inside turns t u o) e
-  where
-    go : (f : Found) → f ≡ parameterAt o at → ((p s n : ℕ) → searchFrom turns t u o p ≡ At s n → s + n ≤ length o) → matched t u f (searchFrom turns t u o) ≡ At s n → s + n ≤ length o
-    go (Parameter k b l) q ih e =
-        picked-by (s + n ≤ length o) _ _ _ _ e
-        (λ _ d. let x : b ≡ s = cc in let y : l ≡ n = cc in omega (arith, found-inside o at (Parameter k b l) k b l q refl))
-        (λ _ d. picked-by (s + n ≤ length o) _ _ _ _ d (λ _ z. absurd (not-at s n z)) (λ _ z. ih (b + l) s n z))
-    go Nothing q ih e = absurd (not-at s n e)
-
 pub part-inside : (o : List ℕ) (t : ℕ) (p : Part) (s n : ℕ) → p ≡ countedAt o t → p ≡ At s n → s + n ≤ length o
-unfolding countedAt
-part-inside o t p s n e q =
-    picked-by (s + n ≤ length o) _ _ _ _ (sym e ∙ q) (λ _ d. search-inside (length o) t (rivalOf document01 t) o 2 s n d) (λ _ d. absurd (not-at s n d))
+part-inside o t p s n e q = omega (arith, counted-inside o t s n (sym e ∙ q))
 
 -- ---- the line of a row
 module _ (o : List ℕ) (i : ℕ) (h : i < 14) (p : Part) (e : p ≡ countedAt o (getD kinds i 0)) where
