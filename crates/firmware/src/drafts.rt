@@ -5,7 +5,7 @@ use reader::Taken;
 ghost use mathlib.Core.Path.{_≡_};
 ghost use mathlib.Core.List.{_++_};
 ghost use Prim.Native.Nat.{_≤_};
-ghost use lib.ListN.{length, getD, replicate};
+ghost use lib.ListN.{length, replicate};
 ghost use Rattle.rules.specs.Table.{document01};
 ghost use Rattle.draft.specs.Packing.{laid, draftOf};
 ghost use Rattle.message.specs.Parameters.{messageIn};
@@ -119,12 +119,6 @@ fn lay_entries(octets: &[u8], cells: &mut [u8]) -> usize
     count
 }
 
-fn first(octets: &[u8]) -> u8
-    ensures { λ r. ⌜ r ≡ getD (now (octets .entry)) 0 0 ⌝ }
-{
-    if octets.len() == 0 { 0 } else { octets[0] }
-}
-
 // The record of a message's draft, whatever it held.
 pub(crate) fn lay_draft(octets: &[u8], cells: &mut [u8])
     requires { ⌜ length (now cells) ≡ 688 ⌝ }
@@ -132,6 +126,6 @@ pub(crate) fn lay_draft(octets: &[u8], cells: &mut [u8])
 {
     clear(cells);
     let count = lay_entries(octets, cells);
-    cells[0] = first(octets);
+    cells[0] = message::octet(octets, 0);
     cells[1] = count as u8;
 }

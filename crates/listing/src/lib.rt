@@ -68,12 +68,6 @@ fn put_octet(x: u8, out: &mut [u8], at: usize) -> usize
     at + 1
 }
 
-fn octet(s: &[u8], i: usize) -> u8
-    ensures { λ r. ⌜ r ≡ getD (now (s .entry)) i 0 ⌝ }
-{
-    if i < s.len() { s[i] } else { 0 }
-}
-
 // ---- numbers
 
 // The digits of the quotient by ten, and then the last one.
@@ -112,11 +106,11 @@ fn put_half(contents: &[u8], i: usize, mark: u8, out: &mut [u8], at: usize) -> u
     ensures { λ r. ⌜ Put (half (now (contents .entry)) i mark) at (now (out .entry)) r (now (out .exit)) ⌝ }
 {
     let text = [
-        octet(contents, i),
-        octet(contents, i + 1),
+        message::octet(contents, i),
+        message::octet(contents, i + 1),
         mark,
-        octet(contents, i + 2),
-        octet(contents, i + 3),
+        message::octet(contents, i + 2),
+        message::octet(contents, i + 3),
     ];
     put(&text, out, at)
 }
@@ -155,8 +149,8 @@ fn put_state(x: u8, out: &mut [u8], at: usize) -> usize
 fn reference_of(contents: &[u8]) -> u16
     ensures { λ r. ⌜ r ≡ reference (now (contents .entry)) ⌝ }
 {
-    let high = octet(contents, 1);
-    let low = octet(contents, 2);
+    let high = message::octet(contents, 1);
+    let low = message::octet(contents, 2);
     256 * (high as u16) + low as u16
 }
 
@@ -164,7 +158,7 @@ fn put_identity(contents: &[u8], out: &mut [u8], at: usize) -> usize
     requires { ⌜ Room (stateWord (getD (now contents) 0 0) ++ ascii " " ++ decimal (reference (now contents))) at (now out) ⌝ }
     ensures { λ r. ⌜ Put (stateWord (getD (now (contents .entry)) 0 0) ++ ascii " " ++ decimal (reference (now (contents .entry)))) at (now (out .entry)) r (now (out .exit)) ⌝ }
 {
-    let state = put_state(octet(contents, 0), out, at);
+    let state = put_state(message::octet(contents, 0), out, at);
     let gap = put_octet(b' ', out, state);
     put_decimal(reference_of(contents), out, gap)
 }
@@ -179,12 +173,12 @@ fn put_value(class: Class, contents: &[u8], out: &mut [u8], at: usize) -> usize
         Class::Number => put(contents, out, at),
         Class::Absent => put(contents, out, at),
         Class::Name => put(contents, out, at),
-        Class::Lamp => put_lamp(octet(contents, 0), out, at),
+        Class::Lamp => put_lamp(message::octet(contents, 0), out, at),
         Class::Identity => put_identity(contents, out, at),
-        Class::CallType => put_hex(octet(contents, 0), out, at),
-        Class::Waiting => put_decimal(octet(contents, 0) as u16, out, at),
-        Class::Forwarded => put_hex(octet(contents, 0), out, at),
-        Class::User => put_hex(octet(contents, 0), out, at),
+        Class::CallType => put_hex(message::octet(contents, 0), out, at),
+        Class::Waiting => put_decimal(message::octet(contents, 0) as u16, out, at),
+        Class::Forwarded => put_hex(message::octet(contents, 0), out, at),
+        Class::User => put_hex(message::octet(contents, 0), out, at),
         Class::Carried => at,
     }
 }
@@ -305,7 +299,7 @@ fn put_message(octets: &[u8], out: &mut [u8]) -> usize
     requires { ⌜ Room (written (linesAt document01 (now octets))) 0 (now out) ⌝ }
     ensures { λ r. ⌜ Put (written (linesAt document01 (now (octets .entry)))) 0 (now (out .entry)) r (now (out .exit)) ⌝ }
 {
-    let kind = put_kind(octet(octets, 0), out, 0);
+    let kind = put_kind(message::octet(octets, 0), out, 0);
     let rows = put_rows(octets, out, kind);
     put_number(b"carried=", carried(octets), out, rows)
 }

@@ -6,7 +6,7 @@ ghost use mathlib.Core.Path.{_≡_};
 ghost use Prim.Native.Nat.{ℕ, _+_, _≤_};
 ghost use Rattle.rules.specs.Table.{document01};
 ghost use Rattle.rules.specs.declared.Stage.the-variants as stage;
-ghost use lib.ListN.{length};
+ghost use lib.ListN.{length, getD};
 ghost use Rattle.message.specs.Walking.{parameterAt, searchFrom, countedAt};
 ghost use Rattle.message.specs.Verdict.{endFrom, onHead, HeadFits, onBody, verdictOf};
 
@@ -239,6 +239,13 @@ pub enum Found {
 pub enum Part {
     At { start: usize, length: u8 },
     Nowhere,
+}
+
+// The octet at a place, 0 beyond the end.
+pub fn octet(s: &[u8], i: usize) -> u8
+    ensures { λ r. ⌜ r ≡ getD (now (s .entry)) i 0 ⌝ }
+{
+    if i < s.len() { s[i] } else { 0 }
 }
 
 // The parameter that begins at a place, of any octets: of a message, the first begins at 2.

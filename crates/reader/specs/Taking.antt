@@ -4,7 +4,7 @@ use Prim.Native.Nat.{ℕ, zero, suc, _+_, _-_, _≤_, _<_}
 use mathlib.Core.Path.{_≡_, refl, sym, _∙_, ap, ap₂}
 use mathlib.Core.List.{List, [], _∷_, _++_}
 use native.Mathlib.Omega.{arith}
-use lib.ListN.{length, length-append, length-drop, take, drop, getD}
+use lib.ListN.{length, length-append, length-drop, take, drop}
 use lib.Seq.{length-take-le, take-length, take-take}
 use Rattle.rules.specs.Tests.{pick, picked-by, eq-of}
 use Rattle.rules.specs.Table.{Rules}
@@ -166,12 +166,6 @@ accepted-long R o n e = go (answer (machine R) o) e
     go (Waiting s q) e = let z : _≡_ {A = ℕ} 0 1 = cc in absurd (omega arith)
     go (Message m) e = picked-by (length o ≡ n) _ _ _ _ (sym e) (λ t d. let k : m ≡ n = cc in eq-of _ _ t ∙ k) (λ _ d. let z : _≡_ {A = ℕ} 0 1 = cc in absurd (omega arith))
     go (Refused f) e = let z : _≡_ {A = ℕ} 0 1 = cc in absurd (omega arith)
-
--- beyond its end a list has nothing
-pub beyond : (l : List ℕ) (i : ℕ) → length l ≤ i → 0 ≡ getD l i 0
-beyond [] i h = refl
-beyond (x ∷ l) zero h = absurd (omega arith)
-beyond (x ∷ l) (suc i) h = beyond l i (omega arith)
 
 -- ---- what was found, from its parts
 module _ (R : Rules) (o : List ℕ) (at : ℕ) (f : Found) (e : f ≡ parameterAt o at) where

@@ -9,7 +9,7 @@ use rules::Fault;
 use rules::Form;
 ghost use mathlib.Core.Path.{_≡_};
 ghost use Prim.Native.Nat.{_+_, _≤_};
-ghost use lib.ListN.{length, getD, take, drop};
+ghost use lib.ListN.{length, take, drop};
 ghost use lib.ListN.{length as long};
 ghost use Rattle.rules.specs.Tests.{pick};
 ghost use Rattle.rules.specs.Table.{document01};
@@ -52,12 +52,6 @@ enum Text {
     End,
 }
 
-fn octet(s: &[u8], i: usize) -> u8
-    ensures { λ r. ⌜ r ≡ getD (now (s .entry)) i 0 ⌝ }
-{
-    if i < s.len() { s[i] } else { 0 }
-}
-
 // The number of two digits.
 fn number_of(a: u8, b: u8) -> u8
     ensures { λ r. ⌜ r ≡ numberOf a b ⌝ }
@@ -69,7 +63,7 @@ fn pair_at(contents: &[u8], i: usize) -> u8
     requires { ⌜ i ≤ 6 ⌝ }
     ensures { λ r. ⌜ r ≡ pairAt (now (contents .entry)) i ⌝ }
 {
-    number_of(octet(contents, i), octet(contents, i + 1))
+    number_of(message::octet(contents, i), message::octet(contents, i + 1))
 }
 
 fn date_of(contents: &[u8]) -> Value
@@ -90,9 +84,9 @@ fn date_of(contents: &[u8]) -> Value
 fn state_of(contents: &[u8]) -> Value
     ensures { λ r. ⌜ r ≡ packed 0 (meant form.StateValue (now (contents .entry))) ⌝ }
 {
-    let state = octet(contents, 0);
-    let high = octet(contents, 1);
-    let low = octet(contents, 2);
+    let state = message::octet(contents, 0);
+    let high = message::octet(contents, 1);
+    let low = message::octet(contents, 2);
     Value::State {
         state,
         reference: 256 * (high as u16) + low as u16,
@@ -105,7 +99,7 @@ fn value_of(kind: Form, contents: &[u8], at: usize) -> Value
 {
     match kind {
         Form::DateValue => date_of(contents),
-        Form::CodeValue => Value::Code(octet(contents, 0)),
+        Form::CodeValue => Value::Code(message::octet(contents, 0)),
         Form::StateValue => state_of(contents),
         Form::TextValue => Value::Text {
             start: at,
@@ -281,7 +275,7 @@ fn draft_of(octets: &[u8]) -> Draft
 {
     let none = draft::no_entry();
     let mut entries = [none; 85];
-    let kind = octet(octets, 0);
+    let kind = message::octet(octets, 0);
     let mut at: usize = 2;
     let mut used: usize = 0;
     let mut count: usize = 0;

@@ -18,8 +18,8 @@ clear-requires c κs = search needs
 lay-entries-requires : tie.Need-lay-entries-requires
 lay-entries-requires c κs = c .before .before .before .clear .ensures ∙ ap (λ (k : ℕ). replicate {A = ℕ} k 0) (c .before .before .before .before .before .before .before .pre)
 
-first-requires : tie.Need-first-requires
-first-requires c κs = search needs
+octet-requires : tie.Need-octet-requires
+octet-requires c κs = search needs
 
 slice-write-cells : tie.Need-slice-write-cells
 slice-write-cells c = search needs
@@ -34,7 +34,7 @@ same-length : tie.Need-same-length
 same-length c = search needs
 
 returns : tie.Need-returns
-returns c = headed (draftOf document01 (messageIn (c .before .before .before .before .before .before .before .before .before .before .before .args .octets .now))) _ _ _ (c .first .ensures ∙ kind-of (c .before .before .before .before .before .before .before .before .before .before .before .args .octets .now)) (c .before .before .before .lay-entries .ensures .0) (c .before .before .before .lay-entries .ensures .1)
+returns c = headed (draftOf document01 (messageIn (c .before .before .before .before .before .before .before .before .before .before .before .args .octets .now))) _ _ _ (c .octet .ensures ∙ kind-of (c .before .before .before .before .before .before .before .before .before .before .before .args .octets .now)) (c .before .before .before .lay-entries .ensures .0) (c .before .before .before .lay-entries .ensures .1)
 
 pub lay-draft-spec : {M : Type 1} → statement M
 lay-draft-spec =
@@ -42,7 +42,7 @@ lay-draft-spec =
     (tie.spec
     clear-requires
     lay-entries-requires
-    first-requires
+    octet-requires
     slice-write-cells
     cast-cells
     slice-write-cells-2

@@ -1,9 +1,10 @@
--- `reader::octet` meets its contract: the octet, or 0 beyond the end.
+-- `message::octet` meets its contract: past the end a slice has nothing.
 -- Assumes nothing.
-use Rattle.reader.specs.Taking.{beyond}
+use mathlib.Core.Path.{sym}
+use lib.ListN.{List·getD-eq-default}
 use borrow.Author.Needs.{needs}
-use Rattle.reader.proofs.octet.Statement.{statement}
-use Rattle.reader.proofs.octet.Tie as tie
+use Rattle.message.proofs.octet.Statement.{statement}
+use Rattle.message.proofs.octet.Tie as tie
 
 shared-slice-read-result : tie.Need-shared-slice-read-result
 shared-slice-read-result c = search needs
@@ -12,7 +13,7 @@ returns : tie.Need-returns
 returns c = search needs
 
 returns-2 : tie.Need-returns-2
-returns-2 c = beyond (c .before .args .s .now) (c .before .args .i) (c .if1 .left)
+returns-2 c = sym (List·getD-eq-default (c .before .args .s .now) 0 (c .if1 .left))
 
 pub octet-spec : {M : Type 1} → statement M
 octet-spec = tie.close (tie.spec shared-slice-read-result returns returns-2)
