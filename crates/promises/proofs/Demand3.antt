@@ -1,0 +1,54 @@
+-- Demand 3: the listener gives up at the very octet that spoils the message, and not before. Over the promises of `reset` and `listen`, call after call,
+-- whatever outcomes they allow; and a whole read of the same octets says the same.
+-- Assumes nothing.
+use Prim.Native.Nat.{ℕ, _+_, _≤_}
+use mathlib.Core.Path.{_≡_, refl, sym, subst}
+use mathlib.Core.Logic.{_↔_, Iff·trans, Iff·symm}
+use mathlib.Core.List.{List, _++_}
+use lib.ListN.{length}
+use Rattle.rules.specs.Octets.{Octets}
+use Rattle.rules.specs.Table.{document01}
+use Rattle.rules.specs.Demand3.{Ending, Spoilt, Numbered}
+use Rattle.rules.specs.declared.Fault.{Fault}
+use Rattle.listener.specs.Heard.{newListener}
+use Rattle.listener.specs.Hears.{Hears}
+use Rattle.listener.specs.declared.Answer.{Answer}
+use Rattle.listener.specs.declared.Answer.the-variants as answer
+use Rattle.listener.proofs.Hearing as hearing
+use Rattle.listener.proofs.reset.Reads as reset
+use Rattle.listener.proofs.listen.Reads as listen
+use Rattle.reader.specs.declared.Packed.{Packed}
+use Rattle.reader.specs.declared.Packed.the-variants as packed
+use Rattle.reader.proofs.Readings as reading
+use Rattle.reader.proofs.read.Reads as read
+
+-- the listener heard h since its reset, in whatever runs, and then one more: it waits, has a message or refuses exactly as the written rules say of all
+-- these octets (`Hears`: waits, has-message, refuses, and the octets taken)
+pub waits-or-answers : (κs : _) (a : _) (r : _) (s : _) {h : List ℕ} → listen.Post κs a r s → hearing.Heard (a .0) h → Octets (a .1 .0 .now) → Hears h (a .1 .0 .now) r
+waits-or-answers κs a r s p d o = hearing.demand3 κs a r s p d o
+
+-- any cutting ends as one run does: c is the call on the whole run, a and b those on its parts
+pub cut-anywhere : (κs₀ : _) (c : _) (r : _) (s₀ : _) → listen.Post κs₀ c r s₀ → (κs₁ : _) (a : _) (r₁ : _) (s₁ : _) → listen.Post κs₁ a r₁ s₁ → (κs₂ : _) (b : _) (r₂ : _) (s₂ : _) → listen.Post κs₂ b r₂ s₂ → c .0 ≡ a .0 → b .0 ≡ r₁ .listener → c .1 .0 .now ≡ a .1 .0 .now ++ b .1 .0 .now → Octets (a .1 .0 .now) → (r .listener ≡ r₂ .listener) × (r .answer ≡ r₂ .answer) × (r .taken ≡ r₁ .taken + r₂ .taken)
+cut-anywhere κs₀ c r s₀ p κs₁ a r₁ s₁ p₁ κs₂ b r₂ s₂ p₂ e f g o = hearing.cut-anywhere κs₀ c r s₀ p κs₁ a r₁ s₁ p₁ κs₂ b r₂ s₂ p₂ e f g o
+
+-- a reset listener equals a new one
+pub reset-is-new : (κs : _) (a : _) (r : _) (s : _) → reset.Post κs a r s → r ≡ newListener
+reset-is-new κs a r s p = hearing.reset-is-new κs a r s p
+
+-- a listener heard h, and then a run: what it says is what a whole read of all these octets says
+pub record AsListened (o : List ℕ) (w : Answer) (x : Packed) : Type 0 where
+  pub refuses : (f : Fault) → f .number ≤ 6 → (x ≡ packed.Refused f) ↔ (w ≡ answer.Refused f)
+  pub waits : (x ≡ packed.Refused (record { number = 8; place = length o })) ↔ (w ≡ answer.Waits)
+
+pub as-listened : (κs : _) (a : _) (r : _) (s : _) {h : List ℕ} → listen.Post κs a r s → hearing.Heard (a .0) h → Octets (a .1 .0 .now) → (κs' : _) (b : _) (r' : _) (s' : _) → read.Post κs' b r' s' → b .0 .now ≡ h ++ a .1 .0 .now → Octets (b .0 .now) → AsListened (b .0 .now) (r .answer) (r' .answer)
+as-listened κs a r s {h = h} p d o κs' b r' s' p' e o' =
+    let g = reading.reads κs' b r' s' p' o' in
+    let k : Hears h (a .1 .0 .now) r = hearing.demand3 κs a r s p d o in
+    let z : (f : Fault) → (r .answer ≡ answer.Refused f) ↔ (Spoilt document01 (b .0 .now) (f .place) × Numbered document01 (b .0 .now) (f .place) (f .number)) =
+    subst (λ (x : List ℕ). (f : Fault) → (r .answer ≡ answer.Refused f) ↔ (Spoilt document01 x (f .place) × Numbered document01 x (f .place) (f .number))) (sym e) (k .refuses) in
+    let u : (r .answer ≡ answer.Waits) ↔ Ending document01 (b .0 .now) = subst (λ (x : List ℕ). (r .answer ≡ answer.Waits) ↔ Ending document01 x) (sym e) (k .waits) in
+    let v = g .early (length (b .0 .now)) in
+    record {
+      refuses = λ f l. Iff·trans (g .spoilt f l) (Iff·symm (z f));
+      waits = (λ q. u .1 (v .0 q .1), λ q. v .1 (refl, u .0 q));
+    }
