@@ -1,9 +1,11 @@
 /*
  * Writes what the program `replay` reads and what it must print: seeded
- * traffic, each message behind its length in two octets, and the second
- * reader's listing of each. Usage: replay MESSAGES LISTINGS
+ * traffic, then some accepted messages with one wrong octet at every place;
+ * each message behind its length in two octets, and the second reader's
+ * listing of each. Usage: replay MESSAGES LISTINGS
  */
 #include <stdio.h>
+#include <string.h>
 
 #include "second.h"
 #include "traffic.h"
@@ -12,17 +14,41 @@
 #define MESSAGES 3000
 #define SHORT 40
 #define LONG_EVERY 40
+#define SPOILT 12
+
+static FILE *messages, *listings;
+
+static void put(const uint8_t *o, size_t n)
+{
+    char text[SECOND_LISTING];
+    uint8_t size[2] = {(uint8_t)(n >> 8), (uint8_t)n};
+    fwrite(size, 1, 2, messages);
+    fwrite(o, 1, n, messages);
+    fwrite(text, 1, second_listing(o, n, text), listings);
+}
+
+/* One wrong octet at every place, twice. */
+static void put_spoilt(const uint8_t *o, size_t n)
+{
+    for (size_t at = 0; at < n; at++)
+        for (int way = 0; way < 2; way++) {
+            uint8_t p[TRAFFIC_OCTETS];
+            memcpy(p, o, n);
+            p[at] = (uint8_t)(way ? p[at] ^ 0x80 : p[at] + 1);
+            put(p, n);
+        }
+}
 
 int main(int argc, char **argv)
 {
     struct traffic t;
     uint8_t o[TRAFFIC_OCTETS];
-    char text[SECOND_LISTING];
     unsigned kept = 0, passed = 0;
 
     if (argc != 3)
         return 2;
-    FILE *messages = fopen(argv[1], "wb"), *listings = fopen(argv[2], "wb");
+    messages = fopen(argv[1], "wb");
+    listings = fopen(argv[2], "wb");
     if (!messages || !listings)
         return 2;
     traffic_start(&t, 1);
@@ -31,10 +57,14 @@ int main(int argc, char **argv)
         if (n > SHORT && ++passed % LONG_EVERY)
             continue;
         kept++;
-        uint8_t size[2] = {(uint8_t)(n >> 8), (uint8_t)n};
-        fwrite(size, 1, 2, messages);
-        fwrite(o, 1, n, messages);
-        fwrite(text, 1, second_listing(o, n, text), listings);
+        put(o, n);
+    }
+    for (kept = 0; kept < SPOILT;) {
+        size_t n = traffic_next(&t, o);
+        if (n > SHORT || !second_is_message(o, n))
+            continue;
+        kept++;
+        put_spoilt(o, n);
     }
     int bad = ferror(messages) | ferror(listings);
     bad |= fclose(messages) | fclose(listings);

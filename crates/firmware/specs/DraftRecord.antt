@@ -15,7 +15,8 @@ use Rattle.draft.specs.declared.Value.{Value}
 use Rattle.draft.specs.declared.Value.the-variants.{Date, Code, State, Text, Carried}
 use Rattle.draft.specs.declared.Entry.{Entry}
 use Rattle.draft.specs.declared.Draft.{Draft}
-use Rattle.draft.specs.Draft.{noEntry, inside}
+use Rattle.draft.specs.Meaning.{formNumber, formIs}
+use Rattle.draft.specs.Draft.{noEntry, inside, meaningOf}
 use Rattle.draft.specs.Packing.{draftOf}
 use Rattle.message.specs.Parameters.{messageIn, parametersIn, parameters-few}
 use Rattle.reader.specs.Laying.{placed, Filled, filled-first, filled-small, filled-more, filled-end, left}
@@ -34,6 +35,15 @@ numbersOf (Date m y h n) = record { form = 1; a = m; b = y; c = h; d = n }
 numbersOf (State s r) = record { form = 2; a = s; b = 0; c = r % 256; d = r / 256 }
 numbersOf (Text s n) = textNumbers 3 s n
 numbersOf (Carried s n) = textNumbers 4 s n
+
+-- the kinds are numbered as in a draft laid flat
+pub form-is : (texts : List ℕ) (v : Value) → numbersOf v .form ≡ formNumber (formIs (meaningOf texts v))
+unfolding numbersOf textNumbers formNumber formIs meaningOf
+form-is texts (Date m y h n) = refl
+form-is texts (Code x) = refl
+form-is texts (State s r) = refl
+form-is texts (Text s n) = refl
+form-is texts (Carried s n) = refl
 
 -- the octets of an entry
 abbrev pub cellsOf : ℕ → Numbers → List ℕ

@@ -3,14 +3,14 @@
 use Prim.Native.Nat.{ℕ, _≤_, _<_}
 use mathlib.Core.Path.{_≡_, refl, sym, _∙_, ap, ap₂, subst}
 use mathlib.Core.Logic.{_↔_, Iff·trans}
-use mathlib.Core.List.{List, _++_}
+use mathlib.Core.List.{List, [], _∷_, _++_}
 use native.Mathlib.Omega.{arith}
 use lib.ListN.{length, take, drop}
 use Rattle.rules.specs.Tests.{_≤?_, pick-case, pick-yes, pick-not, picked-by, le-of, of-le, not-le}
 use Rattle.rules.specs.Octets.{Octets}
 use Rattle.rules.specs.Table.{document01}
 use Rattle.rules.specs.ContentLaw.{document01-sound}
-use Rattle.rules.specs.Message.{Message, Parameter, octets, LegalMessage, Accepts}
+use Rattle.rules.specs.Message.{Message, Parameter, body, octets, LegalMessage, Accepts}
 use Rattle.rules.specs.Machine.{answer}
 use Rattle.rules.specs.Judge.{machine}
 use Rattle.rules.specs.Unique.{document01-told}
@@ -28,7 +28,7 @@ use Rattle.draft.specs.Packing.{laid, textsOf, draftOf, draft-stands}
 use Rattle.reader.specs.declared.Packed.{Packed}
 use Rattle.reader.specs.declared.Packed.the-variants.{Texts, Refused}
 use Rattle.reader.specs.declared.Reading.{Reading}
-use Rattle.reader.specs.Taking.{size-within}
+use Rattle.reader.specs.Taking.{texts-in-body, size-within}
 use Rattle.reader.specs.Read.{textSize, packFrom, packOf, areaFrom, areaAfter, draftFrom, readOf}
 
 -- the number and place of a refusal; 0 and 0 where there is none
@@ -53,6 +53,15 @@ pub record Near (p : Packed) : Type 0 where
 -- the text octets of all parameters of a message
 abbrev pub texts : Message → List ℕ
 texts m = textsOf document01 (m .parameters)
+
+-- 253 octets are always enough for them
+no-body : (ps : List Parameter) → 3 ≤ length (body ps) → 1 ≤ length ps
+unfolding body
+no-body [] h = absurd (omega arith)
+no-body (p ∷ ps) h = omega arith
+
+pub area-enough : (m : Message) → LegalMessage document01 m → length (texts m) ≤ 253
+area-enough m l = omega (arith, texts-in-body document01 (m .parameters), no-body (m .parameters) (l .long), l .short)
 
 -- r is the answer to the octets o with an area that held `old` and then holds `area`
 pub record Reads (o old : List ℕ) (r : Reading) (area : List ℕ) : Type 0 where

@@ -1,6 +1,6 @@
 -- How the texts and entries go on from parameter to parameter.
 -- Assumes nothing.
-use Prim.Native.Nat.{ℕ, zero, suc, _+_, _-_, _≤_, _<_}
+use Prim.Native.Nat.{ℕ, zero, suc, _+_, _-_, _*_, _≤_, _<_}
 use mathlib.Core.Path.{_≡_, refl, sym, _∙_, ap, ap₂}
 use mathlib.Core.List.{List, [], _∷_, _++_}
 use native.Mathlib.Omega.{arith}
@@ -10,7 +10,7 @@ use Rattle.rules.specs.Tests.{pick, picked-by, eq-of}
 use Rattle.rules.specs.Table.{Rules}
 use Rattle.rules.specs.declared.Form.{Form}
 use Rattle.rules.specs.declared.Form.the-variants.{DateValue, CodeValue, StateValue, TextValue, CarriedValue}
-use Rattle.rules.specs.Message.{Parameter}
+use Rattle.rules.specs.Message.{Parameter, body}
 use Rattle.rules.specs.Machine.{answer}
 use Rattle.rules.specs.Judge.{machine}
 use Rattle.rules.specs.declared.State.{State}
@@ -152,6 +152,13 @@ texts-within R (suc turns) o at = go (texts-within R turns o) (parameterAt o at)
         let i = found-inside o at (found.Parameter k s l) k s l q refl in
         omega (arith, ih (s + l), found-behind o at k s l q, text-short R o k s l (omega arith), length-append (textOf R (standing o k s l)) (textsOf R (parametersFrom turns o (s + l))))
     go ih found.Nothing q = omega arith
+
+-- and two octets a parameter are no text's
+pub texts-in-body : (R : Rules) (ps : List Parameter) → length (textsOf R ps) + 2 * length ps ≤ length (body ps)
+unfolding textsOf body textOf meaningIn
+texts-in-body R [] = omega arith
+texts-in-body R (p ∷ ps) =
+    omega (arith, texts-in-body R ps, short (kindOf R (p .kind)) (p .contents), length-append (textOf R p) (textsOf R ps), length-append (p .contents) (body ps))
 
 pub size-within : (R : Rules) (o : List ℕ) → textSize R o ≤ length o
 unfolding textSize parametersIn
