@@ -1,4 +1,4 @@
--- How texts are searched and compared octet by octet, and how lines are cut off a directory one after the other.
+-- How texts are searched octet by octet, and how lines are cut off a directory one after the other.
 -- Assumes nothing.
 use Prim.Native.Nat.{ℕ, suc, _+_, _-_, _≤_, _<_}
 use mathlib.Core.Path.{_≡_, refl, sym, _∙_, ap, ap₂}
@@ -7,14 +7,15 @@ use mathlib.Core.List.{List, [], _∷_}
 use native.Mathlib.Omega.{arith}
 use native.Mathlib.Numerals.{add-one}
 use lib.ListN.{length, length-drop, take, drop, getD, drop-of-length-le}
-use lib.Seq.{drop-cons, drop-drop, length-take-le, take-all}
+use lib.Seq.{drop-cons, drop-drop, length-take-le}
 use lib.Dec.{T}
-use Rattle.rules.specs.Tests.{_=?_, _and_, pick, pick-yes, pick-not, pick-case, both, join, of-eq, eq-of, le-of}
+use Rattle.rules.specs.Tests.{_=?_, pick, pick-yes, pick-not, pick-case, both, of-eq, eq-of, le-of}
 use Rattle.rules.specs.Returns.{T-of}
+use Rattle.rules.specs.Pairwise.{octets-are}
 use Rattle.caption.specs.declared.Line.{Line}
 use Rattle.caption.specs.declared.Entry.{Entry}
 use Rattle.caption.specs.declared.Entry.the-variants.{Text, Missing}
-use Rattle.caption.specs.Lines.{onFirst, linesOf, indexOf, before, behind, same, names}
+use Rattle.caption.specs.Lines.{onFirst, linesOf, indexOf, before, behind, names}
 use Rattle.caption.specs.Caption.{entryFrom}
 
 -- ---- the search for an octet x, from an index on
@@ -36,35 +37,6 @@ unfolding indexOf
 index-most x [] = omega arith
 index-most x (y ∷ l) = pick-case (λ (k : ℕ). k ≤ suc (length l)) _ _ _ (λ _. omega arith) (λ _. omega (arith, index-most x l))
 
--- ---- two texts, from an index on
-pub same-is : (v w : List ℕ) → T (same v w) → v ≡ w
-unfolding same
-same-is [] [] t = refl
-same-is [] (y ∷ w) t = absurd t
-same-is (x ∷ v) [] t = absurd t
-same-is (x ∷ v) (y ∷ w) t = let b = both _ _ t in ap₂ (λ (x : ℕ) (v : List ℕ). x ∷ v) (eq-of _ _ (b .0)) (same-is v w (b .1))
-
-pub same-self : (v : List ℕ) → T (same v v)
-unfolding same
-same-self [] = tt
-same-self (x ∷ v) = join _ _ (of-eq x x refl) (same-self v)
-
-module _ (v w : List ℕ) (i : ℕ) where
-  pub same-on : i < length v → i < length w → same (drop i v) (drop i w) ≡ (getD v i 0 =? getD w i 0 and same (drop (suc i) v) (drop (suc i) w))
-  unfolding same
-  same-on h k = ap₂ same (drop-cons v i 0 h) (drop-cons w i 0 k)
-
-  pub same-end : length v ≤ i → length w ≤ i → same (drop i v) (drop i w) ≡ true
-  unfolding same
-  same-end h k = ap₂ same (drop-of-length-le v h) (drop-of-length-le w k)
-
-is-false : (b : Bool) → (T b → ⊥) → b ≡ false
-is-false true n = absurd (n tt)
-is-false false n = refl
-
-pub same-length : (v w : List ℕ) → (length v ≡ length w → ⊥) → same v w ≡ false
-same-length v w n = is-false _ (λ t. n (ap length (same-is v w t)))
-
 -- ---- the first line of a directory ends at its first 0AH, or with it
 pub lines-cut : (d : List ℕ) → 0 < length d → linesOf d ≡ take (indexOf 0x0A d) d ∷ linesOf (drop (suc (indexOf 0x0A d)) d)
 unfolding linesOf indexOf onFirst pick
@@ -82,11 +54,8 @@ unfolding names before
 names-index caller l t =
     let b = both _ _ t in
     let k = le-of _ _ (b .0) in
-    let e = sym (length-take-le (indexOf 0x3D l) l (omega arith)) ∙ ap length (same-is _ _ (b .1)) in
+    let e = sym (length-take-le (indexOf 0x3D l) l (omega arith)) ∙ ap length (octets-are _ _ (b .1)) in
     (e, omega arith)
-
-pub rest-whole : (at : ℕ) (d : List ℕ) → take (length d - at) (drop at d) ≡ drop at d
-rest-whole at d = take-all (length d - at) (drop at d) (omega (arith, length-drop at d))
 
 chosen : (a b : Bool) (x x' y y' : Entry) → b ≡ a → (b ≡ true → x ≡ x') → y ≡ y' → pick a x y ≡ pick b x' y'
 unfolding pick

@@ -12,10 +12,11 @@ use lib.ListN.{length, length-append, take, drop, take-append-drop, drop-of-leng
 use lib.Seq.{take-length, length-take-le, take-append-seam, drop-append-add, drop-drop}
 use lib.Dec.{T}
 use Rattle.rules.specs.Tests.{_=?_, pick, pick-yes, pick-not, both, join, of-eq, eq-of, of-le, le-of, decide}
+use Rattle.rules.specs.Pairwise.{sameOctets, octets-are, octets-self}
 use Rattle.caption.specs.declared.Entry.the-variants.{Text, Missing}
-use Rattle.caption.specs.Lines.{linesOf, indexOf, before, behind, same, names}
+use Rattle.caption.specs.Lines.{linesOf, indexOf, before, behind, names}
 use Rattle.caption.specs.Caption.{entryFrom, entryOf}
-use Rattle.caption.specs.Cutting.{index-most, same-is, same-self, lines-cut}
+use Rattle.caption.specs.Cutting.{index-most, lines-cut}
 use Rattle.caption.specs.Inside.{span}
 
 -- no octet of a text is x
@@ -71,13 +72,13 @@ unfolding names before
 names-for caller w n =
     let k = index-at 0x3D caller w n in
     join _ _ (of-le _ _ (omega (arith, length-append caller (0x3D ∷ w))))
-    (subst (λ (v : List ℕ). T (same v caller)) (sym (ap (λ (i : ℕ). take i (caller ++ 0x3D ∷ w)) k ∙ take-append-seam caller (0x3D ∷ w))) (same-self caller))
+    (subst (λ (v : List ℕ). T (sameOctets v caller)) (sym (ap (λ (i : ℕ). take i (caller ++ 0x3D ∷ w)) k ∙ take-append-seam caller (0x3D ∷ w))) (octets-self caller))
 
 is-for : (caller l : List ℕ) → T (names caller l) → For caller l
 unfolding names before
 is-for caller l t =
     let b = both _ _ t in
-    let e = same-is (take (indexOf 0x3D l) l) caller (b .1) in
+    let e = octets-are (take (indexOf 0x3D l) l) caller (b .1) in
     (drop (suc (indexOf 0x3D l)) l, index-cut 0x3D l (omega (arith, le-of _ _ (b .0))) ∙ ap (λ (v : List ℕ). v ++ 0x3D ∷ drop (suc (indexOf 0x3D l)) l) e)
 
 -- a caller has no = of its own, so that the first = of such a line is the one behind the caller

@@ -1,10 +1,11 @@
 -- The lines of a directory, and the two texts of a line (document 01, The caption).
 -- Assumes nothing.
 use Prim.Native.Nat.{ℕ, suc}
-use mathlib.Core.Bool.{Bool, true, false}
+use mathlib.Core.Bool.{Bool}
 use mathlib.Core.List.{List, [], _∷_}
 use lib.ListN.{length, take, drop}
 use Rattle.rules.specs.Tests.{_≤?_, _=?_, _and_, pick}
+use Rattle.rules.specs.Pairwise.{sameOctets}
 
 -- an octet put before the first of some lines
 unfoldable pub onFirst : ℕ → List (List ℕ) → List (List ℕ)
@@ -29,13 +30,6 @@ before l = take (indexOf 0x3D l) l
 unfoldable pub behind : List ℕ → List ℕ
 behind l = drop (suc (indexOf 0x3D l)) l
 
--- two texts have the same octets
-unfoldable pub same : List ℕ → List ℕ → Bool
-same [] [] = true
-same [] (y ∷ w) = false
-same (x ∷ v) [] = false
-same (x ∷ v) (y ∷ w) = x =? y and same v w
-
 -- a line has an = and the text before the first one is the caller
 unfoldable pub names : List ℕ → List ℕ → Bool
-names caller l = suc (indexOf 0x3D l) ≤? length l and same (before l) caller
+names caller l = suc (indexOf 0x3D l) ≤? length l and sameOctets (before l) caller

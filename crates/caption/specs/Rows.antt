@@ -4,6 +4,7 @@ use mathlib.Core.Path.{_≡_, refl}
 use mathlib.Core.List.{List, [], _∷_}
 use Prim.Native.Nat.{ℕ}
 use Rattle.rules.specs.Tests.{_≤?_, _=?_, _and_, _or_, pick}
+use Rattle.rules.specs.Pairwise.{pairwise}
 use Rattle.rules.specs.Octets.{checksum}
 use Rattle.rules.specs.Contents.{within, inSet, lengths, lengthFits, digit}
 use Rattle.rules.specs.Table.{ascii, document01, rowIn, rowOf, listedIn, listed, classOf, shapeOf, rivalOf, typeFault, shape01}
@@ -14,7 +15,7 @@ use Rattle.rules.specs.Judge.{roomFits, rangePossible, somePossible, possible, 
 use Rattle.message.specs.Verdict.{judged, verdictOf}
 use Rattle.message.specs.Walking.{parameterAt, matched, searchFrom, countedAt}
 use Rattle.caption.specs.declared.Found.the-variants.{InMessage, InDirectory, Refused}
-use Rattle.caption.specs.Lines.{onFirst, linesOf, indexOf, before, behind, same, names}
+use Rattle.caption.specs.Lines.{onFirst, linesOf, indexOf, before, behind, names}
 use Rattle.caption.specs.Caption.{entryFrom, byEntry, byCaller, byName, findUnder, findOf}
 
 -- the caller 40912, from octet 14 on
@@ -50,7 +51,7 @@ pub record Claim : Type 0 where
   pub too-short : findOf document01 [] [] ≡ Refused (record { number = 8; place = 0 })
 
 pub rows : Claim
-unfolding _≤?_ _=?_ _and_ _or_ pick checksum within inSet lengths lengthFits digit ascii rowIn rowOf listedIn listed classOf shapeOf rivalOf typeFault shape01 document01 messageKind opens tensFit onesFit pairAt columnAt okAt remember step run roomFits rangePossible somePossible possible final fits contents after fault machine judged verdictOf parameterAt matched searchFrom countedAt onFirst linesOf indexOf before behind same names entryFrom byEntry byCaller byName findUnder findOf
+unfolding _≤?_ _=?_ _and_ _or_ pick checksum within inSet lengths lengthFits digit ascii rowIn rowOf listedIn listed classOf shapeOf rivalOf typeFault shape01 document01 messageKind opens tensFit onesFit pairAt columnAt okAt remember step run roomFits rangePossible somePossible possible final fits contents after fault machine judged verdictOf parameterAt matched searchFrom countedAt onFirst linesOf indexOf before behind pairwise names entryFrom byEntry byCaller byName findUnder findOf
 rows = record {
   first-line = refl;
   last-line = refl;

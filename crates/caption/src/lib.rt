@@ -8,7 +8,7 @@ ghost use Prim.Native.Nat.{_+_, _≤_, _<_};
 ghost use lib.ListN.{length, take, drop};
 ghost use Rattle.rules.specs.Table.{document01};
 ghost use Rattle.message.specs.Walking.{countedAt};
-ghost use Rattle.caption.specs.Lines.{indexOf, same, names};
+ghost use Rattle.caption.specs.Lines.{indexOf, names};
 ghost use Rattle.caption.specs.Cutting.{Cuts};
 ghost use Rattle.caption.specs.Caption.{entryOf, byEntry, byCaller, byName, findOf, captionOf};
 
@@ -45,30 +45,13 @@ fn index_of(x: u8, s: &[u8]) -> usize
     i
 }
 
-// Octets are compared as they are.
-fn is_same(a: &[u8], b: &[u8]) -> bool
-    ensures { λ r. ⌜ r ≡ same (now (a .entry)) (now (b .entry)) ⌝ }
-{
-    if a.len() != b.len() {
-        return false;
-    }
-    let mut i: usize = 0;
-    while i < a.len() {
-        if a[i] != b[i] {
-            return false;
-        }
-        i += 1;
-    }
-    true
-}
-
 // A line with `=` whose text before the first one is the caller.
 fn is_for(caller: &[u8], line: &[u8]) -> bool
     ensures { λ r. ⌜ r ≡ names (now (caller .entry)) (now (line .entry)) ⌝ }
 {
     let equals = index_of(0x3D, line);
     if equals < line.len() {
-        is_same(&line[..equals], caller)
+        rules::same_octets(&line[..equals], caller)
     } else {
         false
     }

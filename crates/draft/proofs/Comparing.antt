@@ -1,55 +1,18 @@
--- What the loops that compare two lists need: the pairs before i agree, so what is left decides.
+-- What comparing drafts needs: parts of text areas, and the loop over the entries that are used.
 -- Assumes nothing.
-use Prim.Native.Nat.{ℕ, suc, _+_, _-_, _≤_, _<_}
-use mathlib.Core.Path.{_≡_, refl, sym, _∙_, ap, ap₂}
+use Prim.Native.Nat.{ℕ, _+_, _-_, _≤_, _<_}
+use mathlib.Core.Path.{_≡_, sym, _∙_, ap₂}
 use mathlib.Core.Bool.{Bool, true, false}
-use mathlib.Core.List.{List, [], _∷_}
-use native.Mathlib.Numerals.{add-one}
+use mathlib.Core.List.{List}
 use native.Mathlib.Omega.{arith}
-use lib.ListN.{length, take, drop, getD, drop-of-length-le}
-use lib.Seq.{drop-cons, getD-take, length-take-le}
+use lib.ListN.{length, take, drop, getD}
+use lib.Seq.{getD-take, length-take-le}
 use lib.Dec.{leb}
-use Rattle.rules.specs.Tests.{_≤?_, _and_, le-of, of-le}
-use Rattle.rules.specs.Returns.{is-le}
-use Rattle.draft.specs.Truth.{same-truth}
-use Rattle.draft.specs.Same.{pairwise, sameOctets, sameEntry, sameEntries}
+use Rattle.rules.specs.Tests.{_≤?_, le-of, of-le}
+use Rattle.rules.specs.Returns.{is-le, same-truth}
+use Rattle.rules.specs.Pairwise.{sameOctets, compared, agrees, differs}
+use Rattle.draft.specs.Same.{sameEntry, sameEntries}
 use Rattle.draft.specs.declared.Entry.{Entry}
-
-and-false : (b : Bool) → (b and false) ≡ false
-unfolding _and_
-and-false true = refl
-and-false false = refl
-
-module _ {A : Type 0} (f : A → A → Bool) where
-  -- lists of two lengths
-  pub uneven : (xs ys : List A) → (length xs ≡ length ys → ⊥) → false ≡ pairwise f xs ys
-  unfolding pairwise
-  uneven [] [] n = absurd (n refl)
-  uneven [] (y ∷ ys) n = refl
-  uneven (x ∷ xs) [] n = refl
-  uneven (x ∷ xs) (y ∷ ys) n = sym (and-false (f x y)) ∙ ap (λ (b : Bool). f x y and b) (uneven xs ys (λ e. n (ap suc e)))
-
-  module _ (xs ys : List A) (i : ℕ) (inv : pairwise f (drop i xs) (drop i ys) ≡ pairwise f xs ys) where
-    pub compared : length xs ≤ i → length ys ≤ i → true ≡ pairwise f xs ys
-    unfolding pairwise
-    compared h k = sym (ap₂ (pairwise f) (drop-of-length-le xs h) (drop-of-length-le ys k)) ∙ inv
-
-    module _ (z : A) (h : i < length xs) (k : i < length ys) where
-      one : (l : List A) → i < length l → drop i l ≡ getD l i z ∷ drop (i + 1) l
-      one l q = drop-cons l i z q ∙ ap (λ (n : ℕ). getD l i z ∷ drop n l) (sym (add-one i))
-
-      step : pairwise f (drop i xs) (drop i ys) ≡ (f (getD xs i z) (getD ys i z) and pairwise f (drop (i + 1) xs) (drop (i + 1) ys))
-      unfolding pairwise
-      step = ap₂ (pairwise f) (one xs h) (one ys k)
-
-      -- the pair at i agrees
-      pub agrees : f (getD xs i z) (getD ys i z) ≡ true → pairwise f (drop (i + 1) xs) (drop (i + 1) ys) ≡ pairwise f xs ys
-      unfolding _and_
-      agrees e = sym (step ∙ ap (λ (b : Bool). b and pairwise f (drop (i + 1) xs) (drop (i + 1) ys)) e) ∙ inv
-
-      pub differs : f (getD xs i z) (getD ys i z) ≡ false → false ≡ pairwise f xs ys
-      unfolding _and_
-      differs e = sym (step ∙ ap (λ (b : Bool). b and pairwise f (drop (i + 1) xs) (drop (i + 1) ys)) e) ∙ inv
 
 -- a text lies inside where its length is at most what is left behind its start
 pub lies-is : (a m n : ℕ) → a ≤ n → leb m (n - a) ≡ (a + m ≤? n)

@@ -2,5 +2,4 @@
 pub mod Meaning
 pub mod Draft
 pub mod Packing
-pub mod Truth
 pub mod Same

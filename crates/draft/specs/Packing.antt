@@ -19,10 +19,6 @@ use Rattle.draft.specs.declared.Value.the-variants.{Date, Code, State, T
 use Rattle.draft.specs.declared.Entry.{Entry}
 use Rattle.draft.specs.declared.Draft.{Draft}
 
--- octets laid over the beginning of others, which stay behind them
-unfoldable pub laid : List ℕ → List ℕ → List ℕ
-laid v old = v ++ drop (length v) old
-
 -- ---- the draft of a message
 -- a value whose text, if it has one, lies at a place
 unfoldable pub packed : ℕ → Meaning → Value

@@ -3,7 +3,7 @@
 -- Assumes nothing.
 use Prim.Native.Nat.{ℕ, zero, suc, _+_}
 use mathlib.Core.Path.{_≡_, refl, sym, _∙_, ap, ap₂, subst}
-use mathlib.Core.Bool.{Bool, true, false}
+use mathlib.Core.Bool.{Bool}
 use mathlib.Core.Logic.{_↔_}
 use mathlib.Core.List.{List, [], _∷_}
 use native.Mathlib.Omega.{arith}
@@ -11,6 +11,7 @@ use lib.ListN.{length, take, drop}
 use lib.Dec.{T}
 use Rattle.rules.specs.Tests.{_≤?_, _=?_, _and_, every, both, join, le-of, of-le, eq-of, of-eq}
 use Rattle.rules.specs.Returns.{yes-le}
+use Rattle.rules.specs.Pairwise.{pairwise, sameOctets, octets-are, octets-self}
 use Rattle.draft.specs.Meaning.{Meaning, dateIs, codeIs, stateIs, textIs, carriedIs}
 use Rattle.draft.specs.Draft.{meaningOf, inside, Said, saidOf, allSaid, allInside, used, Equal}
 use Rattle.draft.specs.declared.Value.{Value}
@@ -33,17 +34,6 @@ flatOf (Text s n) = textAt 3 s n
 flatOf (Carried s n) = textAt 4 s n
 
 -- ---- the test
--- lists of one length, of which each pair passes
-unfoldable pub pairwise : {A : Type 0} → (A → A → Bool) → List A → List A → Bool
-pairwise f [] [] = true
-pairwise f [] (y ∷ ys) = false
-pairwise f (x ∷ xs) [] = false
-pairwise f (x ∷ xs) (y ∷ ys) = f x y and pairwise f xs ys
-
--- octet by octet
-abbrev pub sameOctets : List ℕ → List ℕ → Bool
-sameOctets v w = pairwise _=?_ v w
-
 -- number by number
 unfoldable pub sameNumbers : Flat → Flat → Bool
 sameNumbers x y = x .first =? y .first and (x .second =? y .second and (x .third =? y .third and x .fourth =? y .fourth))
@@ -69,19 +59,6 @@ sameEntries s es t fs = pairwise (λ (e f : Entry). sameEntry s e t f) es fs
 -- message type, number of entries (at most 85) and, entry by entry, type and value
 unfoldable pub sameDraft : Draft → List ℕ → Draft → List ℕ → Bool
 sameDraft a s b t = a .kind =? b .kind and (a .count =? b .count and (a .count ≤? 85 and sameEntries s (used a) t (used b)))
-
--- ---- octets
-octets-are : (v w : List ℕ) → T (sameOctets v w) → v ≡ w
-unfolding pairwise
-octets-are [] [] t = refl
-octets-are [] (y ∷ w) t = absurd t
-octets-are (x ∷ v) [] t = absurd t
-octets-are (x ∷ v) (y ∷ w) t = let b = both _ _ t in ap₂ (λ (x : ℕ) (v : List ℕ). x ∷ v) (eq-of _ _ (b .0)) (octets-are v w (b .1))
-
-octets-self : (v : List ℕ) → T (sameOctets v v)
-unfolding pairwise
-octets-self [] = tt
-octets-self (x ∷ v) = join _ _ (of-eq x x refl) (octets-self v)
 
 -- ---- values: what a value says is what it is flat, with its text's octets
 record Shown : Type 0 where

@@ -5,10 +5,11 @@ ghost use mathlib.Core.Path.{_≡_};
 ghost use Prim.Native.Nat.{_+_, _≤_};
 ghost use lib.ListN as list;
 ghost use Rattle.rules.specs.Tests.{_≤?_};
+ghost use Rattle.rules.specs.Pairwise.{sameOctets};
 ghost use Rattle.rules.specs.Table.{formOf};
 ghost use Rattle.draft.specs.Meaning.{formNumber};
 ghost use Rattle.draft.specs.Draft.{noEntry, emptyOf};
-ghost use Rattle.draft.specs.Same.{flatOf, textAt, sameOctets, sameText, sameNumbers, sameFlat, sameEntry, sameEntries, sameDraft};
+ghost use Rattle.draft.specs.Same.{flatOf, textAt, sameText, sameNumbers, sameFlat, sameEntry, sameEntries, sameDraft};
 
 pub enum Value {
     Date {
@@ -163,32 +164,13 @@ pub fn lies(texts: &[u8], start: usize, length: usize) -> bool
     }
 }
 
-fn same_octets(v: &[u8], w: &[u8]) -> bool
-    ensures { λ r. ⌜ r ≡ sameOctets (now (v .entry)) (now (w .entry)) ⌝ }
-{
-    let n = v.len();
-    if n == w.len() {
-        let mut i = 0;
-        while i < n {
-            if v[i] == w[i] {
-                i += 1;
-            } else {
-                return false;
-            }
-        }
-        true
-    } else {
-        false
-    }
-}
-
 fn same_parts(s: &[u8], a: usize, m: usize, t: &[u8], b: usize, n: usize) -> bool
     requires { ⌜ (a + m ≤ list.length (now s)) × (b + n ≤ list.length (now t)) ⌝ }
     ensures { λ r. ⌜ r ≡ sameOctets (list.take m (list.drop a (now (s .entry)))) (list.take n (list.drop b (now (t .entry)))) ⌝ }
 {
     let c = a + m;
     let d = b + n;
-    same_octets(&s[a..c], &t[b..d])
+    rules::same_octets(&s[a..c], &t[b..d])
 }
 
 // Texts are equal where both lie inside and their octets agree.

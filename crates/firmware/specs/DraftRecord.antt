@@ -19,7 +19,8 @@ use Rattle.draft.specs.Meaning.{formNumber, formIs}
 use Rattle.draft.specs.Draft.{noEntry, inside, meaningOf}
 use Rattle.draft.specs.Packing.{draftOf}
 use Rattle.message.specs.Parameters.{messageIn, parametersIn, parameters-few}
-use Rattle.reader.specs.Laying.{placed, Filled, filled-first, filled-small, filled-more, filled-end, left}
+use Rattle.rules.specs.Laying.{laidAt}
+use Rattle.reader.specs.Laying.{Filled, filled-first, filled-small, filled-more, filled-end, left}
 use Rattle.reader.specs.Read.{entryAt}
 use Rattle.reader.specs.declared.Taken.the-variants as taken
 use Rattle.firmware.specs.declared.drafts.Numbers.{Numbers}
@@ -98,8 +99,8 @@ abbrev zeros : List ℕ
 zeros = replicate 8 0
 
 -- an entry put at its place
-put-entry : (es : List Entry) (i : ℕ) (e : Entry) → i < length es → placed (entryCells e) (8 + 8 * i) (zeros ++ entriesCells es) ≡ zeros ++ entriesCells (set es i e)
-unfolding placed entriesCells
+put-entry : (es : List Entry) (i : ℕ) (e : Entry) → i < length es → laidAt (entryCells e) (8 + 8 * i) (zeros ++ entriesCells es) ≡ zeros ++ entriesCells (set es i e)
+unfolding laidAt entriesCells
 put-entry es i e h =
     let n : 8 + 8 * i + length (entryCells e) ≡ 8 + 8 * suc i = omega (arith, entry-length e) in
     ap₂ (λ (a b : List ℕ). a ++ (entryCells e ++ b))
@@ -135,11 +136,11 @@ module _ (o : List ℕ) where
       pub recorded-small : used + n ≤ length o
       recorded-small = filled-small document01 o count at used (w .entries) (w .filled) h e n place t
 
-      pub recorded-more : (next : List ℕ) → next ≡ placed (entryCells e) (8 + 8 * count) cells → Recorded (count + 1) place (used + n) next
+      pub recorded-more : (next : List ℕ) → next ≡ laidAt (entryCells e) (8 + 8 * count) cells → Recorded (count + 1) place (used + n) next
       recorded-more next p = record {
         entries = set (w .entries) count e;
         filled = filled-more document01 o count at used (w .entries) (w .filled) h e n place t;
-        cells-are = p ∙ ap (placed (entryCells e) (8 + 8 * count)) (w .cells-are) ∙ put-entry (w .entries) count e (omega (arith, w .filled .long));
+        cells-are = p ∙ ap (laidAt (entryCells e) (8 + 8 * count)) (w .cells-are) ∙ put-entry (w .entries) count e (omega (arith, w .filled .long));
       }
 
     pub recorded-end : left o count at ≡ [] → (count ≡ draftOf document01 (messageIn o) .count) × (cells ≡ zeros ++ entriesCells (draftOf document01 (messageIn o) .entries))

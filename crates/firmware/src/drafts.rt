@@ -7,7 +7,8 @@ ghost use mathlib.Core.List.{_++_};
 ghost use Prim.Native.Nat.{_≤_};
 ghost use lib.ListN.{length, replicate};
 ghost use Rattle.rules.specs.Table.{document01};
-ghost use Rattle.draft.specs.Packing.{laid, draftOf};
+ghost use Rattle.rules.specs.Laying.{laid};
+ghost use Rattle.draft.specs.Packing.{draftOf};
 ghost use Rattle.message.specs.Parameters.{messageIn};
 ghost use Rattle.firmware.specs.DraftRecord as record-of;
 

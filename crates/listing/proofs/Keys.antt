@@ -8,7 +8,8 @@ use lib.ListN.{getD}
 use lib.Dec.{T}
 use Rattle.rules.specs.Tests.{_≤?_, _=?_, _and_, both, le-of, eq-of}
 use Rattle.rules.specs.Table.{document01, ascii}
-use Rattle.listing.specs.Tabled.{same, same-is, below, below-at}
+use Rattle.rules.specs.Pairwise.{pairwise, sameOctets, octets-are}
+use Rattle.listing.specs.Tabled.{below, below-at}
 use Rattle.listing.specs.Put.{part}
 use Rattle.listing.specs.Listing.{rowAt}
 
@@ -22,10 +23,10 @@ unfoldable pub keys : List ℕ
 keys = ascii "time=caller=called=caller-absent=name=name-absent=lamp=message=depositor=call-type=first-called=waiting=forwarded=user="
 
 abbrev test : ℕ → Bool
-test i = (getD kinds i 0 =? rowAt i .kind) and (getD starts i 0 ≤? getD starts (i + 1) 0) and (getD starts (i + 1) 0 ≤? 119) and same (part keys (getD starts i 0) (getD starts (i + 1) 0)) (rowAt i .key ++ ascii "=")
+test i = (getD kinds i 0 =? rowAt i .kind) and (getD starts i 0 ≤? getD starts (i + 1) 0) and (getD starts (i + 1) 0 ≤? 119) and sameOctets (part keys (getD starts i 0) (getD starts (i + 1) 0)) (rowAt i .key ++ ascii "=")
 
 tested : T (below test 14)
-unfolding below same rowAt document01 ascii kinds starts keys _=?_ _≤?_ _and_
+unfolding below pairwise rowAt document01 ascii kinds starts keys _=?_ _≤?_ _and_
 tested = tt
 
 pub record Key (i : ℕ) : Type 0 where
@@ -39,4 +40,4 @@ key-at i h =
     let d = both _ _ (below-at test 14 i tested h) in
     let e = both _ _ (d .0) in
     let f = both _ _ (e .0) in
-    record { kind = eq-of _ _ (f .0); order = le-of _ _ (f .1); ends = le-of _ _ (e .1); key = same-is _ _ (d .1) }
+    record { kind = eq-of _ _ (f .0); order = le-of _ _ (f .1); ends = le-of _ _ (e .1); key = octets-are _ _ (d .1) }

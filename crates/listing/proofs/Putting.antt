@@ -1,35 +1,28 @@
 -- What each function that puts octets owes its callers: words from their tests, texts from copies and single stores.
 -- Assumes nothing.
 use Prim.Native.Nat.{ℕ, _+_, _-_}
-use mathlib.Core.Path.{_≡_, sym, _∙_, ap, ap₂}
-use mathlib.Core.List.{List, [], _∷_, _++_, append-nil}
+use mathlib.Core.Path.{_≡_, sym, _∙_, ap}
+use mathlib.Core.List.{List, [], _∷_, _++_}
 use native.Mathlib.Numerals.{add-one}
 use native.Mathlib.Omega.{arith}
-use lib.ListN.{length, length-drop, take, drop, drop-of-length-le, set}
-use lib.Seq.{take-length, take-all, drop-drop, set-split}
+use lib.ListN.{length, take, drop, set}
+use lib.Seq.{set-split}
 use borrow.Rule.Slice.PartMut.{putMid}
 use Rattle.rules.specs.Tests.{_=?_, pick-yes, pick-not, of-eq, eq-of}
 use Rattle.rules.specs.Table.{ascii}
+use Rattle.rules.specs.Laying.{laidAt, rest-copied}
 use Rattle.listing.specs.Put.{Room, Put, put-whole}
 use Rattle.listing.specs.Listing.{lampWord, stateWord, kindLine, lineText}
 
 -- ---- a text copied over the rest of the area, from a place on
-rest-put : (a : ℕ) (xs ys : List ℕ) → putMid a (length xs - a) xs ys ≡ take a xs ++ ys
-rest-put a xs ys = ap (λ (t : List ℕ). take a xs ++ t) (ap (λ (t : List ℕ). ys ++ t) (drop-of-length-le (drop a xs) {i = length xs - a} (omega (arith, length-drop a xs))) ∙ append-nil ys)
-
 pub copied : (v old last : List ℕ) (at : ℕ) → Room v at old →
     last ≡ take (length v) v ++ drop (length v) (take (length old - at) (drop at old)) →
     Put v at old (at + length v) (putMid at (length old - at) old last)
-unfolding Room
-copied v old last at h e =
-    let m : take (length old - at) (drop at old) ≡ drop at old = take-all (length old - at) (drop at old) (omega (arith, length-drop at old)) in
-    put-whole v at old (putMid at (length old - at) old last) h
-    (rest-put at old last
-    ∙ ap (λ (t : List ℕ). take at old ++ t) (e ∙ ap₂ (λ (x y : List ℕ). x ++ drop (length v) y) (take-length v) m ∙ ap (λ (x : List ℕ). v ++ x) (drop-drop (length v) at old)))
+copied v old last at h e = put-whole v at old (putMid at (length old - at) old last) h (rest-copied v old last at e)
 
 -- one octet stored
 pub stored : (x at : ℕ) (old : List ℕ) → Room (x ∷ []) at old → Put (x ∷ []) at old (at + 1) (set old at x)
-unfolding Room
+unfolding Room laidAt
 stored x at old h = put-whole (x ∷ []) at old (set old at x) h (set-split old at x (omega arith) ∙ ap (λ (n : ℕ). take at old ++ x ∷ drop n old) (sym (add-one at)))
 
 -- ---- room for what is the same

@@ -13,7 +13,8 @@ use Rattle.rules.specs.Tests.{_=?_, _and_, _or_, pick, both, either, eq-of}
 use Rattle.rules.specs.Table.{Row, document01, classOf, styleOf, ascii}
 use Rattle.rules.specs.Message.{Message}
 use Rattle.rules.specs.Counting.{counted, carriedIn}
-use Rattle.listing.specs.Tabled.{same, differ, differ-is, below, below-at}
+use Rattle.rules.specs.Pairwise.{pairwise}
+use Rattle.listing.specs.Tabled.{differ, differ-is, below, below-at}
 use Rattle.listing.specs.Listing.{printed, Line, lineOf, linesFor, rowLines, noRow, rowAt, kindLine, carriedLine, linesOf}
 
 -- a line is among some
@@ -44,7 +45,7 @@ abbrev apart : ℕ → Bool
 apart i = differ (rowAt i .key) (ascii "kind") and differ (rowAt i .key) (ascii "carried") and below (λ (j : ℕ). differ (rowAt i .key) (rowAt j .key) or i =? j) 14
 
 tested : T (below apart 14)
-unfolding below same differ rowAt document01 ascii pick _=?_ _and_ _or_
+unfolding below pairwise differ rowAt document01 ascii pick _=?_ _and_ _or_
 tested = tt
 
 module _ (i : ℕ) (h : i < 14) where

@@ -5,8 +5,9 @@ use mathlib.Core.Path.{_≡_, refl, sym, _∙_, ap, ap₂}
 use mathlib.Core.List.{List, [], _++_, append-assoc, append-nil}
 use native.Mathlib.Nat.{add-zero}
 use native.Mathlib.Omega.{arith}
-use lib.ListN.{length, length-append, length-drop, take, drop, take-append-drop}
-use lib.Seq.{drop-drop, length-take-le, take-at, drop-at}
+use lib.ListN.{length, length-append, take, drop, take-append-drop}
+use lib.Seq.{drop-drop}
+use Rattle.rules.specs.Laying.{laidAt, laid-front, laid-behind, laid-length}
 
 -- the text v fits behind the first `at` octets of the area
 unfoldable pub Room : List ℕ → ℕ → List ℕ → Type 0
@@ -51,19 +52,15 @@ put-same v w at old end new e p = record {
   behind = p .behind;
 }
 
--- an area that is its front, the text and its old rest
-pub put-whole : (v : List ℕ) (at : ℕ) (old new : List ℕ) → Room v at old → new ≡ take at old ++ (v ++ drop (at + length v) old) → Put v at old (at + length v) new
+-- the text laid over the area from its place on
+pub put-whole : (v : List ℕ) (at : ℕ) (old new : List ℕ) → Room v at old → new ≡ laidAt v at old → Put v at old (at + length v) new
 unfolding Room
-put-whole v at old new h e =
-    let f : length (take at old) ≡ at = length-take-le at old (omega arith) in
-    let n : length (take at old ++ v) ≡ at + length v = length-append (take at old) v ∙ ap (λ (k : ℕ). k + length v) f in
-    let d : new ≡ (take at old ++ v) ++ drop (at + length v) old = e ∙ sym (append-assoc (take at old) v (drop (at + length v) old)) in
-    record {
-      ends = refl;
-      long = ap length d ∙ length-append (take at old ++ v) (drop (at + length v) old) ∙ omega (arith, n, length-drop (at + length v) old);
-      front = ap (take (at + length v)) d ∙ take-at (take at old ++ v) (drop (at + length v) old) (at + length v) n;
-      behind = ap (drop (at + length v)) d ∙ drop-at (take at old ++ v) (drop (at + length v) old) (at + length v) n;
-    }
+put-whole v at old new h e = record {
+  ends = refl;
+  long = ap length e ∙ laid-length v at old h;
+  front = ap (take (at + length v)) e ∙ laid-front v at old h;
+  behind = ap (drop (at + length v)) e ∙ laid-behind v at old h;
+}
 
 -- what was put from the beginning is the area's front
 pub put-first : (v old : List ℕ) (end : ℕ) (new : List ℕ) → Put v 0 old end new → new ≡ v ++ drop (length v) old

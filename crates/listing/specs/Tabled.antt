@@ -1,40 +1,22 @@
 -- Tests over lists and over numbers below a bound, for tables that antt computes; and what each of them tells.
 -- Assumes nothing.
 use Prim.Native.Nat.{ℕ, zero, suc, _<_}
-use mathlib.Core.Path.{_≡_, refl, ap₂, subst}
+use mathlib.Core.Path.{_≡_, subst}
 use mathlib.Core.Bool.{Bool, true, false}
 use mathlib.Core.Logic.{_⊎_, inl, inr}
-use mathlib.Core.List.{List, [], _∷_}
+use mathlib.Core.List.{List}
 use native.Mathlib.Omega.{arith}
 use lib.Dec.{T}
-use Rattle.rules.specs.Tests.{_=?_, _and_, pick, both, join, eq-of, of-eq, decide}
-
--- two lists are the same
-unfoldable pub same : List ℕ → List ℕ → Bool
-same [] [] = true
-same [] (y ∷ b) = false
-same (x ∷ a) [] = false
-same (x ∷ a) (y ∷ b) = x =? y and same a b
-
-pub same-is : (a b : List ℕ) → T (same a b) → a ≡ b
-unfolding same
-same-is [] [] t = refl
-same-is [] (y ∷ b) t = absurd t
-same-is (x ∷ a) [] t = absurd t
-same-is (x ∷ a) (y ∷ b) t = let d = both _ _ t in ap₂ _∷_ (eq-of _ _ (d .0)) (same-is a b (d .1))
-
-pub same-self : (a : List ℕ) → T (same a a)
-unfolding same
-same-self [] = tt
-same-self (x ∷ a) = join _ _ (of-eq x x refl) (same-self a)
+use Rattle.rules.specs.Tests.{_=?_, _and_, pick, both, eq-of, of-eq, decide}
+use Rattle.rules.specs.Pairwise.{sameOctets, octets-self}
 
 -- two lists differ
 unfoldable pub differ : List ℕ → List ℕ → Bool
-differ a b = pick (same a b) false true
+differ a b = pick (sameOctets a b) false true
 
 pub differ-is : (a b : List ℕ) → T (differ a b) → a ≡ b → ⊥
 unfolding differ pick
-differ-is a b t e = go (same a b) (subst (λ (x : List ℕ). T (same a x)) e (same-self a)) t
+differ-is a b t e = go (sameOctets a b) (subst (λ (x : List ℕ). T (sameOctets a x)) e (octets-self a)) t
   where
     go : (s : Bool) → T s → T (pick s false true) → ⊥
     go true s u = u

@@ -11,7 +11,8 @@ use Rattle.rules.specs.Message.{octets, LegalMessage, Accepts}
 use Rattle.rules.specs.Unique.{document01-told}
 use Rattle.draft.specs.declared.Draft.{Draft}
 use Rattle.draft.specs.Draft.{messageOf, Equal}
-use Rattle.draft.specs.Packing.{laid, textsOf, draftOf}
+use Rattle.rules.specs.Laying.{laid}
+use Rattle.draft.specs.Packing.{textsOf, draftOf}
 use Rattle.reader.specs.declared.Packed.the-variants as packed
 use Rattle.reader.specs.declared.Reading.{Reading}
 use Rattle.reader.specs.Reads.{Reads, texts}

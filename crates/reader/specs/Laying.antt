@@ -18,38 +18,14 @@ use Rattle.message.specs.Parameters.{parametersFrom, parametersIn, messageIn, n
 use Rattle.draft.specs.declared.Entry.{Entry}
 use Rattle.draft.specs.declared.Draft.{Draft}
 use Rattle.draft.specs.Draft.{noEntry, emptyOf}
-use Rattle.draft.specs.Packing.{laid, textsOf, entriesOf, draftOf, entries-length}
+use Rattle.rules.specs.Laying.{laid, laidAt, laid-front, laid-behind, laid-length}
+use Rattle.draft.specs.Packing.{textsOf, entriesOf, draftOf, entries-length}
 use Rattle.reader.specs.declared.Packed.{Packed}
 use Rattle.reader.specs.declared.Packed.the-variants as packed
 use Rattle.reader.specs.declared.Taken.the-variants as taken
 use Rattle.reader.specs.declared.Text.the-variants as text
 use Rattle.reader.specs.Read.{textSize, textAt, entryAt, packFrom, packOf, areaFrom, areaAfter, draftFrom, readOf}
 use Rattle.reader.specs.Taking.{TextHere, text-here, text-none, EntryHere, entry-here, entry-none, size-within, accepted-long}
-
--- octets put over others at a place
-unfoldable pub placed : List ℕ → ℕ → List ℕ → List ℕ
-placed v at old = take at old ++ (v ++ drop (at + length v) old)
-
--- the octets before the end of what was put, those behind it, and their number
-module _ (v : List ℕ) (at : ℕ) (old : List ℕ) (h : at + length v ≤ length old) where
-  before : length (take at old) ≡ at
-  before = length-take-le at old (omega arith)
-
-  pub placed-front : take (at + length v) (placed v at old) ≡ take at old ++ v
-  unfolding placed
-  placed-front =
-      ap (take (at + length v)) (sym (append-assoc (take at old) v (drop (at + length v) old)))
-      ∙ take-at (take at old ++ v) (drop (at + length v) old) (at + length v) (length-append (take at old) v ∙ ap (λ (n : ℕ). n + length v) before)
-
-  pub placed-behind : drop (at + length v) (placed v at old) ≡ drop (at + length v) old
-  unfolding placed
-  placed-behind =
-      ap (drop (at + length v)) (sym (append-assoc (take at old) v (drop (at + length v) old)))
-      ∙ drop-at (take at old ++ v) (drop (at + length v) old) (at + length v) (length-append (take at old) v ∙ ap (λ (n : ℕ). n + length v) before)
-
-  pub placed-length : length (placed v at old) ≡ length old
-  unfolding placed
-  placed-length = omega (arith, length-append (take at old) (v ++ drop (at + length v) old), length-append v (drop (at + length v) old), length-drop (at + length v) old, before)
 
 -- the parameters not yet taken
 abbrev pub left : List ℕ → ℕ → ℕ → List Parameter
@@ -122,7 +98,7 @@ module _ (R : Rules) (o : List ℕ) where
         pub laid-room : (start + n ≤ length o) × (used + n ≤ length area)
         laid-room = (here count at used (w .sized) h start n place e .lies, omega (arith, w .sized .sum, parted count at used (w .sized) h start n place e, w .long))
 
-        pub laid-more : (next : List ℕ) → next ≡ placed (take n (drop start o)) used area → Laid old (count + 1) place (used + n) next
+        pub laid-more : (next : List ℕ) → next ≡ laidAt (take n (drop start o)) used area → Laid old (count + 1) place (used + n) next
         laid-more next p =
             let v = take n (drop start o) in
             let l : length v ≡ n = text-long count at used (w .sized) h start n place e in
@@ -130,16 +106,16 @@ module _ (R : Rules) (o : List ℕ) where
             let z : used + n ≡ used + length v = omega arith in
             record {
               sized = sized-more count at used (w .sized) h start n place e;
-              long = ap length p ∙ placed-length v used area f ∙ w .long;
+              long = ap length p ∙ laid-length v used area f ∙ w .long;
               texts =
                   ap₂ (λ (k : ℕ) (a : List ℕ). take k a ++ textsOf R (left o (count + 1) place)) z p
-                  ∙ ap (λ (a : List ℕ). a ++ textsOf R (left o (count + 1) place)) (placed-front v used area f)
+                  ∙ ap (λ (a : List ℕ). a ++ textsOf R (left o (count + 1) place)) (laid-front v used area f)
                   ∙ append-assoc (take used area) v (textsOf R (left o (count + 1) place))
                   ∙ ap (λ (a : List ℕ). take used area ++ a) (ap (λ (ps : List Parameter). v ++ textsOf R ps) (sym (turn o count place)) ∙ sym (here count at used (w .sized) h start n place e .texts))
                   ∙ w .texts;
               rest =
                   ap₂ drop z p
-                  ∙ placed-behind v used area f
+                  ∙ laid-behind v used area f
                   ∙ sym (drop-drop (length v) used area) ∙ ap (drop (length v)) (w .rest) ∙ drop-drop (length v) used old
                   ∙ ap (λ (k : ℕ). drop k old) (sym z);
             }

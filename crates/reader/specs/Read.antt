@@ -18,7 +18,8 @@ use Rattle.message.specs.declared.Found.{Found}
 use Rattle.message.specs.declared.Found.the-variants as found
 use Rattle.draft.specs.declared.Draft.{Draft}
 use Rattle.draft.specs.Draft.{emptyOf}
-use Rattle.draft.specs.Packing.{entryOf, textOf, textsOf, draftOf, laid}
+use Rattle.rules.specs.Laying.{laid}
+use Rattle.draft.specs.Packing.{entryOf, textOf, textsOf, draftOf}
 use Rattle.reader.specs.declared.Packed.{Packed}
 use Rattle.reader.specs.declared.Packed.the-variants as packed
 use Rattle.reader.specs.declared.Reading.{Reading}

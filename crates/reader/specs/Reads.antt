@@ -24,7 +24,8 @@ use Rattle.message.specs.Judges.{Judges, judges}
 use Rattle.message.specs.Parameters.{parametersIn, messageIn, message-in}
 use Rattle.draft.specs.Meaning.{document01-drawn}
 use Rattle.draft.specs.Draft.{emptyOf, messageOf}
-use Rattle.draft.specs.Packing.{laid, textsOf, draftOf, draft-stands}
+use Rattle.rules.specs.Laying.{laid}
+use Rattle.draft.specs.Packing.{textsOf, draftOf, draft-stands}
 use Rattle.reader.specs.declared.Packed.{Packed}
 use Rattle.reader.specs.declared.Packed.the-variants.{Texts, Refused}
 use Rattle.reader.specs.declared.Reading.{Reading}

@@ -16,8 +16,8 @@ ghost use Rattle.rules.specs.Table.{document01};
 ghost use Rattle.rules.specs.declared.Form.the-variants as form;
 ghost use Rattle.message.specs.Parameters.{parametersIn, messageIn};
 ghost use Rattle.draft.specs.Meaning.{kindOf, numberOf, pairAt, meant};
-ghost use Rattle.draft.specs.Packing.{packed, draftOf, textsOf, laid};
-ghost use Rattle.reader.specs.Laying.{placed};
+ghost use Rattle.rules.specs.Laying.{laid, laidAt};
+ghost use Rattle.draft.specs.Packing.{packed, draftOf, textsOf};
 ghost use Rattle.reader.specs.Read.{hasText, textSize, textAt, entryAt, packOf, areaAfter, readOf};
 
 // What becomes of the octets: how many text octets were laid down; or a number from 1 to 9 with its place.
@@ -190,7 +190,7 @@ fn text_size(octets: &[u8]) -> usize
 // A text of the octets, laid down at a place of the area.
 fn lay_text(octets: &[u8], start: usize, length: usize, area: &mut [u8], at: usize)
     requires { ⌜ (start + length ≤ long (now octets)) × (at + length ≤ long (now area)) ⌝ }
-    ensures { λ r. ⌜ now (area .exit) ≡ placed (take length (drop start (now (octets .entry)))) at (now (area .entry)) ⌝ }
+    ensures { λ r. ⌜ now (area .exit) ≡ laidAt (take length (drop start (now (octets .entry)))) at (now (area .entry)) ⌝ }
 {
     let end = start + length;
     bytes::copy(&octets[start..end], &mut area[at..]);

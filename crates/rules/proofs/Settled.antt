@@ -12,6 +12,7 @@ use Rattle.rules.proofs.possible.Reads as possible
 use Rattle.rules.proofs.message_kind.Reads as message-kind
 use Rattle.rules.proofs.content_ok.Reads as content-ok
 use Rattle.rules.proofs.remember.Reads as remember
+use Rattle.rules.proofs.same_octets.Reads as same-octets
 
 pub class-coded-settled : (κs : _) (a : _) (r r' : _) (s s' : _) → class-coded.Post κs a r s → class-coded.Post κs a r' s' → r ≡ r'
 class-coded-settled κs a r r' s s' p q = p ∙ sym q
@@ -45,3 +46,6 @@ is-listed-settled κs a r r' s s' p q = p ∙ sym q
 
 pub rival-of-settled : (κs : _) (a : _) (r r' : _) (s s' : _) → rival-of.Post κs a r s → rival-of.Post κs a r' s' → r ≡ r'
 rival-of-settled κs a r r' s s' p q = p ∙ sym q
+
+pub same-octets-settled : (κs : _) (a : _) (r r' : _) (s s' : _) → same-octets.Post κs a r s → same-octets.Post κs a r' s' → r ≡ r'
+same-octets-settled κs a r r' s s' p q = p ∙ sym q

@@ -20,4 +20,6 @@ pub mod Unique
 pub mod InRange
 pub mod Rows
 pub mod Returns
+pub mod Pairwise
+pub mod Laying
 pub mod Steps

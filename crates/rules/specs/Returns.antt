@@ -6,7 +6,7 @@ use Prim.Native.Nat.{ℕ, _≤_, _<_}
 use lib.Dec.{T, leb, eqb}
 use borrow.Author.Needs.{needs}
 use borrow.Author.Tests.{le-leb, lt-leb, eq-eqb, ne-eqb}
-use Rattle.rules.specs.Tests.{_≤?_, _=?_, _and_, _or_, pick}
+use Rattle.rules.specs.Tests.{_≤?_, _=?_, _and_, _or_, pick, le-of}
 
 pub pick-t : {A : Type 0} (b : Bool) (w x y : A) → b ≡ true → w ≡ x → w ≡ pick b x y
 unfolding pick
@@ -68,5 +68,16 @@ via r b z p q = sym p ∙ q
 
 pub T-of : (b : Bool) → b ≡ true → T b
 T-of b e = rw e tt
+
+-- and that held
+pub told-le : (b : Bool) (x y : ℕ) → b ≡ (x ≤? y) → b ≡ true → x ≤ y
+told-le b x y e t = le-of _ _ (T-of _ (via _ _ _ e t))
+
+-- tests that hold together are equal
+pub same-truth : (a b : Bool) → (T a → T b) → (T b → T a) → a ≡ b
+same-truth true true f g = refl
+same-truth true false f g = absurd (f tt)
+same-truth false true f g = absurd (g tt)
+same-truth false false f g = refl
 
 pub ruleset tests = (pick-t, pick-f, and-t, and-f, or-last, or-t, or-f, via, yes-le, no-le, yes-eq, no-eq, is-le, is-eq, lt-leb, ne-eqb, needs)

@@ -5,6 +5,7 @@ ghost use mathlib.Core.Bool.{true};
 ghost use mathlib.Core.List.{[], _∷_};
 ghost use Prim.Native.Nat.{_-_};
 ghost use Rattle.rules.specs.Tests.{_=?_, pick};
+ghost use Rattle.rules.specs.Pairwise.{sameOctets};
 ghost use Rattle.rules.specs.Contents.{within, inSet, lengths, lengthFits};
 ghost use Rattle.rules.specs.Table.{document01, listed, classOf, rivalOf, formOf, shape01, numberSet, nameSet, absentSet, lampSet, identitySet, callTypeSet, forwardedSet, userSet};
 ghost use Rattle.rules.specs.Codes.{classCode, classCoded};
@@ -495,5 +496,25 @@ pub fn remember(c: Class, n: u8, i: u8, m: u8, x: u8) -> u8
         Class::Forwarded => 0,
         Class::User => 0,
         Class::Carried => 0,
+    }
+}
+
+// Are two texts the same, octet by octet?
+pub fn same_octets(v: &[u8], w: &[u8]) -> bool
+    ensures { λ r. ⌜ r ≡ sameOctets (now (v .entry)) (now (w .entry)) ⌝ }
+{
+    let n = v.len();
+    if n == w.len() {
+        let mut i = 0;
+        while i < n {
+            if v[i] == w[i] {
+                i += 1;
+            } else {
+                return false;
+            }
+        }
+        true
+    } else {
+        false
     }
 }

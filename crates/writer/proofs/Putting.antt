@@ -1,7 +1,7 @@
 -- What laying down needs: a copy behind two octets, a parameter behind those before it in the output's rest, the checksum behind them all.
 -- Assumes nothing.
 use Prim.Native.Nat.{ℕ, zero, suc, _+_, _-_, _%_, _≤_, _<_}
-use mathlib.Core.Path.{_≡_, refl, sym, _∙_, ap, subst}
+use mathlib.Core.Path.{_≡_, refl, sym, _∙_, ap, ap₂, subst}
 use mathlib.Core.List.{List, [], _∷_, _++_, append-nil, append-assoc}
 use native.Mathlib.Numerals.{add-one}
 use native.Mathlib.Omega.{arith}
@@ -12,8 +12,8 @@ use borrow.Rule.Slice.PartMut.{putMid, midOf, same-len-mid}
 use Rattle.rules.specs.Tests.{every, both, le-of}
 use Rattle.rules.specs.Octets.{total, total-append, checksum}
 use Rattle.rules.specs.Message.{body, front, octets}
+use Rattle.rules.specs.Laying.{laid, laidAt, laid-then, rest-laid, rest-copied}
 use Rattle.draft.specs.Draft.{inside, allInside, parameterOf, parametersOf, used, messageOf}
-use Rattle.draft.specs.Packing.{laid}
 use Rattle.draft.specs.Same.{flatOf, inside-flat}
 use Rattle.draft.specs.declared.Value.{Value}
 use Rattle.draft.specs.declared.Flat.{Flat}
@@ -24,24 +24,15 @@ use Rattle.writer.specs.Judging.{spellingOf, small, small-short, small-c
 use Rattle.writer.specs.declared.Spelling.{Spelling}
 use Rattle.writer.specs.Laying.{parameterOctets, Puttable, Layable}
 
--- ---- the rest of a slice, lent and back
-rest-put : (a : ℕ) (xs ys : List ℕ) → putMid a (length xs - a) xs ys ≡ take a xs ++ ys
-rest-put a xs ys = ap (λ (t : List ℕ). take a xs ++ t) (ap (λ (t : List ℕ). ys ++ t) (drop-of-length-le (drop a xs) {i = length xs - a} (omega (arith, length-drop a xs))) ∙ append-nil ys)
-
-rest-whole : (a : ℕ) (xs : List ℕ) → take (length xs - a) (drop a xs) ≡ drop a xs
-rest-whole a xs = take-all (length xs - a) (drop a xs) (omega (arith, length-drop a xs))
-
 -- ---- a type, a length, and a copy of the contents behind them
 pub parameter-laid : (old part last : List ℕ) (kind n : ℕ) → 2 + n ≤ length old →
     last ≡ take (length part) part ++ drop (length part) (take (length (set (set old 0 kind) 1 n) - 2) (drop 2 (set (set old 0 kind) 1 n))) →
     putMid 2 (length (set (set old 0 kind) 1 n) - 2) (set (set old 0 kind) 1 n) last ≡ laid (kind ∷ n ∷ part) old
-unfolding laid
+unfolding laid laidAt
 parameter-laid [] part last kind n h e = absurd (let z : 2 + n ≤ 0 = h in omega arith)
 parameter-laid (x ∷ []) part last kind n h e = absurd (let z : 2 + n ≤ 1 = h in omega arith)
 parameter-laid (x ∷ y ∷ zs) part last kind n h e =
-    rest-put 2 (kind ∷ n ∷ zs) last
-    ∙ ap (λ (t : List ℕ). kind ∷ n ∷ t)
-    (e ∙ ap (λ (t : List ℕ). t ++ drop (length part) (take (length (kind ∷ n ∷ zs) - 2) zs)) (take-length part) ∙ ap (λ (t : List ℕ). part ++ drop (length part) t) (rest-whole 2 (kind ∷ n ∷ zs)))
+    rest-copied part (kind ∷ n ∷ zs) last 2 e ∙ ap (λ (t : List ℕ). kind ∷ n ∷ (part ++ t)) (sym (drop-drop (length part) 2 (kind ∷ n ∷ zs)))
 
 pub parameter-length : (old last : List ℕ) (kind n k : ℕ) → length last ≡ length (midOf 2 k (set (set old 0 kind) 1 n)) → length (putMid 2 k (set (set old 0 kind) 1 n) last) ≡ length old
 parameter-length old last kind n k e = same-len-mid 2 k (set (set old 0 kind) 1 n) last e ∙ simp length-set
@@ -150,18 +141,6 @@ inside-at texts (e ∷ es) zero i z h l a = absurd (let q : i < 0 = h in omega a
 inside-at texts (e ∷ es) (suc n) zero z h l a = both _ _ a .0
 inside-at texts (e ∷ es) (suc n) (suc i) z h l a = inside-at texts es n i z (let q : suc i < suc n = h in omega arith) (let q : suc i < suc (length es) = l in omega arith) (both _ _ a .1)
 
--- octets behind octets
-laid-more : (xs o old out last : List ℕ) (at : ℕ) → out ≡ laid xs old → at ≡ length xs → last ≡ laid o (take (length out - at) (drop at out)) → putMid at (length out - at) out last ≡ laid (xs ++ o) old
-unfolding laid
-laid-more xs o old out last at p q e =
-    rest-put at out last
-    ∙ ap (λ (t : List ℕ). take at out ++ t) (e ∙ ap (λ (t : List ℕ). o ++ drop (length o) t) (rest-whole at out))
-    ∙ ap (λ (t : List ℕ). take at t ++ (o ++ drop (length o) (drop at t))) p
-    ∙ ap (λ (t : List ℕ). t ++ (o ++ drop (length o) (drop at (xs ++ drop (length xs) old)))) (take-at xs (drop (length xs) old) at (sym q))
-    ∙ ap (λ (t : List ℕ). xs ++ (o ++ drop (length o) t)) (drop-at xs (drop (length xs) old) at (sym q))
-    ∙ ap (λ (t : List ℕ). xs ++ (o ++ t)) (drop-drop (length o) (length xs) old ∙ ap (λ (k : ℕ). drop k old) (sym (length-append xs o)))
-    ∙ sym (append-assoc xs o (drop (length (xs ++ o)) old))
-
 -- i entries are laid down behind the first two octets of the output
 pub record Wrote (n : ℕ) (es : List Entry) (texts first out : List ℕ) (at i : ℕ) : Type 0 where
   pub below : i ≤ n
@@ -233,7 +212,9 @@ module _ (d : Draft) (texts old : List ℕ) (l : ℕ) (p : Layable d texts (leng
         record {
           below = omega arith;
           at-is = omega (arith, w .at-is, e .1, ap length m, length-append b o);
-          out-is = laid-more (take 2 f ++ b) o f out last at (w .out-is) (omega (arith, w .at-is, t, length-append (take 2 f) b)) (e .0)
+          out-is = rest-laid o out last at (e .0)
+              ∙ ap₂ (laidAt o) (let q : at ≡ length (take 2 f ++ b) = omega (arith, w .at-is, t, length-append (take 2 f) b) in q) (w .out-is)
+              ∙ laid-then (take 2 f ++ b) o f
               ∙ ap (λ (v : List ℕ). laid v f) (append-assoc (take 2 f) b o ∙ ap (λ (v : List ℕ). take 2 f ++ v) (sym m));
           long = same-len-mid at (length out - at) out last k ∙ w .long;
         }

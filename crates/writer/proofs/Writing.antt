@@ -11,7 +11,8 @@ use Rattle.rules.specs.Message as message
 use Rattle.rules.specs.Message.{octets, LegalMessage, Accepts}
 use Rattle.rules.specs.declared.Fault.{Fault}
 use Rattle.draft.specs.Draft.{messageOf, Equal}
-use Rattle.draft.specs.Packing.{laid, textsOf, draftOf, equal-stand}
+use Rattle.rules.specs.Laying.{laid}
+use Rattle.draft.specs.Packing.{textsOf, draftOf, equal-stand}
 use Rattle.writer.specs.Writing.{writeOf, outputAfter}
 use Rattle.writer.specs.Legal.{octets-length, written, message-legal}
 use Rattle.writer.specs.Reasons.{Answers, answers}

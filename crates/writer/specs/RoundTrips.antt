@@ -9,6 +9,7 @@ use native.Mathlib.Omega.{arith}
 use lib.ListN.{length}
 use lib.Dec.{T}
 use Rattle.rules.specs.Tests.{_≤?_, _=?_, pick, every, both, join}
+use Rattle.rules.specs.Returns.{same-truth}
 use Rattle.rules.specs.Contents.{contentsFit}
 use Rattle.rules.specs.Table.{Rules, shapeOf, document01, narrow}
 use Rattle.rules.specs.ContentLaw.{SoundRules, document01-sound, narrow-sound}
@@ -17,7 +18,6 @@ use Rattle.rules.specs.Message.{Parameter, body, octets, messageKind, LegalPara
 use Rattle.draft.specs.Meaning.{Meaning, formIs, kindOf, spelled, meant, form-meant, DrawnRules, drawn, document01-drawn, narrow-drawn, meant-spelled, Drawn}
 use Rattle.draft.specs.Draft.{meaningOf, inside, parameterOf, parametersOf, Said, saidOf, allSaid, allInside, used, messageOf, Equal}
 use Rattle.draft.specs.Packing.{meaningIn, entriesOf, textsOf, draftOf, allMeant, pack, entries-length, used-are, equal-stand, said-again, draft-stands}
-use Rattle.draft.specs.Truth.{same-truth}
 use Rattle.draft.specs.declared.Entry.{Entry}
 use Rattle.draft.specs.declared.Draft.{Draft}
 use Rattle.writer.specs.Writing.{declined, legalEntry, legalBefore, sized, measuredOf, writeOf}

@@ -10,7 +10,7 @@ use Rattle.rules.specs.Table.{Rules, shapeOf}
 use Rattle.rules.specs.Message.{body, messageKind}
 use Rattle.draft.specs.Meaning.{formNumber, kindOf, formIs, spelled}
 use Rattle.draft.specs.Draft.{meaningOf, inside, parametersOf, used}
-use Rattle.draft.specs.Packing.{laid}
+use Rattle.rules.specs.Laying.{laid}
 use Rattle.draft.specs.declared.Entry.{Entry}
 use Rattle.draft.specs.declared.Draft.{Draft}
 use Rattle.writer.specs.declared.Written.{Written}

@@ -15,7 +15,7 @@ ghost use Rattle.rules.specs.Table.{document01, shape01};
 ghost use Rattle.rules.specs.ContentJudge.{fitsFrom};
 ghost use Rattle.rules.specs.Message.{front, octets};
 ghost use Rattle.draft.specs.Draft.{used, messageOf};
-ghost use Rattle.draft.specs.Packing.{laid};
+ghost use Rattle.rules.specs.Laying.{laid};
 ghost use Rattle.draft.specs.declared.Value.the-variants as value;
 ghost use Rattle.writer.specs.Writing.{declined, sized, measuredOf, writeOf, outputAfter};
 ghost use Rattle.writer.specs.Judging.{spellingOf, small, fitting, takesOf, measureFrom};

@@ -12,17 +12,17 @@ use Rattle.caption.proofs.is_for.Tie as tie
 index-of-requires : tie.Need-index-of-requires
 index-of-requires c κs = search needs
 
-slice-aggregate-is-same : tie.Need-slice-aggregate-is-same
-slice-aggregate-is-same c = sym (length-take-le _ _ (omega arith))
+slice-aggregate-same-octets : tie.Need-slice-aggregate-same-octets
+slice-aggregate-same-octets c = sym (length-take-le _ _ (omega arith))
 
-is-same-requires : tie.Need-is-same-requires
-is-same-requires c κs = search needs
+same-octets-requires : tie.Need-same-octets-requires
+same-octets-requires c κs = search needs
 
 returns : tie.Need-returns
 unfolding names before
 returns c =
     let k = c .before .before .before .index-of .ensures in
-    and-t _ _ _ (yes-le _ _ (omega arith)) (rw k at (c .is-same .ensures))
+    and-t _ _ _ (yes-le _ _ (omega arith)) (rw k at (c .same-octets .ensures))
 
 returns-2 : tie.Need-returns-2
 unfolding names
@@ -31,4 +31,4 @@ returns-2 c = and-f _ _ _ (no-le _ _ (omega (arith, c .before .index-of .ensures
 pub is-for-spec : {M : Type 1} → statement M
 is-for-spec =
     tie.close
-    (tie.spec index-of-requires slice-aggregate-is-same is-same-requires returns returns-2)
+    (tie.spec index-of-requires slice-aggregate-same-octets same-octets-requires returns returns-2)

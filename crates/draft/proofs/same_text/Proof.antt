@@ -1,9 +1,8 @@
 -- `draft::same_text` meets its contract: both lie inside, and the octets agree.
 -- Assumes nothing.
 use mathlib.Core.Path.{refl}
-use Rattle.rules.specs.Returns.{and-t, and-f, via}
+use Rattle.rules.specs.Returns.{and-t, and-f, via, told-le}
 use Rattle.draft.specs.Same.{sameText}
-use Rattle.draft.specs.Truth.{told-le}
 use borrow.Author.Needs.{needs}
 use Rattle.draft.proofs.same_text.Statement.{statement}
 use Rattle.draft.proofs.same_text.Tie as tie

@@ -4,9 +4,8 @@ use mathlib.Core.Path.{refl, _∙_, ap}
 use Prim.Native.Nat.{ℕ}
 use native.Mathlib.Omega.{arith}
 use lib.ListN.{take, drop}
-use Rattle.rules.specs.Returns.{pick-t, pick-f, via}
+use Rattle.rules.specs.Returns.{pick-t, pick-f, via, told-le}
 use Rattle.writer.specs.Judging.{fitting}
-use Rattle.draft.specs.Truth.{told-le}
 use Rattle.writer.proofs.Calls.{part-of}
 use borrow.Author.Needs.{needs}
 use Rattle.writer.proofs.text_length.Statement.{statement}

@@ -7,7 +7,7 @@ use lib.ListN.{length, length-take, length-drop, length-replicate}
 use Rattle.rules.specs.Table.{document01}
 use Rattle.reader.specs.Laying.{left-ended, left-full}
 use Rattle.firmware.specs.DraftRecord.{entryCells, Recorded, recorded-first, recorded-long, recorded-small, recorded-more, recorded-end}
-use Rattle.firmware.proofs.Drafting.{put-laid}
+use Rattle.rules.specs.Laying.{rest-laid}
 use borrow.Author.Needs.{needs}
 use Rattle.firmware.proofs.drafts.lay_entries.Statement.{statement}
 use Rattle.firmware.proofs.drafts.lay_entries.Tie as tie
@@ -55,7 +55,7 @@ loop-less : tie.Need-loop-less Inv-loop μ-loop
 loop-less c = search needs
 
 loop-again : tie.Need-loop-again Inv-loop μ-loop
-loop-again c = recorded-more _ _ _ _ _ (c .before .before .before .before .before .before .before .before .before .loop .inv) (c .before .before .before .before .before .before .before .before .loop-test .taken) _ _ _ (sym (c .before .before .before .before .before .taken .given .1) ∙ c .before .before .before .before .before .before .before .entry .ensures) _ (put-laid _ _ _ (8 + 8 * c .before .before .before .before .before .before .before .before .before .loop .count) (c .before .before .lay-entry .ensures))
+loop-again c = recorded-more _ _ _ _ _ (c .before .before .before .before .before .before .before .before .before .loop .inv) (c .before .before .before .before .before .before .before .before .loop-test .taken) _ _ _ (sym (c .before .before .before .before .before .taken .given .1) ∙ c .before .before .before .before .before .before .before .entry .ensures) _ (rest-laid _ _ _ (8 + 8 * c .before .before .before .before .before .before .before .before .before .loop .count) (c .before .before .lay-entry .ensures))
 
 enum-told : tie.Need-enum-told Inv-loop μ-loop
 enum-told c = search needs

@@ -4,7 +4,7 @@ use mathlib.Core.Path.{_∙_, ap}
 use mathlib.Core.List.{[], _∷_}
 use native.Mathlib.Omega.{arith}
 use lib.ListN.{length-set}
-use Rattle.draft.specs.Packing.{laid}
+use Rattle.rules.specs.Laying.{laid}
 use Rattle.firmware.specs.declared.drafts.Numbers.{Numbers}
 use Rattle.firmware.specs.DraftRecord.{cellsOf, entryCells}
 use Rattle.firmware.proofs.Drafting.{stored-front}

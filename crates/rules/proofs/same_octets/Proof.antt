@@ -1,16 +1,15 @@
--- `draft::same_octets` meets its contract. The loop's invariant: the octets before i agree, so those from i on decide. The measure is what is left.
+-- `rules::same_octets` meets its contract. The loop's invariant: the octets before i agree, so those from i on decide. The measure is what is left.
 -- Assumes nothing.
 use mathlib.Core.Path.{_≡_, refl}
 use Prim.Native.Nat.{_≤_, _-_}
 use native.Mathlib.Omega.{arith}
 use lib.ListN.{drop}
 use Rattle.rules.specs.Tests.{_=?_}
 use Rattle.rules.specs.Returns.{yes-eq, no-eq}
-use Rattle.draft.specs.Same.{pairwise}
-use Rattle.draft.proofs.Comparing.{uneven, compared, agrees, differs}
+use Rattle.rules.specs.Pairwise.{pairwise, uneven, compared, agrees, differs}
 use borrow.Author.Needs.{needs}
-use Rattle.draft.proofs.same_octets.Statement.{statement}
-use Rattle.draft.proofs.same_octets.Tie as tie
+use Rattle.rules.proofs.same_octets.Statement.{statement}
+use Rattle.rules.proofs.same_octets.Tie as tie
 
 abbrev Inv-loop : tie.InvT-loop
 Inv-loop v w n i₀ i = (i ≤ n) × (pairwise _=?_ (drop i v) (drop i w) ≡ pairwise _=?_ v w)
