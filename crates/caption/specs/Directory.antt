@@ -11,7 +11,7 @@ use native.Mathlib.Numerals.{add-one}
 use lib.ListN.{length, length-append, take, drop, take-append-drop, drop-of-length-le}
 use lib.Seq.{take-length, length-take-le, take-append-seam, drop-append-add, drop-drop}
 use lib.Dec.{T}
-use Rattle.rules.specs.Tests.{_=?_, pick, pick-yes, pick-not, both, join, of-eq, eq-of, of-le, le-of, decide}
+use Rattle.rules.specs.Tests.{_=?_, pick, pick-yes, pick-not, both, join, of-eq, eq-of, of-le, le-of, decide, clash}
 use Rattle.rules.specs.Pairwise.{sameOctets, octets-are, octets-self}
 use Rattle.caption.specs.declared.Entry.the-variants.{Text, Missing}
 use Rattle.caption.specs.Lines.{linesOf, indexOf, before, behind, names}
@@ -155,7 +155,7 @@ module _ (caller : List ℕ) where
 -- ---- and the text stands there
 lines-some : (d l : List ℕ) (ls : List (List ℕ)) → linesOf d ≡ l ∷ ls → 0 < length d
 unfolding linesOf
-lines-some [] l ls e = let z : _≡_ {A = ℕ} 0 1 = cc in absurd (omega arith)
+lines-some [] l ls e = clash cc
 lines-some (x ∷ d) l ls e = omega arith
 
 line-stands : (b : List (List ℕ)) (l : List ℕ) (a : List (List ℕ)) (d : List ℕ) → linesOf d ≡ b ++ l ∷ a → (rest : List ℕ) × (drop (span b) d ≡ l ++ rest)

@@ -7,6 +7,7 @@ use mathlib.Core.List.{List, []}
 use mathlib.Core.Option.{none, some}
 use native.Mathlib.Omega.{arith}
 use lib.ListN.{length, take, drop}
+use Rattle.rules.specs.Tests.{clash}
 use Rattle.rules.specs.Octets.{Octets}
 use Rattle.rules.specs.Table.{document01}
 use Rattle.rules.specs.Message.{Message, octets, LegalMessage, Accepts}
@@ -78,7 +79,7 @@ module _ (o d : List ℕ) (start : ℕ) (v : List ℕ) where
 
 part-none : (o : List ℕ) (p : Part) → partOf o p ≡ none → p ≡ Nowhere
 unfolding partOf
-part-none o (At start n) e = let z : _≡_ {A = ℕ} 0 1 = cc in absurd (omega arith)
+part-none o (At start n) e = clash cc
 part-none o Nowhere e = refl
 
 -- ---- the caption of a message
@@ -130,11 +131,11 @@ module _ (o d : List ℕ) where
 
   in-message : (start n : ℕ) → APart (InMessage start n)
   unfolding numberOf
-  in-message start n = (refl, λ f e. let z : _≡_ {A = ℕ} 0 1 = cc in omega arith)
+  in-message start n = (refl, λ f e. clash cc)
 
   in-directory : (start n : ℕ) → APart (InDirectory start n)
   unfolding numberOf
-  in-directory start n = (refl, λ f e. let z : _≡_ {A = ℕ} 0 1 = cc in omega arith)
+  in-directory start n = (refl, λ f e. clash cc)
 
   by-entry-part : (e : Entry) (start n : ℕ) → APart (byEntry e start n)
   unfolding byEntry
@@ -162,7 +163,7 @@ module _ (o d : List ℕ) where
 
   refused-of : (v : Verdict) (f : Fault) → (findUnder v o d ≡ Refused f) ↔ (v ≡ Declined f)
   unfolding findUnder
-  refused-of (Accepted n) f = (λ e. absurd (by-name-part (countedAt o 0x07) .1 f e), λ e. let z : _≡_ {A = ℕ} 0 1 = cc in absurd (omega arith))
+  refused-of (Accepted n) f = (λ e. absurd (by-name-part (countedAt o 0x07) .1 f e), λ e. clash cc)
   refused-of (Declined g) f = (λ e. cc, λ e. cc)
 
   numbers-of : (v : Verdict) → ((f : Fault) → v ≡ Declined f → f .number ≤ 8) → numberOf (findUnder v o d) ≤ 8

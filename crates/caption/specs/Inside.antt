@@ -1,11 +1,11 @@
 -- What is found lies inside the slice that it names: contents inside the message, an entry's text inside the directory.
 -- Assumes nothing.
-use Prim.Native.Nat.{ℕ, zero, suc, _+_, _-_, _≤_, _<_}
+use Prim.Native.Nat.{ℕ, suc, _+_, _-_, _≤_, _<_}
 use mathlib.Core.Path.{_≡_, refl, sym, _∙_, ap, subst}
 use mathlib.Core.List.{List, [], _∷_}
 use native.Mathlib.Omega.{arith}
 use lib.ListN.{length, length-drop, take, drop}
-use Rattle.rules.specs.Tests.{pick-case, picked-by, both, le-of}
+use Rattle.rules.specs.Tests.{pick-case, picked-by, both, le-of, clash}
 use Rattle.rules.specs.Table.{Rules}
 use Rattle.rules.specs.declared.Fault.{Fault}
 use Rattle.message.specs.declared.Verdict.{Verdict}
@@ -39,12 +39,9 @@ lines-span [] = omega arith
 lines-span (x ∷ d) = pick-case (λ (ls : List (List ℕ)). span ls ≤ suc (suc (length d))) _ _ _ (λ _. omega (arith, lines-span d)) (λ _. on-first-span x (linesOf d) (length d) (lines-span d))
 
 -- ---- an entry's text
-no-text : (start n : ℕ) → Missing ≡ Text start n → ⊥
-no-text start n e = let z : _≡_ {A = ℕ} 0 1 = cc in omega arith
-
 entry-span : (caller : List ℕ) (at : ℕ) (ls : List (List ℕ)) (start n : ℕ) → entryFrom caller at ls ≡ Text start n → start + n < at + span ls
 unfolding entryFrom span names behind
-entry-span caller at [] start n e = absurd (no-text start n e)
+entry-span caller at [] start n e = clash cc
 entry-span caller at (l ∷ ls) start n e =
     picked-by (start + n < at + (suc (length l) + span ls)) _ _ _ _ e
     (λ t d.

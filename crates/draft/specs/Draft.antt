@@ -3,7 +3,7 @@
 use Prim.Native.Nat.{ℕ, _+_, _≤_}
 use mathlib.Core.Path.{_≡_}
 use mathlib.Core.Bool.{Bool, true}
-use mathlib.Core.List.{List, [], _∷_, map}
+use mathlib.Core.List.{List, [], _∷_}
 use lib.ListN.{length, take, drop, replicate}
 use lib.Dec.{T}
 use Rattle.rules.specs.Tests.{_≤?_, every}

@@ -7,7 +7,7 @@ use mathlib.Core.List.{List, [], _∷_}
 use native.Mathlib.Omega.{arith}
 use lib.ListN.{getD}
 use lib.Dec.{T}
-use Rattle.rules.specs.Tests.{_=?_, _and_, both, le-of, eq-of}
+use Rattle.rules.specs.Tests.{both, le-of}
 use Rattle.rules.specs.Octets.{Octets}
 use Rattle.rules.specs.Contents.{Range, Shape, pairs, columns, text, within, digit, pairFits, pairsFit, columnsFit, contentsFit}
 use Rattle.rules.specs.Table.{Rules, classOf, shapeOf, shape01, shapeNarrow, document01, narrow, formOf}

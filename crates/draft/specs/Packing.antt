@@ -2,15 +2,15 @@
 -- for exactly that message.
 -- Assumes nothing.
 use Prim.Native.Nat.{ℕ, suc, _+_, _-_, _≤_}
-use mathlib.Core.Path.{_≡_, refl, sym, _∙_, ap, ap₂, subst}
+use mathlib.Core.Path.{_≡_, refl, sym, _∙_, ap, ap₂}
 use mathlib.Core.List.{List, [], _∷_, _++_, append-assoc}
 use native.Mathlib.Omega.{arith}
 use lib.ListN.{length, length-append, length-drop, take, drop, replicate}
 use lib.Seq.{take-append-seam, drop-append-seam, drop-drop}
 use lib.Dec.{T}
 use Rattle.rules.specs.Tests.{every, join, of-le}
-use Rattle.rules.specs.Table.{Rules, classOf, shapeOf}
-use Rattle.rules.specs.ContentLaw.{SoundRules, sound, fit-octets}
+use Rattle.rules.specs.Table.{Rules, shapeOf}
+use Rattle.rules.specs.ContentLaw.{SoundRules, sound-shape, fit-octets}
 use Rattle.rules.specs.Message.{Parameter, Message, LegalParameter, AllLegal, LegalMessage}
 use Rattle.draft.specs.Meaning.{Meaning, dateIs, codeIs, stateIs, textIs, carriedIs, spelled, meant, textIn, kindOf, DrawnRules, drawn, spelled-meant}
 use Rattle.draft.specs.Draft.{noEntry, meaningOf, inside, parameterOf, parametersOf, Said, saidOf, allSaid, allInside, used, messageOf, Equal}
@@ -131,14 +131,10 @@ equal-stand a s b t e =
     (parameters-said s (used a) ∙ ap spellAll (e .entries) ∙ sym (parameters-said t (used b)))
 
 module _ (R : Rules) (S : SoundRules R) (D : DrawnRules R) where
-  shaped : (t : ℕ) → T (sound (shapeOf R t))
-  unfolding shapeOf
-  shaped t = S .classes (classOf R t)
-
   -- contents read and said again
   pub said-again : (p : Parameter) → LegalParameter R p → spelled (meaningIn R p) ≡ p .contents
   unfolding meaningIn
-  said-again p l = spelled-meant (drawn R D (p .kind)) (p .contents) (fit-octets (shapeOf R (p .kind)) (shaped (p .kind)) (p .contents) (l .fits)) (l .fits)
+  said-again p l = spelled-meant (drawn R D (p .kind)) (p .contents) (fit-octets (shapeOf R (p .kind)) (sound-shape R S (p .kind)) (p .contents) (l .fits)) (l .fits)
 
   pub spell-meant : (ps : List Parameter) → AllLegal R ps → spellAll (allMeant R ps) ≡ ps
   unfolding spellAll allMeant

@@ -2,14 +2,14 @@
 -- by the number of their kind, their numbers, and the octets of their texts.
 -- Assumes nothing.
 use Prim.Native.Nat.{ℕ, zero, suc, _+_}
-use mathlib.Core.Path.{_≡_, refl, sym, _∙_, ap, ap₂, subst}
+use mathlib.Core.Path.{_≡_, refl, sym, _∙_, ap, subst}
 use mathlib.Core.Bool.{Bool}
 use mathlib.Core.Logic.{_↔_}
 use mathlib.Core.List.{List, [], _∷_}
 use native.Mathlib.Omega.{arith}
 use lib.ListN.{length, take, drop}
 use lib.Dec.{T}
-use Rattle.rules.specs.Tests.{_≤?_, _=?_, _and_, every, both, join, le-of, of-le, eq-of, of-eq}
+use Rattle.rules.specs.Tests.{_≤?_, _=?_, _and_, every, both, join, le-of, of-le, eq-of, of-eq, clash}
 use Rattle.rules.specs.Returns.{yes-le}
 use Rattle.rules.specs.Pairwise.{pairwise, sameOctets, octets-are, octets-self}
 use Rattle.draft.specs.Meaning.{Meaning, dateIs, codeIs, stateIs, textIs, carriedIs}
@@ -184,8 +184,8 @@ module _ (s : List ℕ) (t : List ℕ) where
   alike-entries : (es fs : List Entry) → AllAlike s es t fs → T (sameEntries s es t fs)
   unfolding pairwise sameEntry allSaid saidOf allInside every
   alike-entries [] [] q = tt
-  alike-entries [] (f ∷ fs) q = let z : _≡_ {A = ℕ} 0 1 = cc (q .says) in absurd (omega arith)
-  alike-entries (e ∷ es) [] q = let z : _≡_ {A = ℕ} 0 1 = cc (q .says) in absurd (omega arith)
+  alike-entries [] (f ∷ fs) q = clash (cc (q .says))
+  alike-entries (e ∷ es) [] q = clash (cc (q .says))
   alike-entries (e ∷ es) (f ∷ fs) q =
       let l = both _ _ (q .left) in
       let r = both _ _ (q .right) in

@@ -1,7 +1,7 @@
 -- The draft's record, 688 octets: the message type, the number of entries, six octets of 0; then 85 entries of eight octets: the type, the kind of value,
 -- and six octets of value. What is not used is 0 (document 01: a record that is only written is judged by its size alone).
 -- Assumes nothing.
-use Prim.Native.Nat.{ℕ, zero, suc, _+_, _*_, _-_, _/_, _%_, _≤_, _<_}
+use Prim.Native.Nat.{ℕ, zero, suc, _+_, _*_, _/_, _%_, _≤_, _<_}
 use mathlib.Core.Path.{_≡_, refl, sym, _∙_, ap, ap₂}
 use mathlib.Core.List.{List, [], _∷_, _++_, append-assoc}
 use native.Mathlib.Numerals.{add-one}

@@ -4,13 +4,12 @@ use Prim.Native.Nat.{ℕ, suc, _+_, _≤_, _<_}
 use mathlib.Core.Path.{_≡_, refl, sym, _∙_, ap, subst}
 use mathlib.Core.Bool.{true}
 use mathlib.Core.Logic.{_⊎_, inl, inr, _↔_, Iff·trans}
-use mathlib.Core.List.{List, [], _∷_, _++_}
+use mathlib.Core.List.{List, [], _++_}
 use native.Mathlib.Omega.{arith}
 use lib.ListN.{length, take}
 use lib.Dec.{T}
-use Rattle.rules.specs.Tests.{_=?_, pick-yes, pick-not, of-eq, decide}
+use Rattle.rules.specs.Tests.{_=?_, pick-yes, pick-not, of-eq, decide, clash}
 use Rattle.rules.specs.Octets.{Octets, octets-append}
-use Rattle.rules.specs.Contents.{within}
 use Rattle.rules.specs.Table.{document01}
 use Rattle.rules.specs.Message.{Accepts}
 use Rattle.rules.specs.Machine.{run}
@@ -22,15 +21,15 @@ use Rattle.listener.specs.declared.Listener.{Listener}
 use Rattle.listener.specs.declared.Answer.{Answer}
 use Rattle.listener.specs.declared.Answer.the-variants.{Waits, Message, Refused}
 use Rattle.listener.specs.declared.Heard.{Heard}
-use Rattle.listener.specs.Heard.{stopped, numberOf, placeOf, sizeOf, answerOf, outOfRange, heardOf, newListener}
+use Rattle.listener.specs.Heard.{stopped, numberOf, placeOf, sizeOf, answerOf, heardOf, newListener}
 use Rattle.listener.specs.Hears as listening
-use Rattle.listener.specs.Hears.{Hears, Stands, Ranged, ranged, waits-told, message-told, refused-told, taken-small, in-range-heard, out-of-range-heard, stands-in-range, stands-on, new-stands, hears}
+use Rattle.listener.specs.Hears.{Stands, Ranged, ranged, waits-told, message-told, refused-told, taken-small, in-range-heard, out-of-range-heard, stands-in-range, stands-on, new-stands, hears}
 use Rattle.firmware.specs.declared.Decoded.{Decoded}
 use Rattle.firmware.specs.declared.Decoded.the-variants.{Known, Unknown}
 use Rattle.firmware.specs.Record.{decodeOf, recordOf}
 use Rattle.firmware.specs.Word.{packed, wordNumber, wordPlace, wordSize, wordTaken, Unpacked, unpacked}
 use Rattle.firmware.specs.Exports.{badRecord, resetAnswer, resetRecord, wordOf, answered, recorded, listenAnswer, listenRecord}
-use Rattle.firmware.specs.Coding.{decode-encode, encode-decode, known-size}
+use Rattle.firmware.specs.Coding.{decode-encode, encode-decode}
 
 -- The record's listener had taken the octets h since its reset, was given the run o, and the call answered w.
 pub record RecordHears (h o : List ℕ) (w : ℕ) : Type 0 where
@@ -84,7 +83,7 @@ sound-or-not c = go (decodeOf c) refl
 
     go : (y : Decoded) → decodeOf c ≡ y → Sound c ⊎ (Sound c → ⊥)
     go (Known l) k = in-or-out l k (decide (inRange document01 (l .state)))
-    go Unknown k = inr (λ s. let z : _≡_ {A = ℕ} 0 1 = cc (s .known, k) in omega arith)
+    go Unknown k = inr (λ s. clash (cc (s .known, k)))
 
 -- 17 at place 0, no size, nothing taken, and the record as it was
 pub record Seventeen (c : List ℕ) (w : ℕ) (d : List ℕ) : Type 0 where

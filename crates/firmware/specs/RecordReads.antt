@@ -1,7 +1,7 @@
 -- What a whole read says and leaves through the exports, read off the answer's word and the records, over the written rules alone.
 -- Assumes nothing.
 use Prim.Native.Nat.{ℕ}
-use mathlib.Core.Path.{_≡_, refl, sym, _∙_, ap, subst}
+use mathlib.Core.Path.{_≡_, sym, _∙_, ap, subst}
 use mathlib.Core.List.{List}
 use native.Mathlib.Omega.{arith}
 use lib.ListN.{length}
@@ -15,7 +15,7 @@ use Rattle.reader.specs.declared.Packed.the-variants.{Texts, Refused}
 use Rattle.reader.specs.declared.Reading.{Reading}
 use Rattle.reader.specs.Read.{packOf, readOf, draftFrom, areaAfter}
 use Rattle.reader.specs.Reads.{Reads, reads-of, numberOf, placeOf, sizeOf, near}
-use Rattle.firmware.specs.Word.{packed, wordNumber, wordPlace, wordSize, wordTaken, Unpacked, unpacked}
+use Rattle.firmware.specs.Word.{Unpacked, unpacked}
 use Rattle.firmware.specs.DraftRecord.{draftRecord}
 use Rattle.firmware.specs.Exports.{badRecord, packedWord, recordFrom, readAnswer, readRecord, readTexts}
 

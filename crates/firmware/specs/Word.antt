@@ -1,7 +1,7 @@
 -- The answer of an export, packed into one word: octet 0 (the lowest) the number, 0 where there is none; octets 1 and 2 the place; octets 3 and 4 a size;
 -- octets 5 and 6 the octets taken; octet 7 is 0, kept for what may come.
 -- Assumes nothing.
-use Prim.Native.Nat.{ℕ, _+_, _*_, _/_, _%_, _≤_, _<_}
+use Prim.Native.Nat.{ℕ, _+_, _*_, _/_, _%_, _<_}
 use mathlib.Core.Path.{_≡_}
 use native.Mathlib.Omega.{arith}
 

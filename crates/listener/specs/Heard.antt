@@ -1,6 +1,6 @@
 -- What a call of the listener gives (document 01, Listening): the state after the octets, the answer, the octets taken; 17 for a listener out of range.
 -- Assumes nothing.
-use Prim.Native.Nat.{ℕ, suc, _+_}
+use Prim.Native.Nat.{ℕ, suc}
 use mathlib.Core.Bool.{Bool, true, false}
 use mathlib.Core.List.{List, [], _∷_}
 use Rattle.rules.specs.Tests.{pick}

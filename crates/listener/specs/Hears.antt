@@ -2,14 +2,14 @@
 -- Assumes nothing.
 use Prim.Native.Nat.{ℕ, suc, _+_, _≤_}
 use mathlib.Core.Path.{_≡_, refl, sym, _∙_, ap, subst}
-use mathlib.Core.Bool.{Bool, true, false}
+use mathlib.Core.Bool.{true, false}
 use mathlib.Core.Logic.{_⊎_, inl, inr, _↔_}
-use mathlib.Core.List.{List, [], _∷_, _++_}
+use mathlib.Core.List.{List, [], _++_}
 use native.Mathlib.Omega.{arith}
 use lib.ListN.{length, length-append, take}
 use lib.Seq.{length-take-le}
 use lib.Dec.{T}
-use Rattle.rules.specs.Tests.{pick-yes, pick-not, decide, both, le-of}
+use Rattle.rules.specs.Tests.{pick-yes, pick-not, decide, both, le-of, clash}
 use Rattle.rules.specs.Octets.{Octets, octets-append, octets-take}
 use Rattle.rules.specs.Contents.{within}
 use Rattle.rules.specs.Table.{document01}
@@ -17,7 +17,7 @@ use Rattle.rules.specs.Message.{Accepts}
 use Rattle.rules.specs.Machine as machine
 use Rattle.rules.specs.Machine.{answer, run, start}
 use Rattle.rules.specs.Judge.{machine, inRange}
-use Rattle.rules.specs.Listening.{place, run-append, message-stays, refused-stays}
+use Rattle.rules.specs.Listening.{place, run-append}
 use Rattle.rules.specs.Demand3.{Ending, Spoilt, Numbered, document01-demand3}
 use Rattle.rules.specs.InRange.{in-range-run, in-range-start, within-258, low, high, refused-number}
 use Rattle.rules.specs.declared.Fault.{Fault}
@@ -56,8 +56,8 @@ pub record Stands (l : Listener) (h : List ℕ) : Type 0 where
 is-waiting : (w : State) → answerOf w ≡ Waits → machine.Waits w
 unfolding answerOf
 is-waiting (state.Waiting s q) e = tt
-is-waiting (state.Message n) e = let z : _≡_ {A = ℕ} 0 1 = cc in absurd (omega arith)
-is-waiting (state.Refused f) e = let z : _≡_ {A = ℕ} 0 1 = cc in absurd (omega arith)
+is-waiting (state.Message n) e = clash cc
+is-waiting (state.Refused f) e = clash cc
 
 waiting-is : (w : State) → machine.Waits w → answerOf w ≡ Waits
 unfolding answerOf
@@ -67,14 +67,14 @@ waiting-is (state.Refused f) e = absurd e
 
 is-message : (w : State) (n : ℕ) → answerOf w ≡ Message n → w ≡ state.Message n
 unfolding answerOf
-is-message (state.Waiting s q) n e = let z : _≡_ {A = ℕ} 0 1 = cc in absurd (omega arith)
+is-message (state.Waiting s q) n e = clash cc
 is-message (state.Message m) n e = let d : m ≡ n = cc in ap state.Message d
-is-message (state.Refused f) n e = let z : _≡_ {A = ℕ} 0 1 = cc in absurd (omega arith)
+is-message (state.Refused f) n e = clash cc
 
 pub is-refused : (w : State) (f : Fault) → answerOf w ≡ Refused f → w ≡ state.Refused f
 unfolding answerOf
-is-refused (state.Waiting s q) f e = let z : _≡_ {A = ℕ} 0 1 = cc in absurd (omega arith)
-is-refused (state.Message m) f e = let z : _≡_ {A = ℕ} 0 1 = cc in absurd (omega arith)
+is-refused (state.Waiting s q) f e = clash cc
+is-refused (state.Message m) f e = clash cc
 is-refused (state.Refused g) f e = let d : g ≡ f = cc in ap state.Refused d
 
 said-message : (n : ℕ) → answerOf (state.Message n) ≡ Message n
@@ -225,17 +225,17 @@ ranged (state.Refused f) t = let k = refused-number f t in (low _ _ _ k, high _ 
 pub waits-told : (a : Answer) → Ranged a → ((numberOf a ≡ 0) × (sizeOf a ≡ 0)) ↔ (a ≡ Waits)
 unfolding numberOf sizeOf
 waits-told Waits g = (λ _. refl, λ _. (refl, refl))
-waits-told (Message n) g = (λ e. absurd (omega (arith, e .1)), λ e. let z : _≡_ {A = ℕ} 0 1 = cc in absurd (omega arith))
-waits-told (Refused f) g = (λ e. absurd (omega (arith, e .0)), λ e. let z : _≡_ {A = ℕ} 0 1 = cc in absurd (omega arith))
+waits-told (Message n) g = (λ e. absurd (omega (arith, e .1)), λ e. clash cc)
+waits-told (Refused f) g = (λ e. absurd (omega (arith, e .0)), λ e. clash cc)
 
 pub message-told : (a : Answer) (n : ℕ) → 1 ≤ n → (sizeOf a ≡ n) ↔ (a ≡ Message n)
 unfolding sizeOf
-message-told Waits n l = (λ e. absurd (omega arith), λ e. let z : _≡_ {A = ℕ} 0 1 = cc in absurd (omega arith))
+message-told Waits n l = (λ e. absurd (omega arith), λ e. clash cc)
 message-told (Message m) n l = (λ e. ap Message e, λ e. cc)
-message-told (Refused f) n l = (λ e. absurd (omega arith), λ e. let z : _≡_ {A = ℕ} 0 1 = cc in absurd (omega arith))
+message-told (Refused f) n l = (λ e. absurd (omega arith), λ e. clash cc)
 
 pub refused-told : (a : Answer) (f : Fault) → 1 ≤ f .number → ((numberOf a ≡ f .number) × (placeOf a ≡ f .place)) ↔ (a ≡ Refused f)
 unfolding numberOf placeOf
-refused-told Waits f l = (λ e. absurd (omega (arith, e .0)), λ e. let z : _≡_ {A = ℕ} 0 1 = cc in absurd (omega arith))
-refused-told (Message n) f l = (λ e. absurd (omega (arith, e .0)), λ e. let z : _≡_ {A = ℕ} 0 1 = cc in absurd (omega arith))
+refused-told Waits f l = (λ e. absurd (omega (arith, e .0)), λ e. clash cc)
+refused-told (Message n) f l = (λ e. absurd (omega (arith, e .0)), λ e. clash cc)
 refused-told (Refused g) f l = (λ e. (λ i. Refused (record { number = e .0 i; place = e .1 i })), λ e. let d : g ≡ f = cc in (ap (λ (x : Fault). x .number) d, ap (λ (x : Fault). x .place) d))

@@ -9,7 +9,7 @@ ghost use mathlib.Core.Path.{_≡_};
 ghost use Prim.Native.Nat.{_<_};
 ghost use lib.Dec.{T};
 ghost use Rattle.rules.specs.Contents.{within};
-ghost use Rattle.rules.specs.Table.{document01, typeFault};
+ghost use Rattle.rules.specs.Table.{document01};
 ghost use Rattle.rules.specs.Machine as machine;
 ghost use Rattle.rules.specs.Judge.{given, inRange};
 ghost use Rattle.rules.specs.Judge as judge;

@@ -11,7 +11,7 @@ use Rattle.rules.specs.Table.{document01, ascii}
 use Rattle.rules.specs.Pairwise.{pairwise, sameOctets, octets-are}
 use Rattle.listing.specs.Tabled.{below, below-at}
 use Rattle.listing.specs.Put.{part}
-use Rattle.listing.specs.Listing.{rowAt}
+use Rattle.listing.specs.Listing.{rowAt, rowCount}
 
 unfoldable pub kinds : List ℕ
 kinds = 0x01 ∷ 0x02 ∷ 0x03 ∷ 0x04 ∷ 0x07 ∷ 0x08 ∷ 0x0B ∷ 0x0D ∷ 0x0E ∷ 0x11 ∷ 0x12 ∷ 0x13 ∷ 0x15 ∷ 0x16 ∷ []
@@ -25,7 +25,7 @@ keys = ascii "time=caller=called=caller-absent=name=name-absent=lamp=message=dep
 abbrev test : ℕ → Bool
 test i = (getD kinds i 0 =? rowAt i .kind) and (getD starts i 0 ≤? getD starts (i + 1) 0) and (getD starts (i + 1) 0 ≤? 119) and sameOctets (part keys (getD starts i 0) (getD starts (i + 1) 0)) (rowAt i .key ++ ascii "=")
 
-tested : T (below test 14)
+tested : T (below test rowCount)
 unfolding below pairwise rowAt document01 ascii kinds starts keys _=?_ _≤?_ _and_
 tested = tt
 
@@ -35,9 +35,9 @@ pub record Key (i : ℕ) : Type 0 where
   pub ends : getD starts (i + 1) 0 ≤ 119
   pub key : part keys (getD starts i 0) (getD starts (i + 1) 0) ≡ rowAt i .key ++ ascii "="
 
-pub key-at : (i : ℕ) → i < 14 → Key i
+pub key-at : (i : ℕ) → i < rowCount → Key i
 key-at i h =
-    let d = both _ _ (below-at test 14 i tested h) in
+    let d = both _ _ (below-at test rowCount i tested h) in
     let e = both _ _ (d .0) in
     let f = both _ _ (e .0) in
     record { kind = eq-of _ _ (f .0); order = le-of _ _ (f .1); ends = le-of _ _ (e .1); key = octets-are _ _ (d .1) }

@@ -17,7 +17,7 @@ use Rattle.message.specs.Verdict.{verdictOf}
 use Rattle.message.specs.Judges.{judges}
 use Rattle.message.specs.Parameters.{messageIn, message-in}
 use Rattle.listing.specs.declared.Text.{Text}
-use Rattle.listing.specs.Listing.{written, linesOf, listed, refusal, listingOf, textOf}
+use Rattle.listing.specs.Listing.{written, linesOf, listed, refusal, listingOf, textOf, bufferSize}
 use Rattle.listing.specs.Plain.{cut, bares, lines-back}
 use Rattle.listing.proofs.listing.Reads as listing
 
@@ -25,16 +25,16 @@ use Rattle.listing.proofs.listing.Reads as listing
 abbrev pub shown : Text → List ℕ
 shown r = take (r .length) (r .octets)
 
-of-text : (v : List ℕ) → (shown (textOf v) ≡ v) × (drop (textOf v .length) (textOf v .octets) ≡ replicate (292 - length v) 0)
+of-text : (v : List ℕ) → (shown (textOf v) ≡ v) × (drop (textOf v .length) (textOf v .octets) ≡ replicate (bufferSize - length v) 0)
 unfolding textOf
-of-text v = (take-append-seam v (replicate (292 - length v) 0), drop-append-seam v (replicate (292 - length v) 0))
+of-text v = (take-append-seam v (replicate (bufferSize - length v) 0), drop-append-seam v (replicate (bufferSize - length v) 0))
 
 module _ (κs : _) (a : _) (r : _) (s : _) (p : listing.Post κs a r s) where
   -- its octets are the listing, and zeros stand behind them
   pub lists : shown r ≡ listingOf document01 (a .0 .now)
   lists = ap shown p ∙ of-text (listingOf document01 (a .0 .now)) .0
 
-  pub zeros-behind : drop (r .length) (r .octets) ≡ replicate (292 - length (listingOf document01 (a .0 .now))) 0
+  pub zeros-behind : drop (r .length) (r .octets) ≡ replicate (bufferSize - length (listingOf document01 (a .0 .now))) 0
   zeros-behind = ap (λ (x : Text). drop (x .length) (x .octets)) p ∙ of-text (listingOf document01 (a .0 .now)) .1
 
   -- of a message's octets: its lines, and nothing else

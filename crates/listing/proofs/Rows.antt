@@ -12,7 +12,6 @@ use Rattle.rules.specs.Tests.{pick}
 use Rattle.rules.specs.Table.{Row, document01, listed, ascii}
 use Rattle.rules.specs.Counting.{carriedIn}
 use Rattle.rules.specs.declared.Fault.{Fault}
-use Rattle.message.specs.declared.Found.{Found}
 use Rattle.message.specs.declared.Found.the-variants.{Parameter, Nothing}
 use Rattle.message.specs.declared.Part.{Part}
 use Rattle.message.specs.declared.Part.the-variants.{At, Nowhere}
@@ -21,7 +20,7 @@ use Rattle.message.specs.Places.{counted-inside}
 use Rattle.message.specs.Parameters.{parametersFrom, parametersIn, no-more, none-here, one-here}
 use Rattle.listing.specs.Numerals.{decimal}
 use Rattle.listing.specs.Put.{Room, Put, put-then, put-same, put-none}
-use Rattle.listing.specs.Listing.{lineText, written, written-one, written-append, lineOf, linesFor, partLines, rowsAt, rowAt, kindLine, carriedLine, linesAt, numberLine, refusal}
+use Rattle.listing.specs.Listing.{lineText, written, written-one, written-append, lineOf, linesFor, partLines, rowsAt, rowAt, kindLine, carriedLine, linesAt, numberLine, refusal, rowCount, row-count}
 use Rattle.listing.proofs.Keys.{kinds, key-at}
 
 -- ---- where contents stand, they lie inside
@@ -29,7 +28,7 @@ pub part-inside : (o : List ℕ) (t : ℕ) (p : Part) (s n : ℕ) → p ≡ coun
 part-inside o t p s n e q = omega (arith, counted-inside o t s n (sym e ∙ q))
 
 -- ---- the line of a row
-module _ (o : List ℕ) (i : ℕ) (h : i < 14) (p : Part) (e : p ≡ countedAt o (getD kinds i 0)) where
+module _ (o : List ℕ) (i : ℕ) (h : i < rowCount) (p : Part) (e : p ≡ countedAt o (getD kinds i 0)) where
   stands : partLines document01 o (rowAt i) ≡ linesFor document01 (rowAt i) (partOf o p)
   unfolding partLines
   stands = ap (λ (x : Part). linesFor document01 (rowAt i) (partOf o x)) (ap (countedAt o) (sym (key-at i h .kind)) ∙ sym e)
@@ -68,15 +67,11 @@ module _ (o : List ℕ) where
   unfolding rowsAt
   row-alone r = ap written (append-nil (partLines document01 o r))
 
-  fourteen : length rows ≡ 14
-  unfolding document01
-  fourteen = refl
-
-  pub row-next : (i : ℕ) → i < 14 → textAt (take (i + 1) rows) ≡ textAt (take i rows) ++ written (partLines document01 o (rowAt i))
+  pub row-next : (i : ℕ) → i < rowCount → textAt (take (i + 1) rows) ≡ textAt (take i rows) ++ written (partLines document01 o (rowAt i))
   unfolding rowAt
   row-next i h =
       ap (λ (n : ℕ). textAt (take n rows)) (add-one i)
-      ∙ ap textAt (take-suc rows i _ (omega (arith, fourteen)))
+      ∙ ap textAt (take-suc rows i _ (omega (arith, row-count)))
       ∙ rows-append (take i rows) (rowAt i ∷ [])
       ∙ ap (λ (v : List ℕ). textAt (take i rows) ++ v) (row-alone (rowAt i))
 
@@ -85,7 +80,7 @@ module _ (o : List ℕ) where
     unfolding rowsAt written
     no-rows = put-none at old
 
-    module _ (i : ℕ) (h : i < 14) (end : ℕ) (now : List ℕ) (p : Put (textAt (take i rows)) at old end now) where
+    module _ (i : ℕ) (h : i < rowCount) (end : ℕ) (now : List ℕ) (p : Put (textAt (take i rows)) at old end now) where
       pub row-room : Room (textAt rows) at old → Room (written (partLines document01 o (rowAt i))) end now
       unfolding Room
       row-room r =
@@ -97,9 +92,9 @@ module _ (o : List ℕ) where
       pub row-more : (last : ℕ) (next : List ℕ) → Put (written (partLines document01 o (rowAt i))) end now last next → Put (textAt (take (i + 1) rows)) at old last next
       row-more last next q = put-same _ _ at old last next (sym (row-next i h)) (put-then _ _ at old end now last next p q)
 
-    pub all-rows : (i end : ℕ) (now : List ℕ) → i ≤ 14 → 14 ≤ i → Put (textAt (take i rows)) at old end now → Put (textAt rows) at old end now
+    pub all-rows : (i end : ℕ) (now : List ℕ) → i ≤ rowCount → rowCount ≤ i → Put (textAt (take i rows)) at old end now → Put (textAt rows) at old end now
     unfolding document01
-    all-rows i end now a b p = let z : i ≡ 14 = omega arith in put-same _ _ at old end now (ap (λ (n : ℕ). textAt (take n rows)) z) p
+    all-rows i end now a b p = let z : i ≡ rowCount = omega arith in put-same _ _ at old end now (ap (λ (n : ℕ). textAt (take n rows)) z) p
 
 -- ---- how many are carried
 module _ (o : List ℕ) where

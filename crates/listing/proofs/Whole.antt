@@ -22,7 +22,7 @@ use Rattle.message.specs.Walking.{countedAt, partOf}
 use Rattle.message.specs.Searching.{counted-part}
 use Rattle.message.specs.Parameters.{parametersIn, messageIn, message-in}
 use Rattle.listing.specs.Put.{Room, Put, put-first}
-use Rattle.listing.specs.Listing.{Line, written, kindLine, carriedLine, linesFor, rowLines, linesOf, partLines, rowsAt, linesAt, listed, refusal, listingOf, textOf}
+use Rattle.listing.specs.Listing.{Line, written, kindLine, carriedLine, linesFor, rowLines, linesOf, partLines, rowsAt, linesAt, listed, refusal, listingOf, textOf, bufferSize}
 use Rattle.listing.specs.Longest.{longest, refusal-short}
 
 -- ---- the rows from the octets, and from the message
@@ -39,7 +39,7 @@ lines-same m l =
 
 pub record Lists (o v : List ℕ) : Type 0 where
   pub is : v ≡ listingOf document01 o
-  pub short : length v ≤ 292
+  pub short : length v ≤ bufferSize
 
 module _ (o : List ℕ) (q : Octets o) (v : Verdict) (e : v ≡ verdictOf document01 o) where
   pub lists-message : (n : ℕ) → v ≡ Accepted n → Lists o (written (linesAt document01 o))
@@ -73,13 +73,13 @@ zeros n k z h =
     ap (drop n) (sym (replicate-append-replicate n (k - n) z ∙ ap (λ (x : ℕ). replicate x z) e)) ∙ drop-at (replicate n z) (replicate (k - n) z) n (length-replicate n z)
 
 module _ (o v : List ℕ) (l : Lists o v) where
-  pub listing-room : Room v 0 (replicate 292 0)
+  pub listing-room : Room v 0 (replicate bufferSize 0)
   unfolding Room
-  listing-room = omega (arith, l .short, length-replicate {A = ℕ} 292 0)
+  listing-room = omega (arith, l .short, length-replicate {A = ℕ} bufferSize 0)
 
-  pub listing-text : (end : ℕ) (new : List ℕ) → Put v 0 (replicate 292 0) end new → (record { octets = new; length = end }) ≡ textOf (listingOf document01 o)
+  pub listing-text : (end : ℕ) (new : List ℕ) → Put v 0 (replicate bufferSize 0) end new → (record { octets = new; length = end }) ≡ textOf (listingOf document01 o)
   unfolding textOf
   listing-text end new p =
       let n : end ≡ length v = omega (arith, p .ends) in
-      let w : new ≡ v ++ replicate (292 - length v) 0 = put-first v (replicate 292 0) end new p ∙ ap (λ (x : List ℕ). v ++ x) (zeros (length v) 292 0 (l .short)) in
+      let w : new ≡ v ++ replicate (bufferSize - length v) 0 = put-first v (replicate bufferSize 0) end new p ∙ ap (λ (x : List ℕ). v ++ x) (zeros (length v) bufferSize 0 (l .short)) in
       (λ i. record { octets = w i; length = n i }) ∙ ap textOf (l .is)

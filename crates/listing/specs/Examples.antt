@@ -19,7 +19,7 @@ use Rattle.message.specs.Walking.{parameterAt}
 use Rattle.message.specs.Parameters.{found, parametersFrom, parametersIn, messageIn}
 use Rattle.listing.specs.Numerals.{digitsBy, decimal, hexDigit, hex}
 use Rattle.listing.specs.Listing as listing
-use Rattle.listing.specs.Listing.{half, clock, lampWord, stateWord, reference, printed, lineText, written, lineOf, linesFor, rowLines, kindLine, carriedLine, linesOf, refusal, listingOf}
+use Rattle.listing.specs.Listing.{half, clock, lampWord, stateWord, reference, printed, lineText, written, lineOf, linesFor, rowLines, kindLine, carriedLine, linesOf, refusal, listingOf, bufferSize}
 
 -- octets, and what is printed of them
 abbrev pub Row : Type 0
@@ -79,7 +79,7 @@ long = record {
 
 pub record Claim : Type 0 where
   pub printed : listings rows ≡ texts rows
-  pub longest : length (listingOf document01 (octets long)) ≡ 292
+  pub longest : length (listingOf document01 (octets long)) ≡ bufferSize
 
 pub examples : Claim
 unfolding ascii _≤?_ _=?_ _and_ _or_ pick total checksum within inSet lengths lengthFits digit rowIn rowOf listedIn listed classOf shapeOf rivalOf typeFault shape01 styleOf document01 body octets messageKind firstOf counted carriedIn opens tensFit onesFit pairAt columnAt okAt remember step run roomFits rangePossible somePossible possible final fits contents after fault machine judged verdictOf parameterAt found parametersFrom parametersIn messageIn digitsBy decimal hexDigit hex half clock lampWord stateWord reference printed lineText written lineOf linesFor rowLines kindLine carriedLine linesOf refusal listing.listed listingOf listings texts

@@ -1,6 +1,6 @@
 -- What the lines of a listing are: one for each type that counts, with its value's text, and none for any other; the number of carried parameters stands last.
 -- Assumes nothing.
-use Prim.Native.Nat.{ℕ, zero, suc, _+_, _<_}
+use Prim.Native.Nat.{ℕ, zero, suc, _<_}
 use mathlib.Core.Path.{_≡_, refl, sym, _∙_, ap, subst}
 use mathlib.Core.Logic.{_⊎_, inl, inr, _↔_}
 use mathlib.Core.Bool.{Bool}
@@ -15,7 +15,7 @@ use Rattle.rules.specs.Message.{Message}
 use Rattle.rules.specs.Counting.{counted, carriedIn}
 use Rattle.rules.specs.Pairwise.{pairwise}
 use Rattle.listing.specs.Tabled.{differ, differ-is, below, below-at}
-use Rattle.listing.specs.Listing.{printed, Line, lineOf, linesFor, rowLines, noRow, rowAt, kindLine, carriedLine, linesOf}
+use Rattle.listing.specs.Listing.{printed, Line, lineOf, linesFor, rowLines, noRow, rowAt, kindLine, carriedLine, linesOf, rowCount, row-count}
 
 -- a line is among some
 abbrev pub Has : List Line → Line → Type 0
@@ -42,15 +42,15 @@ has-split (k ∷ a) b l (inr h) = go (has-split a b l h)
 
 -- ---- the keys: no two rows have the same, and none has `kind` or `carried`
 abbrev apart : ℕ → Bool
-apart i = differ (rowAt i .key) (ascii "kind") and differ (rowAt i .key) (ascii "carried") and below (λ (j : ℕ). differ (rowAt i .key) (rowAt j .key) or i =? j) 14
+apart i = differ (rowAt i .key) (ascii "kind") and differ (rowAt i .key) (ascii "carried") and below (λ (j : ℕ). differ (rowAt i .key) (rowAt j .key) or i =? j) rowCount
 
-tested : T (below apart 14)
+tested : T (below apart rowCount)
 unfolding below pairwise differ rowAt document01 ascii pick _=?_ _and_ _or_
 tested = tt
 
-module _ (i : ℕ) (h : i < 14) where
+module _ (i : ℕ) (h : i < rowCount) where
   own : T (apart i)
-  own = below-at apart 14 i tested h
+  own = below-at apart rowCount i tested h
 
   pub not-kind : rowAt i .key ≡ ascii "kind" → ⊥
   not-kind e = differ-is _ _ (both _ _ (both _ _ own .0) .0) e
@@ -58,8 +58,8 @@ module _ (i : ℕ) (h : i < 14) where
   pub not-carried : rowAt i .key ≡ ascii "carried" → ⊥
   not-carried e = differ-is _ _ (both _ _ (both _ _ own .0) .1) e
 
-  pub key-tells : (j : ℕ) → j < 14 → rowAt i .key ≡ rowAt j .key → i ≡ j
-  key-tells j k e = go (either _ _ (below-at (λ (j : ℕ). differ (rowAt i .key) (rowAt j .key) or i =? j) 14 j (both _ _ own .1) k))
+  pub key-tells : (j : ℕ) → j < rowCount → rowAt i .key ≡ rowAt j .key → i ≡ j
+  key-tells j k e = go (either _ _ (below-at (λ (j : ℕ). differ (rowAt i .key) (rowAt j .key) or i =? j) rowCount j (both _ _ own .1) k))
     where
       go : T (differ (rowAt i .key) (rowAt j .key)) ⊎ T (i =? j) → i ≡ j
       go (inl t) = absurd (differ-is _ _ t e)
@@ -98,33 +98,29 @@ module _ (m : Message) where
   to-rows d (r ∷ rs) zero l h x = has-left (one r) (rowLines document01 m rs) l x
   to-rows d (r ∷ rs) (suc j) l h x = has-right (one r) (rowLines document01 m rs) l (to-rows d rs j l (omega arith) x)
 
-  fourteen : length (document01 .rows) ≡ 14
-  unfolding document01
-  fourteen = refl
-
   -- a line says the kind, or the number of carried parameters, or what counts
-  pub every-line : (l : Line) → Has (linesOf document01 m) l → (l ≡ kindLine (m .kind)) ⊎ ((l ≡ carriedLine (carriedIn document01 (m .parameters))) ⊎ ((i : ℕ) × (i < 14) × LineAt i l))
+  pub every-line : (l : Line) → Has (linesOf document01 m) l → (l ≡ kindLine (m .kind)) ⊎ ((l ≡ carriedLine (carriedIn document01 (m .parameters))) ⊎ ((i : ℕ) × (i < rowCount) × LineAt i l))
   unfolding linesOf rowAt
   every-line l (inl e) = inl e
   every-line l (inr h) = inr (go (has-split (rowLines document01 m (document01 .rows)) (carriedLine (carriedIn document01 (m .parameters)) ∷ []) l h))
     where
-      go : Has (rowLines document01 m (document01 .rows)) l ⊎ Has (carriedLine (carriedIn document01 (m .parameters)) ∷ []) l → (l ≡ carriedLine (carriedIn document01 (m .parameters))) ⊎ ((i : ℕ) × (i < 14) × LineAt i l)
-      go (inl x) = let w = from-rows noRow (document01 .rows) l x in inr (w .0, omega (arith, w .1, fourteen), for-row (rowAt (w .0)) _ l (w .2))
+      go : Has (rowLines document01 m (document01 .rows)) l ⊎ Has (carriedLine (carriedIn document01 (m .parameters)) ∷ []) l → (l ≡ carriedLine (carriedIn document01 (m .parameters))) ⊎ ((i : ℕ) × (i < rowCount) × LineAt i l)
+      go (inl x) = let w = from-rows noRow (document01 .rows) l x in inr (w .0, omega (arith, w .1, row-count), for-row (rowAt (w .0)) _ l (w .2))
       go (inr (inl e)) = inl e
       go (inr (inr x)) = absurd x
 
   -- and the line of each type that counts is there
-  pub line-there : (i : ℕ) (l : Line) → i < 14 → LineAt i l → Has (linesOf document01 m) l
+  pub line-there : (i : ℕ) (l : Line) → i < rowCount → LineAt i l → Has (linesOf document01 m) l
   unfolding linesOf rowAt
   line-there i l h w =
       inr (has-left (rowLines document01 m (document01 .rows)) (carriedLine (carriedIn document01 (m .parameters)) ∷ []) l
-      (to-rows noRow (document01 .rows) i l (omega (arith, fourteen)) (subst (Has (one (rowAt i))) (sym (w .2)) (row-for (rowAt i) _ (w .0) (w .1)))))
+      (to-rows noRow (document01 .rows) i l (omega (arith, row-count)) (subst (Has (one (rowAt i))) (sym (w .2)) (row-for (rowAt i) _ (w .0) (w .1)))))
 
   key-of : (i : ℕ) (x : List ℕ) (l : Line) → (record { key = rowAt i .key; value = x }) ≡ l → rowAt i .key ≡ l .key
   key-of i x l e = ap (λ (k : Line). k .key) e
 
   -- a row's key has a line with the value x exactly when its type counts and x is its value's text
-  pub line-iff : (i : ℕ) (x : List ℕ) → i < 14 → Has (linesOf document01 m) (record { key = rowAt i .key; value = x }) ↔ ((v : List ℕ) × (counted document01 m (rowAt i .kind) ≡ some v) × (x ≡ printed (styleOf (classOf document01 (rowAt i .kind))) v))
+  pub line-iff : (i : ℕ) (x : List ℕ) → i < rowCount → Has (linesOf document01 m) (record { key = rowAt i .key; value = x }) ↔ ((v : List ℕ) × (counted document01 m (rowAt i .kind) ≡ some v) × (x ≡ printed (styleOf (classOf document01 (rowAt i .kind))) v))
   unfolding lineOf kindLine carriedLine
   line-iff i x h = (
     λ t. go (every-line _ t),
@@ -134,7 +130,7 @@ module _ (m : Message) where
       at : (j : ℕ) → i ≡ j → LineAt j (record { key = rowAt i .key; value = x }) → (v : List ℕ) × (counted document01 m (rowAt i .kind) ≡ some v) × (x ≡ printed (styleOf (classOf document01 (rowAt i .kind))) v)
       at j e w = (w .0, ap (λ (k : ℕ). counted document01 m (rowAt k .kind)) e ∙ w .1, ap (λ (k : Line). k .value) (w .2) ∙ ap (λ (k : ℕ). printed (styleOf (classOf document01 (rowAt k .kind))) (w .0)) (sym e))
 
-      go : ((record { key = rowAt i .key; value = x }) ≡ kindLine (m .kind)) ⊎ (((record { key = rowAt i .key; value = x }) ≡ carriedLine (carriedIn document01 (m .parameters))) ⊎ ((j : ℕ) × (j < 14) × LineAt j (record { key = rowAt i .key; value = x }))) → (v : List ℕ) × (counted document01 m (rowAt i .kind) ≡ some v) × (x ≡ printed (styleOf (classOf document01 (rowAt i .kind))) v)
+      go : ((record { key = rowAt i .key; value = x }) ≡ kindLine (m .kind)) ⊎ (((record { key = rowAt i .key; value = x }) ≡ carriedLine (carriedIn document01 (m .parameters))) ⊎ ((j : ℕ) × (j < rowCount) × LineAt j (record { key = rowAt i .key; value = x }))) → (v : List ℕ) × (counted document01 m (rowAt i .kind) ≡ some v) × (x ≡ printed (styleOf (classOf document01 (rowAt i .kind))) v)
       go (inl e) = absurd (not-kind i h (key-of i x _ e))
       go (inr (inl e)) = absurd (not-carried i h (key-of i x _ e))
       go (inr (inr w)) = at (w .0) (key-tells i h (w .0) (w .1) (key-of i x _ (w .2 .2))) (w .2)

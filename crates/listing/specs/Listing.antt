@@ -106,9 +106,13 @@ listed R o (Declined f) = refusal f
 unfoldable pub listingOf : Rules → List ℕ → List ℕ
 listingOf R o = written (listed R o (verdictOf R o))
 
+-- no listing is longer (Longest)
+abbrev pub bufferSize : ℕ
+bufferSize = 292
+
 -- a listing in its buffer, zeros behind it
 unfoldable pub textOf : List ℕ → Text
-textOf v = record { octets = v ++ replicate (292 - length v) 0; length = length v }
+textOf v = record { octets = v ++ replicate (bufferSize - length v) 0; length = length v }
 
 -- ---- for the code: the same from the octets, row by row
 
@@ -118,6 +122,13 @@ noRow = record { kind = 0; class = Carried; rival = 0; key = [] }
 
 unfoldable pub rowAt : ℕ → Row
 rowAt i = getD (document01 .rows) i noRow
+
+abbrev pub rowCount : ℕ
+rowCount = 14
+
+pub row-count : length (document01 .rows) ≡ rowCount
+unfolding document01
+row-count = refl
 
 -- its line, from where its contents stand
 unfoldable pub partLines : Rules → List ℕ → Row → List Line

@@ -2,7 +2,7 @@
 -- Assumes nothing.
 use Prim.Native.Nat.{ℕ, zero, suc, _+_, _*_, _-_, _≤_, _<_}
 use mathlib.Core.Path.{_≡_, refl, sym, _∙_, ap, subst}
-use mathlib.Core.Logic.{_⊎_, ⊎-elim}
+use mathlib.Core.Logic.{⊎-elim}
 use mathlib.Core.List.{List, [], _∷_, _++_}
 use mathlib.Core.Option.{Option, none, some}
 use native.Mathlib.Omega.{arith}
@@ -19,10 +19,10 @@ use Rattle.rules.specs.Counting.{counted, counted-iff, carriedIn, one-of-pair}
 use Rattle.rules.specs.declared.Class.{Class}
 use Rattle.rules.specs.declared.Class.the-variants.{Date, Number, Absent, Name, Lamp, Identity, CallType, Waiting, Forwarded, User, Carried}
 use Rattle.rules.specs.declared.Fault.{Fault}
-use Rattle.message.specs.Parameters.{few}
+use Rattle.rules.specs.Sizes.{few}
 use Rattle.listing.specs.declared.Text.{Text}
 use Rattle.listing.specs.Numerals.{decimal, hex, two-digits, three-digits, five-digits}
-use Rattle.listing.specs.Listing.{half, clock, lampWord, stateWord, reference, printed, Line, lineText, written, lineOf, linesFor, rowLines, rowAt, kindLine, carriedLine, linesOf, refusal, textOf, written-one, written-append}
+use Rattle.listing.specs.Listing.{half, clock, lampWord, stateWord, reference, printed, Line, lineText, written, lineOf, linesFor, rowLines, rowAt, kindLine, carriedLine, linesOf, refusal, textOf, written-one, written-append, bufferSize}
 
 -- ---- values
 
@@ -159,7 +159,7 @@ module _ (m : Message) (legal : LegalMessage document01 m) where
   carried-few [] = omega arith
   carried-few (p ∷ ps) = pick-case (λ (n : ℕ). n ≤ suc (length ps)) (listed document01 (p .kind)) _ _ (λ _. omega (arith, carried-few ps)) (λ _. omega (arith, carried-few ps))
 
-  pub longest : length (written (linesOf document01 m)) ≤ 292
+  pub longest : length (written (linesOf document01 m)) ≤ bufferSize
   unfolding linesOf written kindLine carriedLine ascii
   longest =
       let n = carriedIn document01 (m .parameters) in
@@ -167,7 +167,7 @@ module _ (m : Message) (legal : LegalMessage document01 m) where
       (arith, rows-wide, length-append (lineText (kindLine (m .kind))) (written (rowLines document01 m (document01 .rows) ++ carriedLine n ∷ [])), line-long (kindLine (m .kind)), kind-wide (m .kind), append-long (rowLines document01 m (document01 .rows)) (carriedLine n ∷ []), one-line (carriedLine n), two-digits n (omega (arith, carried-few (m .parameters), few document01 document01-sound m legal)))
 
 -- nor is that of a refusal
-pub refusal-short : (f : Fault) → f .number < 1000 → f .place < 1000 → length (written (refusal f)) ≤ 292
+pub refusal-short : (f : Fault) → f .number < 1000 → f .place < 1000 → length (written (refusal f)) ≤ bufferSize
 unfolding refusal written ascii
 refusal-short f a b =
     let k : Line = record { key = ascii "refused"; value = decimal (f .number) } in
@@ -177,4 +177,4 @@ refusal-short f a b =
 -- so a listing lies within its buffer
 pub text-inside : (t : Text) (v : List ℕ) → t ≡ textOf v → t .length ≤ length (t .octets)
 unfolding textOf
-text-inside t v e = omega (arith, ap (λ (x : Text). x .length) e, ap (λ (x : Text). length (x .octets)) e, length-append v (replicate {A = ℕ} (292 - length v) 0))
+text-inside t v e = omega (arith, ap (λ (x : Text). x .length) e, ap (λ (x : Text). length (x .octets)) e, length-append v (replicate {A = ℕ} (bufferSize - length v) 0))

@@ -15,16 +15,21 @@ ghost use Rattle.rules.specs.Counting.{carriedIn};
 ghost use Rattle.message.specs.Parameters.{parametersIn};
 ghost use Rattle.listing.specs.Numerals.{hexDigit, hex, decimal};
 ghost use Rattle.listing.specs.Put.{Room, Put, part};
-ghost use Rattle.listing.specs.Listing.{half, clock, lampWord, stateWord, reference, printed, kindLine, numberLine, lineText, lineOf, rowAt, partLines, rowsAt, linesAt, written, refusal, listingOf, textOf};
+ghost use Rattle.listing.specs.Listing.{half, clock, lampWord, stateWord, reference, printed, kindLine, numberLine, lineText, lineOf, rowAt, rowCount, partLines, rowsAt, linesAt, written, refusal, listingOf, textOf};
+
+// No listing is longer.
+const LONGEST: usize = 292;
 
 // A listing: its first `length` octets; those behind them are 0.
 pub struct Text {
-    pub octets: [u8; 292],
+    pub octets: [u8; LONGEST],
     pub length: usize,
 }
 
-// The types in the order of the listing, and where the key of each begins in the row of keys; behind the last, where they end.
-const KINDS: [u8; 14] = [
+// The rows of the listing: their types in its order, and where the key of each begins in the row of keys; behind the last, where they end.
+const ROWS: usize = 14;
+
+const KINDS: [u8; ROWS] = [
     0x01,
     0x02,
     0x03,
@@ -41,7 +46,7 @@ const KINDS: [u8; 14] = [
     0x16,
 ];
 
-const STARTS: [u8; 15] = [0, 5, 12, 19, 33, 38, 50, 55, 63, 73, 83, 96, 104, 114, 119];
+const STARTS: [u8; ROWS + 1] = [0, 5, 12, 19, 33, 38, 50, 55, 63, 73, 83, 96, 104, 114, 119];
 
 // ---- octets put behind those that stand there
 
@@ -187,7 +192,7 @@ fn put_value(class: Class, contents: &[u8], out: &mut [u8], at: usize) -> usize
 
 // The key of a row, and `=`.
 fn put_key(i: usize, out: &mut [u8], at: usize) -> usize
-    requires { ⌜ (i < 14) × Room (rowAt i .key ++ ascii "=") at (now out) ⌝ }
+    requires { ⌜ (i < rowCount) × Room (rowAt i .key ++ ascii "=") at (now out) ⌝ }
     ensures { λ r. ⌜ Put (rowAt i .key ++ ascii "=") at (now (out .entry)) r (now (out .exit)) ⌝ }
 {
     let start = STARTS[i] as usize;
@@ -202,7 +207,7 @@ fn put_key(i: usize, out: &mut [u8], at: usize) -> usize
 }
 
 fn put_line(i: usize, contents: &[u8], out: &mut [u8], at: usize) -> usize
-    requires { ⌜ (i < 14) × Room (lineText (lineOf document01 (rowAt i) (now contents))) at (now out) ⌝ }
+    requires { ⌜ (i < rowCount) × Room (lineText (lineOf document01 (rowAt i) (now contents))) at (now out) ⌝ }
     ensures { λ r. ⌜ Put (lineText (lineOf document01 (rowAt i) (now (contents .entry)))) at (now (out .entry)) r (now (out .exit)) ⌝ }
 {
     let class = rules::class_of(KINDS[i]);
@@ -213,7 +218,7 @@ fn put_line(i: usize, contents: &[u8], out: &mut [u8], at: usize) -> usize
 
 // The line of a row, if its type counts.
 fn put_row(octets: &[u8], i: usize, out: &mut [u8], at: usize) -> usize
-    requires { ⌜ (i < 14) × Room (written (partLines document01 (now octets) (rowAt i))) at (now out) ⌝ }
+    requires { ⌜ (i < rowCount) × Room (written (partLines document01 (now octets) (rowAt i))) at (now out) ⌝ }
     ensures { λ r. ⌜ Put (written (partLines document01 (now (octets .entry)) (rowAt i))) at (now (out .entry)) r (now (out .exit)) ⌝ }
 {
     let part = message::counted(octets, KINDS[i]);
@@ -232,7 +237,7 @@ fn put_rows(octets: &[u8], out: &mut [u8], at: usize) -> usize
 {
     let mut end = at;
     let mut i: usize = 0;
-    while i < 14 {
+    while i < ROWS {
         end = put_row(octets, i, out, end);
         i += 1;
     }
@@ -316,7 +321,7 @@ fn put_refusal(fault: Fault, out: &mut [u8]) -> usize
 pub fn listing(octets: &[u8]) -> Text
     ensures { λ r. ⌜ r ≡ textOf (listingOf document01 (now (octets .entry))) ⌝ }
 {
-    let mut out = [0u8; 292];
+    let mut out = [0u8; LONGEST];
     let verdict = message::judge(octets);
     match verdict {
         Verdict::Accepted { size: _ } => {

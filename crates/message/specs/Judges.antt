@@ -1,16 +1,15 @@
 -- What a verdict says of the octets, over the written rules alone (document 01, Numbers: 1 to 6, then 8, then 7).
 -- Assumes nothing.
-use Prim.Native.Nat.{ℕ, suc, _≤_, _<_}
-use mathlib.Core.Path.{_≡_, refl, sym, _∙_, ap, subst}
+use Prim.Native.Nat.{ℕ, _≤_, _<_}
+use mathlib.Core.Path.{_≡_, sym, _∙_, ap, subst}
 use mathlib.Core.Logic.{_↔_, Iff·trans}
 use mathlib.Core.List.{List}
 use native.Mathlib.Omega.{arith}
 use lib.ListN.{length, take}
 use lib.Seq.{take-length}
 use lib.Dec.{T}
-use Rattle.rules.specs.Tests.{pick-yes, pick-not, picked-by, of-eq, eq-of, le-of, both}
+use Rattle.rules.specs.Tests.{pick-yes, pick-not, picked-by, of-eq, eq-of, le-of, both, clash}
 use Rattle.rules.specs.Octets.{Octets}
-use Rattle.rules.specs.Contents.{within}
 use Rattle.rules.specs.Table.{document01}
 use Rattle.rules.specs.Message.{Accepts}
 use Rattle.rules.specs.Machine.{answer, start, Waits}
@@ -43,9 +42,6 @@ pub record Judges (o : List ℕ) (v : Verdict) : Type 0 where
 refused-numbers : (f : Fault) → T (inRange document01 (Refused f)) → (1 ≤ f .number) × (f .number ≤ 6)
 refused-numbers f t = let k = refused-number f t in (low _ _ _ k, high _ _ _ k)
 
-not-both : (n : ℕ) (f : Fault) → Accepted n ≡ Declined f → ⊥
-not-both n f e = let z : _≡_ {A = ℕ} 0 1 = cc in omega arith
-
 fault-of : (f g : Fault) → Declined f ≡ Declined g → f ≡ g
 fault-of f g e = cc
 
@@ -59,19 +55,19 @@ module _ (o : List ℕ) (q : Octets o) where
   -- ---- the verdict and the machine's answer
   accepted-state : (s : State) (n : ℕ) → (judged o s ≡ Accepted n) ↔ ((s ≡ Message n) × (length o ≡ n))
   unfolding judged
-  accepted-state (Waiting s p) n = (λ e. absurd (not-both _ _ (sym e)), λ e. let z : _≡_ {A = ℕ} 0 1 = cc (e .0) in absurd (omega arith))
+  accepted-state (Waiting s p) n = (λ e. clash cc, λ e. clash (cc (e .0)))
   accepted-state (Message m) n = (
-    λ e. picked-by _ _ _ _ _ e (λ t d. let k : m ≡ n = cc in (ap Message k, eq-of _ _ t ∙ k)) (λ _ d. absurd (not-both _ _ (sym d))),
+    λ e. picked-by _ _ _ _ _ e (λ t d. let k : m ≡ n = cc in (ap Message k, eq-of _ _ t ∙ k)) (λ _ d. clash cc),
     λ e. let k : m ≡ n = cc (e .0) in pick-yes _ _ _ (of-eq _ _ (e .1 ∙ sym k)) ∙ ap Accepted k,
   )
-  accepted-state (Refused f) n = (λ e. absurd (not-both _ _ (sym e)), λ e. let z : _≡_ {A = ℕ} 0 1 = cc (e .0) in absurd (omega arith))
+  accepted-state (Refused f) n = (λ e. clash cc, λ e. clash (cc (e .0)))
 
   refused-state : (s : State) (f : Fault) → f .number ≤ 6 → (judged o s ≡ Declined f) ↔ (s ≡ Refused f)
   unfolding judged
-  refused-state (Waiting s p) f l = (λ e. let k = ap (λ (x : Fault). x .number) (fault-of _ _ e) in absurd (omega arith), λ e. let z : _≡_ {A = ℕ} 0 1 = cc in absurd (omega arith))
+  refused-state (Waiting s p) f l = (λ e. let k = ap (λ (x : Fault). x .number) (fault-of _ _ e) in absurd (omega arith), λ e. clash cc)
   refused-state (Message m) f l = (
-    λ e. picked-by _ _ _ _ _ e (λ _ d. absurd (not-both _ _ d)) (λ _ d. let k = ap (λ (x : Fault). x .number) (fault-of _ _ d) in absurd (omega arith)),
-    λ e. let z : _≡_ {A = ℕ} 0 1 = cc in absurd (omega arith),
+    λ e. picked-by _ _ _ _ _ e (λ _ d. clash cc) (λ _ d. let k = ap (λ (x : Fault). x .number) (fault-of _ _ d) in absurd (omega arith)),
+    λ e. clash cc,
   )
   refused-state (Refused g) f l = (λ e. ap Refused (fault-of _ _ e), λ e. let k : g ≡ f = cc in ap Declined k)
 
@@ -79,30 +75,30 @@ module _ (o : List ℕ) (q : Octets o) where
   unfolding judged
   early-state (Waiting s r) p t = (λ e. (sym (ap (λ (x : Fault). x .place) (fault-of _ _ e)), tt), λ e. ap (λ (k : ℕ). Declined (record { number = 8; place = k })) (sym (e .0)))
   early-state (Message m) p t = (
-    λ e. picked-by _ _ _ _ _ e (λ _ d. absurd (not-both _ _ d)) (λ _ d. let k = ap (λ (x : Fault). x .number) (fault-of _ _ d) in absurd (omega arith)),
+    λ e. picked-by _ _ _ _ _ e (λ _ d. clash cc) (λ _ d. let k = ap (λ (x : Fault). x .number) (fault-of _ _ d) in absurd (omega arith)),
     λ e. absurd (e .1),
   )
   early-state (Refused g) p t = (λ e. let k = ap (λ (x : Fault). x .number) (fault-of _ _ e) in absurd (omega (arith, refused-numbers g t .1)), λ e. absurd (e .1))
 
   followed-state : (s : State) (p : ℕ) → T (inRange document01 s) → (judged o s ≡ Declined (record { number = 7; place = p })) ↔ ((s ≡ Message p) × (length o ≡ p → ⊥))
   unfolding judged
-  followed-state (Waiting s r) p t = (λ e. let k = ap (λ (x : Fault). x .number) (fault-of _ _ e) in absurd (omega arith), λ e. let z : _≡_ {A = ℕ} 0 1 = cc (e .0) in absurd (omega arith))
+  followed-state (Waiting s r) p t = (λ e. let k = ap (λ (x : Fault). x .number) (fault-of _ _ e) in absurd (omega arith), λ e. clash (cc (e .0)))
   followed-state (Message m) p t = (
-    λ e. picked-by _ _ _ _ _ e (λ _ d. absurd (not-both _ _ d)) (λ n d. let k = ap (λ (x : Fault). x .place) (fault-of _ _ d) in (ap Message k, λ l. n (of-eq _ _ (l ∙ sym k)))),
+    λ e. picked-by _ _ _ _ _ e (λ _ d. clash cc) (λ n d. let k = ap (λ (x : Fault). x .place) (fault-of _ _ d) in (ap Message k, λ l. n (of-eq _ _ (l ∙ sym k)))),
     λ e. let k : m ≡ p = cc (e .0) in pick-not _ _ _ (λ l. e .1 (eq-of _ _ l ∙ k)) ∙ ap (λ (x : ℕ). Declined (record { number = 7; place = x })) k,
   )
-  followed-state (Refused g) p t = (λ e. let k = ap (λ (x : Fault). x .number) (fault-of _ _ e) in absurd (omega (arith, refused-numbers g t .1)), λ e. let z : _≡_ {A = ℕ} 0 1 = cc (e .0) in absurd (omega arith))
+  followed-state (Refused g) p t = (λ e. let k = ap (λ (x : Fault). x .number) (fault-of _ _ e) in absurd (omega (arith, refused-numbers g t .1)), λ e. clash (cc (e .0)))
 
   numbers-state : (s : State) (f : Fault) → T (inRange document01 s) → judged o s ≡ Declined f → (1 ≤ f .number) × (f .number ≤ 8)
   unfolding judged
   numbers-state (Waiting s r) f t e = let k = ap (λ (x : Fault). x .number) (fault-of _ _ e) in (omega arith, omega arith)
-  numbers-state (Message m) f t e = picked-by _ _ _ _ _ e (λ _ d. absurd (not-both _ _ d)) (λ _ d. let k = ap (λ (x : Fault). x .number) (fault-of _ _ d) in (omega arith, omega arith))
+  numbers-state (Message m) f t e = picked-by _ _ _ _ _ e (λ _ d. clash cc) (λ _ d. let k = ap (λ (x : Fault). x .number) (fault-of _ _ d) in (omega arith, omega arith))
   numbers-state (Refused g) f t e = let k = ap (λ (x : Fault). x .number) (fault-of _ _ e) in let d = refused-numbers g t in (omega (arith, d .0), omega (arith, d .1))
 
   near-state : (s : State) (f : Fault) → T (inRange document01 s) → (Waits s → length o < 258) → judged o s ≡ Declined f → f .place ≤ 258
   unfolding judged inRange
   near-state (Waiting s r) f t l e = let k = ap (λ (x : Fault). x .place) (fault-of _ _ e) in omega (arith, l tt)
-  near-state (Message m) f t l e = picked-by _ _ _ _ _ e (λ _ d. absurd (not-both _ _ d)) (λ _ d. let k = ap (λ (x : Fault). x .place) (fault-of _ _ d) in omega (arith, high 6 258 m t))
+  near-state (Message m) f t l e = picked-by _ _ _ _ _ e (λ _ d. clash cc) (λ _ d. let k = ap (λ (x : Fault). x .place) (fault-of _ _ d) in omega (arith, high 6 258 m t))
   near-state (Refused g) f t l e = let k = ap (λ (x : Fault). x .place) (fault-of _ _ e) in omega (arith, le-of _ _ (both _ _ t .1))
 
   -- ---- and the rules

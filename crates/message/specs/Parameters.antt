@@ -1,19 +1,20 @@
 -- The parameters that octets hold, from the first on, and that a message's octets hold exactly its parameters.
 -- Assumes nothing.
-use Prim.Native.Nat.{ℕ, zero, suc, _+_, _-_, _*_, _≤_, _<_}
-use mathlib.Core.Path.{_≡_, refl, sym, _∙_, ap, ap₂, subst}
-use mathlib.Core.List.{List, [], _∷_, _++_}
+use Prim.Native.Nat.{ℕ, zero, suc, _+_, _-_, _≤_, _<_}
+use mathlib.Core.Path.{_≡_, refl, sym, _∙_, ap, ap₂}
+use mathlib.Core.List.{List, [], _∷_}
 use native.Mathlib.Omega.{arith}
-use lib.ListN.{length, length-append, take, drop, getD}
+use lib.ListN.{length, take, drop, getD}
 use Rattle.rules.specs.Octets.{total, checksum}
-use Rattle.rules.specs.Table.{Rules, shapeOf, classOf}
-use Rattle.rules.specs.ContentLaw.{SoundRules, fit-length, some-length}
+use Rattle.rules.specs.Table.{Rules}
+use Rattle.rules.specs.ContentLaw.{SoundRules}
+use Rattle.rules.specs.Sizes.{few}
 use Rattle.rules.specs.Message as message
-use Rattle.rules.specs.Message.{body, front, octets, AllLegal, LegalMessage}
+use Rattle.rules.specs.Message.{front, octets, LegalMessage}
 use Rattle.message.specs.declared.Found.{Found}
 use Rattle.message.specs.declared.Found.the-variants.{Parameter, Nothing}
 use Rattle.message.specs.Walking.{parameterAt}
-use Rattle.message.specs.Searching.{Stand, at-end, found-is, contents-are, on, found-inside}
+use Rattle.message.specs.Searching.{Stand, at-end, found-is, contents-are, on}
 
 -- the parameter found, and those behind it
 unfoldable pub found : List ℕ → Found → (ℕ → List message.Parameter) → List message.Parameter
@@ -73,20 +74,8 @@ parameters-are o c (suc turns) at (p ∷ ps) e h =
     (parameters-are o c turns (at + 2 + length (p .contents)) ps (on o c at p ps e) (omega arith))
 
 module _ (R : Rules) (S : SoundRules R) where
-  -- a parameter takes three octets at least
-  pub three-each : (ps : List message.Parameter) → AllLegal R ps → 3 * length ps ≤ length (body ps)
-  unfolding body shapeOf
-  three-each [] l = omega arith
-  three-each (p ∷ ps) l =
-      let n = some-length (R .shape (classOf R (p .kind))) (S .classes (classOf R (p .kind))) (length (p .contents)) (fit-length (R .shape (classOf R (p .kind))) (p .contents) (l .0 .fits)) in
-      omega (arith, three-each ps (l .1), length-append (p .contents) (body ps))
-
-  -- so 85 fill a message
-  pub few : (m : message.Message) → LegalMessage R m → length (m .parameters) ≤ 85
-  few m l = omega (arith, three-each (m .parameters) (l .parameters), l .short)
-
   pub message-in : (m : message.Message) → LegalMessage R m → messageIn (octets m) ≡ m
   unfolding messageIn parametersIn octets
   message-in m l =
       ap (λ (ps : List message.Parameter). record { kind = m .kind; parameters = ps })
-      (parameters-are (octets m) (checksum (total (front m))) 85 2 (m .parameters) refl (few m l))
+      (parameters-are (octets m) (checksum (total (front m))) 85 2 (m .parameters) refl (few R S m l))

@@ -1,11 +1,11 @@
 -- Where the contents that count stand in a message's octets: behind the octets 0 and 1, the parameters before them, and their own type and length.
 -- Assumes nothing.
-use Prim.Native.Nat.{ℕ, zero, suc, _+_, _-_, _≤_, _<_}
+use Prim.Native.Nat.{ℕ, zero, suc, _+_, _-_, _<_}
 use mathlib.Core.Path.{_≡_, refl, sym, _∙_, ap}
 use mathlib.Core.List.{List, [], _∷_, _++_}
 use native.Mathlib.Omega.{arith}
 use lib.ListN.{length, length-append}
-use Rattle.rules.specs.Tests.{pick-yes, picked-by}
+use Rattle.rules.specs.Tests.{pick-yes, picked-by, clash}
 use Rattle.rules.specs.Octets.{total, checksum}
 use Rattle.rules.specs.Table.{document01, rivalOf}
 use Rattle.rules.specs.Message as message
@@ -14,7 +14,7 @@ use Rattle.rules.specs.Counting.{NoneOf, First, Counts}
 use Rattle.message.specs.declared.Found.{Found}
 use Rattle.message.specs.declared.Found.the-variants.{Parameter, Nothing}
 use Rattle.message.specs.declared.Part.{Part}
-use Rattle.message.specs.declared.Part.the-variants.{At, Nowhere}
+use Rattle.message.specs.declared.Part.the-variants.{At}
 use Rattle.message.specs.Walking.{parameterAt, matched, searchFrom, countedAt}
 use Rattle.message.specs.Searching.{Stand, wanted, next, found-is, on, enough, found-inside}
 
@@ -49,9 +49,6 @@ counted-at m t v c =
     ∙ (λ i. At (z i) (length (f .contents i)))
 
 -- ---- of any octets, what counts lies inside
-not-there : (start n : ℕ) → Nowhere ≡ At start n → ⊥
-not-there start n e = let z : _≡_ {A = ℕ} 0 1 = cc in omega arith
-
 module _ (o : List ℕ) where
   abbrev pub Within : Part → Type 0
   Within p = (start n : ℕ) → p ≡ At start n → start + n < length o
@@ -61,15 +58,15 @@ module _ (o : List ℕ) where
   matched-inside t u at (Parameter k b m) p next i start n e =
       picked-by (start + n < length o) _ _ _ _ e
       (λ _ d. let x : b ≡ start = cc in let y : m ≡ n = cc in omega (arith, found-inside o at _ k b m p refl))
-      (λ _ d. picked-by (start + n < length o) _ _ _ _ d (λ _ z. absurd (not-there start n z)) (λ _ z. i (b + m) start n z))
-  matched-inside t u at Nothing p next i start n e = absurd (not-there start n e)
+      (λ _ d. picked-by (start + n < length o) _ _ _ _ d (λ _ z. clash cc) (λ _ z. i (b + m) start n z))
+  matched-inside t u at Nothing p next i start n e = clash cc
 
   search-inside : (turns t u at : ℕ) → Within (searchFrom turns t u o at)
   unfolding searchFrom
-  search-inside zero t u at start n e = absurd (not-there start n e)
+  search-inside zero t u at start n e = clash cc
   search-inside (suc turns) t u at start n e = matched-inside t u at (parameterAt o at) refl (searchFrom turns t u o) (search-inside turns t u) start n e
 
   pub counted-inside : (t : ℕ) → Within (countedAt o t)
   unfolding countedAt
   counted-inside t start n e =
-      picked-by (start + n < length o) _ _ _ _ e (λ _ d. search-inside (length o) t (rivalOf document01 t) 2 start n d) (λ _ d. absurd (not-there start n d))
+      picked-by (start + n < length o) _ _ _ _ e (λ _ d. search-inside (length o) t (rivalOf document01 t) 2 start n d) (λ _ d. clash cc)

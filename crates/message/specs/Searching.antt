@@ -9,7 +9,7 @@ use native.Mathlib.Nat.{add-zero}
 use native.Mathlib.Omega.{arith}
 use lib.ListN.{length, length-append, length-drop, take, drop, getD}
 use lib.Seq.{getD-drop, drop-drop, take-append-seam, drop-append-seam}
-use Rattle.rules.specs.Tests.{_≤?_, _=?_, pick, pick-yes, pick-not, picked-by, of-eq, eq-of, of-le, le-of}
+use Rattle.rules.specs.Tests.{_=?_, pick, pick-yes, pick-not, picked-by, of-eq, eq-of, of-le, le-of, clash}
 use Rattle.rules.specs.Octets.{total, checksum}
 use Rattle.rules.specs.Table.{document01, listed, rivalOf}
 use Rattle.rules.specs.Message as message
@@ -56,16 +56,16 @@ found-inside o at f k start n e p =
     picked-by (start + n < length o) _ _ _ _ (sym e ∙ p)
     (λ _ d. picked-by (start + n < length o) _ _ _ _ d
     (λ t x. let a : at + 2 ≡ start = cc in let b : getD o (at + 1) 0 ≡ n = cc in omega (arith, le-of _ _ t))
-    (λ _ x. let z : _≡_ {A = ℕ} 0 1 = cc in absurd (omega arith)))
-    (λ _ d. let z : _≡_ {A = ℕ} 0 1 = cc in absurd (omega arith))
+    (λ _ x. clash cc))
+    (λ _ d. clash cc)
 
 -- contents stand behind type and length
 pub found-behind : (o : List ℕ) (at : ℕ) (k start n : ℕ) → Parameter k start n ≡ parameterAt o at → at + 2 ≡ start
 unfolding parameterAt
 found-behind o at k start n e =
     picked-by (at + 2 ≡ start) _ _ _ _ (sym e)
-    (λ _ d. picked-by (at + 2 ≡ start) _ _ _ _ d (λ _ x. cc) (λ _ x. let z : _≡_ {A = ℕ} 0 1 = cc in absurd (omega arith)))
-    (λ _ d. let z : _≡_ {A = ℕ} 0 1 = cc in absurd (omega arith))
+    (λ _ d. picked-by (at + 2 ≡ start) _ _ _ _ d (λ _ x. cc) (λ _ x. clash cc))
+    (λ _ d. clash cc)
 
 -- ---- the search on the octets of a message finds what the rules count
 module _ (o : List ℕ) (c : ℕ) where

@@ -1,15 +1,15 @@
 -- How the verdict goes on, octet by octet: what the octets from a place on lead to, by the way of the machine's step.
 -- Assumes nothing.
-use Prim.Native.Nat.{ℕ, suc, _+_, _-_, _%_, _≤_, _<_}
+use Prim.Native.Nat.{ℕ, _+_, _-_, _%_, _≤_, _<_}
 use mathlib.Core.Path.{_≡_, refl, sym, _∙_, ap}
 use mathlib.Core.Bool.{true, false}
-use mathlib.Core.List.{List, [], _∷_}
+use mathlib.Core.List.{List, _∷_}
 use native.Mathlib.Omega.{arith}
 use native.Mathlib.Nat.{add-zero, add-assoc}
 use native.Mathlib.Numerals.{add-one}
 use lib.ListN.{length, drop, getD, drop-of-length-le}
 use lib.Seq.{drop-cons}
-use Rattle.rules.specs.Tests.{_=?_, pick, both}
+use Rattle.rules.specs.Tests.{_=?_, pick, both, clash}
 use Rattle.rules.specs.Octets.{Octets}
 use Rattle.rules.specs.Message.{messageKind}
 use Rattle.rules.specs.Demand3.{document01-demand3}
@@ -163,11 +163,11 @@ module _ (s : List ℕ) (sum : ℕ) (h : 1 < length s) where
 -- ---- the verdict from the end
 not-early-whole : (n : ℕ) → endOf (Message n) ≡ Early → ⊥
 unfolding endOf
-not-early-whole n e = let z : _≡_ {A = ℕ} 0 1 = cc in omega arith
+not-early-whole n e = clash cc
 
 not-early-spoilt : (f : Fault) → endOf (Refused f) ≡ Early → ⊥
 unfolding endOf
-not-early-spoilt f e = let z : _≡_ {A = ℕ} 0 1 = cc in omega arith
+not-early-spoilt f e = clash cc
 
 module _ (o : List ℕ) where
   unfoldable pub endVerdict : End → Verdict

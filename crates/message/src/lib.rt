@@ -3,7 +3,7 @@
 use rules::Class;
 use rules::Fault;
 ghost use mathlib.Core.Path.{_≡_};
-ghost use Prim.Native.Nat.{ℕ, _+_, _≤_};
+ghost use Prim.Native.Nat.{_+_, _≤_};
 ghost use Rattle.rules.specs.Table.{document01};
 ghost use Rattle.rules.specs.declared.Stage.the-variants as stage;
 ghost use lib.ListN.{length, getD};

@@ -3,12 +3,12 @@
 -- they allow; the only hypothesis is that octets are below 256, which every slice of octets meets.
 -- Assumes nothing.
 use Prim.Native.Nat.{ℕ, _≤_}
-use mathlib.Core.Path.{_≡_, refl, sym, _∙_, ap}
+use mathlib.Core.Path.{_≡_, ap}
 use mathlib.Core.Logic.{_⊎_, inl, inr}
-use mathlib.Core.List.{List}
 use native.Mathlib.Omega.{arith}
 use lib.ListN.{length}
 use lib.Dec.{T}
+use Rattle.rules.specs.Tests.{clash}
 use Rattle.rules.specs.Octets.{Octets}
 use Rattle.rules.specs.Contents.{within}
 use Rattle.rules.specs.InRange.{low, high}
@@ -24,7 +24,7 @@ use Rattle.reader.specs.declared.Packed.the-variants as packed
 use Rattle.reader.proofs.Readings.{reads}
 use Rattle.reader.proofs.read.Reads as read
 use Rattle.writer.specs.declared.Written.{Written}
-use Rattle.writer.specs.declared.Written.the-variants.{Message, Declined}
+use Rattle.writer.specs.declared.Written.the-variants.{Declined}
 use Rattle.writer.specs.Reasons.{Went, kind-is-none, no-entries, many-entries, bad-entry, too-long, too-tight, fits, answer-iff}
 use Rattle.writer.proofs.Writing.{refusal-keeps}
 use Rattle.writer.proofs.write.Reads as write
@@ -68,7 +68,7 @@ write-refuses κs a r s p f e = (go r (answer-iff _ _ _ r .0 (p .0)) e, refusal-
     go w (bad-entry i b g) q = (omega (arith, fault-of _ _ q), omega (arith, fault-of _ _ q))
     go w (too-long b m l) q = (omega (arith, fault-of _ _ q), omega (arith, fault-of _ _ q))
     go w (too-tight b m l g) q = (omega (arith, fault-of _ _ q), omega (arith, fault-of _ _ q))
-    go w (fits b m l g) q = let z : _≡_ {A = ℕ} 0 1 = cc in absurd (omega arith)
+    go w (fits b m l g) q = clash cc
 
 -- the desk: 1 to 8; it comes back as it was
 pub settle-refuses : (κs : _) (a : _) (r : _) (s : _) → settle.Post κs a r s → Octets (a .1 .0 .now) → (f : Fault) → r .answer ≡ settled.Refused f → From 1 8 (f .number) × (r .desk ≡ a .0)

@@ -7,19 +7,19 @@ use lib.ListN.{length, take, drop}
 use Rattle.rules.specs.Octets.{Octets}
 use Rattle.rules.specs.Table.{document01}
 use Rattle.rules.specs.Message as message
-use Rattle.rules.specs.Message.{octets, LegalMessage, Accepts}
+use Rattle.rules.specs.Message.{octets, LegalMessage}
 use Rattle.rules.specs.Unique.{document01-told}
 use Rattle.draft.specs.declared.Draft.{Draft}
 use Rattle.draft.specs.Draft.{messageOf, Equal}
 use Rattle.rules.specs.Laying.{laid}
-use Rattle.draft.specs.Packing.{textsOf, draftOf}
+use Rattle.draft.specs.Packing.{draftOf}
 use Rattle.reader.specs.declared.Packed.the-variants as packed
 use Rattle.reader.specs.declared.Reading.{Reading}
-use Rattle.reader.specs.Reads.{Reads, texts}
+use Rattle.reader.specs.Reads.{texts}
 use Rattle.reader.proofs.Readings.{reads}
 use Rattle.reader.proofs.read.Reads as read
 use Rattle.writer.specs.declared.Written.the-variants as written
-use Rattle.writer.proofs.Writing.{Laid, writer-lays, writes-back, reads-back}
+use Rattle.writer.proofs.Writing.{writer-lays, writes-back, reads-back}
 use Rattle.writer.proofs.write.Reads as write
 
 -- an area that holds texts from octet 0 on

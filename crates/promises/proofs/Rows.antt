@@ -2,7 +2,7 @@
 -- outcomes they allow.
 -- Assumes nothing.
 use Prim.Native.Nat.{ℕ}
-use mathlib.Core.Path.{_≡_, refl, sym, _∙_, ap}
+use mathlib.Core.Path.{_≡_, refl, _∙_, ap}
 use mathlib.Core.List.{List, [], _∷_}
 use mathlib.Core.Option.{Option, none, some}
 use lib.ListN.{length}
@@ -17,15 +17,12 @@ use Rattle.rules.specs.Judge.{roomFits, rangePossible, somePossible, possible, 
 use Rattle.listener.specs.declared.Answer.{Answer}
 use Rattle.listener.specs.declared.Answer.the-variants as answer
 use Rattle.listener.specs.declared.Heard.{Heard}
-use Rattle.listener.specs.declared.Listener.{Listener}
 use Rattle.listener.specs.Heard.{newListener, heardOf, answerOf, taken, stopped}
 use Rattle.listener.proofs.listen.Reads as listen
-use Rattle.message.specs.declared.Verdict.{Verdict}
 use Rattle.message.specs.declared.Verdict.the-variants.{Declined}
 use Rattle.message.specs.Verdict.{judged, verdictOf}
 use Rattle.message.specs.Walking.{parameterAt, matched, searchFrom, countedAt, partOf}
 use Rattle.message.proofs.counted.Reads as counted
-use Rattle.reader.specs.declared.Packed.{Packed}
 use Rattle.reader.specs.declared.Packed.the-variants as packed
 use Rattle.reader.specs.declared.Reading.{Reading}
 use Rattle.reader.specs.Read.{packFrom, packOf, readOf}
@@ -34,7 +31,6 @@ use Rattle.desk.specs.declared.Desk.{Desk}
 use Rattle.desk.specs.declared.Answer.the-variants as settled
 use Rattle.desk.specs.declared.Waiting.the-variants as waiting
 use Rattle.desk.specs.declared.Lamp.the-variants as lamp
-use Rattle.desk.specs.declared.Outcome.{Outcome}
 use Rattle.desk.specs.Settle.{newDesk, waitingAfter, lampAfter, noticed, countedIn, deskAfter, settledUnder, settleOf}
 use Rattle.desk.proofs.settle.Reads as settle
 

@@ -5,8 +5,8 @@ use mathlib.Core.Path.{_≡_, refl, sym, _∙_, ap, ap₂}
 use mathlib.Core.List.{List, [], _∷_, _++_, append-nil, append-assoc}
 use native.Mathlib.Numerals.{add-one}
 use native.Mathlib.Omega.{arith}
-use lib.ListN.{length, length-append, length-take, length-drop, length-set, length-replicate, take, drop, set, getD, replicate, take-append-drop}
-use lib.Seq.{take-at, drop-at, drop-drop, take-suc-set, drop-set-lt, take-all, length-take-le}
+use lib.ListN.{length, length-append, length-drop, length-set, length-replicate, take, drop, set, getD, replicate, take-append-drop}
+use lib.Seq.{drop-drop, take-suc-set, drop-set-lt, length-take-le}
 use Rattle.rules.specs.Tests.{_≤?_, pick-yes, pick-not, le-of, of-le}
 use Rattle.rules.specs.Table.{Rules}
 use Rattle.rules.specs.declared.Fault.{Fault}

@@ -1,16 +1,17 @@
 -- What a read says of the octets and leaves in the area, over the written rules alone (document 01, Drafts and Numbers).
 -- Assumes nothing.
 use Prim.Native.Nat.{ℕ, _≤_, _<_}
-use mathlib.Core.Path.{_≡_, refl, sym, _∙_, ap, ap₂, subst}
+use mathlib.Core.Path.{_≡_, refl, sym, _∙_, ap}
 use mathlib.Core.Logic.{_↔_, Iff·trans}
-use mathlib.Core.List.{List, [], _∷_, _++_}
+use mathlib.Core.List.{List}
 use native.Mathlib.Omega.{arith}
 use lib.ListN.{length, take, drop}
-use Rattle.rules.specs.Tests.{_≤?_, pick-case, pick-yes, pick-not, picked-by, le-of, of-le, not-le}
+use Rattle.rules.specs.Tests.{_≤?_, pick-case, pick-yes, pick-not, picked-by, le-of, of-le, not-le, clash}
 use Rattle.rules.specs.Octets.{Octets}
 use Rattle.rules.specs.Table.{document01}
 use Rattle.rules.specs.ContentLaw.{document01-sound}
-use Rattle.rules.specs.Message.{Message, Parameter, body, octets, LegalMessage, Accepts}
+use Rattle.rules.specs.Sizes.{some-parameter}
+use Rattle.rules.specs.Message.{Message, Parameter, octets, LegalMessage, Accepts}
 use Rattle.rules.specs.Machine.{answer}
 use Rattle.rules.specs.Judge.{machine}
 use Rattle.rules.specs.Unique.{document01-told}
@@ -56,13 +57,8 @@ abbrev pub texts : Message → List ℕ
 texts m = textsOf document01 (m .parameters)
 
 -- 253 octets are always enough for them
-no-body : (ps : List Parameter) → 3 ≤ length (body ps) → 1 ≤ length ps
-unfolding body
-no-body [] h = absurd (omega arith)
-no-body (p ∷ ps) h = omega arith
-
 pub area-enough : (m : Message) → LegalMessage document01 m → length (texts m) ≤ 253
-area-enough m l = omega (arith, texts-in-body document01 (m .parameters), no-body (m .parameters) (l .long), l .short)
+area-enough m l = omega (arith, texts-in-body document01 (m .parameters), some-parameter (m .parameters) (l .long), l .short)
 
 -- r is the answer to the octets o with an area that held `old` and then holds `area`
 pub record Reads (o old : List ℕ) (r : Reading) (area : List ℕ) : Type 0 where
@@ -83,12 +79,6 @@ pub record Reads (o old : List ℕ) (r : Reading) (area : List ℕ) : Type 0 whe
   -- a refusal leaves the area, and the draft is empty; its number is one of 1 to 9
   pub refused : (f : Fault) → r .answer ≡ Refused f → (area ≡ old) × (r .draft ≡ emptyOf 0) × (1 ≤ f .number) × (f .number ≤ 9)
 
-no-both : (n : ℕ) (f : Fault) → Texts n ≡ Refused f → ⊥
-no-both n f e = let z : _≡_ {A = ℕ} 0 1 = cc in omega arith
-
-no-verdict : (n : ℕ) (f : Fault) → Accepted n ≡ Declined f → ⊥
-no-verdict n f e = let z : _≡_ {A = ℕ} 0 1 = cc in omega arith
-
 number-is : (f g : Fault) → Refused f ≡ Refused g → f .number ≡ g .number
 number-is f g e = let z : f ≡ g = cc in ap (λ (x : Fault). x .number) z
 
@@ -100,8 +90,8 @@ module _ (o : List ℕ) (room : ℕ) where
   declined-iff : (v : Verdict) (f : Fault) → f .number ≤ 8 → (packFrom document01 o room v ≡ Refused f) ↔ (v ≡ Declined f)
   unfolding packFrom
   declined-iff (Accepted n) f l = (
-    λ e. picked-by _ _ _ _ _ e (λ _ d. absurd (no-both _ _ d)) (λ _ d. absurd (omega (arith, number-is _ _ d))),
-    λ e. absurd (no-verdict _ _ e),
+    λ e. picked-by _ _ _ _ _ e (λ _ d. clash cc) (λ _ d. absurd (omega (arith, number-is _ _ d))),
+    λ e. clash cc,
   )
   declined-iff (Declined g) f l = (λ e. let z : g ≡ f = cc in ap Declined z, λ e. let z : g ≡ f = cc in ap Refused z)
 
@@ -109,19 +99,19 @@ module _ (o : List ℕ) (room : ℕ) where
       (packFrom document01 o room v ≡ Refused (record { number = 9; place = p })) ↔ ((n : ℕ) × (v ≡ Accepted n) × (p ≡ textSize document01 o) × (room < p))
   unfolding packFrom
   short-iff (Accepted n) p l = (
-    λ e. picked-by _ _ _ _ _ e (λ _ d. absurd (no-both _ _ d))
+    λ e. picked-by _ _ _ _ _ e (λ _ d. clash cc)
         (λ t d. let z = place-is _ _ d in (n, refl, sym z, omega (arith, not-le _ _ t))),
     λ e. pick-not _ _ _ (λ t. omega (arith, le-of _ _ t, e .2, e .3)) ∙ ap (λ (k : ℕ). Refused (record { number = 9; place = k })) (sym (e .2)),
   )
   short-iff (Declined g) p l = (
     λ e. let z : g ≡ (record { number = 9; place = p }) = cc in absurd (omega (arith, l g refl, ap (λ (x : Fault). x .number) z)),
-    λ e. absurd (no-verdict _ _ (sym (e .1))),
+    λ e. clash (cc (e .1)),
   )
 
   texts-verdict : (v : Verdict) (n : ℕ) → packFrom document01 o room v ≡ Texts n → (k : ℕ) × (v ≡ Accepted k)
   unfolding packFrom
   texts-verdict (Accepted k) n e = (k, refl)
-  texts-verdict (Declined g) n e = absurd (no-both _ _ (sym e))
+  texts-verdict (Declined g) n e = clash cc
 
   whole-is : (v : Verdict) (n : ℕ) → v ≡ Accepted n → textSize document01 o ≤ room → packFrom document01 o room v ≡ Texts (textSize document01 o)
   unfolding packFrom
@@ -189,7 +179,7 @@ module _ (o old : List ℕ) (q : Octets o) where
 
   numbers-of : (w : Verdict) (f : Fault) → ((g : Fault) → w ≡ Declined g → (1 ≤ g .number) × (g .number ≤ 8)) → packFrom document01 o room w ≡ Refused f → (1 ≤ f .number) × (f .number ≤ 9)
   unfolding packFrom
-  numbers-of (Accepted n) f b e = picked-by _ _ _ _ _ e (λ _ d. absurd (no-both _ _ d)) (λ _ d. (omega (arith, number-is _ _ d), omega (arith, number-is _ _ d)))
+  numbers-of (Accepted n) f b e = picked-by _ _ _ _ _ e (λ _ d. clash cc) (λ _ d. (omega (arith, number-is _ _ d), omega (arith, number-is _ _ d)))
   numbers-of (Declined g) f b e = let x = b g refl in (omega (arith, number-is _ _ e, x .0), omega (arith, number-is _ _ e, x .1))
 
   refused-number : (f : Fault) → packOf document01 o room ≡ Refused f → (1 ≤ f .number) × (f .number ≤ 9)

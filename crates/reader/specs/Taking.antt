@@ -6,7 +6,7 @@ use mathlib.Core.List.{List, [], _∷_, _++_}
 use native.Mathlib.Omega.{arith}
 use lib.ListN.{length, length-append, length-drop, take, drop}
 use lib.Seq.{length-take-le, take-length, take-take}
-use Rattle.rules.specs.Tests.{pick, picked-by, eq-of}
+use Rattle.rules.specs.Tests.{pick, picked-by, eq-of, clash}
 use Rattle.rules.specs.Table.{Rules}
 use Rattle.rules.specs.declared.Form.{Form}
 use Rattle.rules.specs.declared.Form.the-variants.{DateValue, CodeValue, StateValue, TextValue, CarriedValue}
@@ -27,9 +27,7 @@ use Rattle.draft.specs.declared.Value.{Value}
 use Rattle.draft.specs.declared.Entry.{Entry}
 use Rattle.draft.specs.Meaning.{kindOf, meant, textIn}
 use Rattle.draft.specs.Packing.{packed, meaningIn, entryOf, textOf, entriesOf, textsOf}
-use Rattle.reader.specs.declared.Taken.{Taken}
 use Rattle.reader.specs.declared.Taken.the-variants as taken
-use Rattle.reader.specs.declared.Text.{Text}
 use Rattle.reader.specs.declared.Text.the-variants as text
 use Rattle.reader.specs.Read.{standing, hasText, entryFrom, entryAt, textFrom, textAt, textSize}
 
@@ -99,14 +97,14 @@ module _ (R : Rules) (o : List ℕ) (turns at : ℕ) (h : 0 < turns) where
                 ∙ ap (λ (v : List ℕ). v ++ textsOf R (parametersFrom (turns - 1) o (s + l))) (sym (text-stands R o k s l (omega arith)))
                 ∙ (λ i. take (sym b i) (drop (sym a i) o) ++ textsOf R (parametersFrom (turns - 1) o (sym d i)));
           }
-      go found.Nothing q e = let z : _≡_ {A = ℕ} 0 1 = cc in absurd (omega arith)
+      go found.Nothing q e = clash cc
 
   pub text-none : text.End ≡ textAt R o at → parametersFrom turns o at ≡ []
   unfolding textAt textFrom
   text-none e = go (parameterAt o at) refl e
     where
       go : (f : Found) → f ≡ parameterAt o at → text.End ≡ textFrom R o f → parametersFrom turns o at ≡ []
-      go (found.Parameter k s l) q e = let z : _≡_ {A = ℕ} 0 1 = cc in absurd (omega arith)
+      go (found.Parameter k s l) q e = clash cc
       go found.Nothing q e = none-here turns o at h q
 
   module _ (used : ℕ) where
@@ -131,14 +129,14 @@ module _ (R : Rules) (o : List ℕ) (turns at : ℕ) (h : 0 < turns) where
               behind = omega (arith, text-short R o k s l (omega arith), found-behind o at k s l q);
               lies = omega arith;
             }
-        go found.Nothing q t = let z : _≡_ {A = ℕ} 0 1 = cc in absurd (omega arith)
+        go found.Nothing q t = clash cc
 
     pub entry-none : taken.End ≡ entryAt R o at used → parametersFrom turns o at ≡ []
     unfolding entryAt entryFrom
     entry-none e = go (parameterAt o at) refl e
       where
         go : (f : Found) → f ≡ parameterAt o at → taken.End ≡ entryFrom R o used f → parametersFrom turns o at ≡ []
-        go (found.Parameter k s l) q e = let z : _≡_ {A = ℕ} 0 1 = cc in absurd (omega arith)
+        go (found.Parameter k s l) q e = clash cc
         go found.Nothing q e = none-here turns o at h q
 
 -- ---- texts are no longer than what they are read from
@@ -170,9 +168,9 @@ unfolding verdictOf judged
 accepted-long R o n e = go (answer (machine R) o) e
   where
     go : (w : State) → Accepted n ≡ judged o w → length o ≡ n
-    go (Waiting s q) e = let z : _≡_ {A = ℕ} 0 1 = cc in absurd (omega arith)
-    go (Message m) e = picked-by (length o ≡ n) _ _ _ _ (sym e) (λ t d. let k : m ≡ n = cc in eq-of _ _ t ∙ k) (λ _ d. let z : _≡_ {A = ℕ} 0 1 = cc in absurd (omega arith))
-    go (Refused f) e = let z : _≡_ {A = ℕ} 0 1 = cc in absurd (omega arith)
+    go (Waiting s q) e = clash cc
+    go (Message m) e = picked-by (length o ≡ n) _ _ _ _ (sym e) (λ t d. let k : m ≡ n = cc in eq-of _ _ t ∙ k) (λ _ d. clash cc)
+    go (Refused f) e = clash cc
 
 -- ---- what was found, from its parts
 module _ (R : Rules) (o : List ℕ) (at : ℕ) (f : Found) (e : f ≡ parameterAt o at) where

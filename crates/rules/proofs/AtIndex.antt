@@ -1,12 +1,12 @@
 -- Contents at an index, as the code judges them: columns of which only the first is narrow, digits pair by pair; past the last octet any may stand.
 -- Assumes nothing.
-use mathlib.Core.Path.{_≡_, refl, sym, _∙_}
-use mathlib.Core.Bool.{Bool, true, false}
+use mathlib.Core.Path.{_≡_, sym, _∙_}
+use mathlib.Core.Bool.{Bool, true}
 use Prim.Native.Nat.{ℕ, zero, suc, _+_, _*_, _≤_, _<_}
 use mathlib.Core.List.{List, [], _∷_}
 use lib.ListN.{length, drop}
 use native.Mathlib.Omega.{arith}
-use Rattle.rules.specs.Tests.{_≤?_, _=?_, pick}
+use Rattle.rules.specs.Tests.{_=?_, pick, clash}
 use Rattle.rules.specs.Contents.{Range, within, inSet}
 use Rattle.rules.specs.Table.{anyOctet}
 use Rattle.rules.specs.ContentJudge.{columnAt, tensFit, onesFit, pairAt}
@@ -43,11 +43,11 @@ pair-late (r ∷ rs) (suc (suc i)) m x h l = pair-late rs i m x (omega arith) l
 -- digit j of pair k is judged by its range
 pub pair-within : (rs : List Range) (k i j m x : ℕ) (r : Range) (rest : List Range) → drop k rs ≡ r ∷ rest → 2 * k + j ≡ i → j < 2 → pick (j =? 0) (tensFit r x) (onesFit r m x) ≡ pairAt rs i m x
 unfolding pairAt pick _=?_
-pair-within [] zero i j m x r rest e l h = let z : _≡_ {A = ℕ} 0 1 = cc in absurd (omega arith)
+pair-within [] zero i j m x r rest e l h = clash cc
 pair-within (q ∷ rs) zero zero j m x r rest e l h = let d : q ≡ r = cc in let z : j ≡ 0 = omega arith in rw (d, z)
 pair-within (q ∷ rs) zero (suc zero) j m x r rest e l h = let d : q ≡ r = cc in let z : j ≡ 1 = omega arith in rw (d, z)
 pair-within (q ∷ rs) zero (suc (suc i)) j m x r rest e l h = absurd (omega arith)
-pair-within [] (suc k) i j m x r rest e l h = let z : _≡_ {A = ℕ} 0 1 = cc in absurd (omega arith)
+pair-within [] (suc k) i j m x r rest e l h = clash cc
 pair-within (q ∷ rs) (suc k) zero j m x r rest e l h = absurd (omega arith)
 pair-within (q ∷ rs) (suc k) (suc zero) j m x r rest e l h = absurd (omega arith)
 pair-within (q ∷ rs) (suc k) (suc (suc i)) j m x r rest e l h = pair-within rs k i j m x r rest e (omega arith) h

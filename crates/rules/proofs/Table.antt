@@ -1,7 +1,7 @@
 -- The table that a rule makes, entry after entry; and what stands at each of its places. A constant of the code is such a table where antt computes
 -- the two alike: the rule is tested over the whole table at once and carried to each entry.
 -- Assumes nothing.
-use mathlib.Core.Path.{_≡_, refl, _∙_, ap, sym}
+use mathlib.Core.Path.{_≡_, _∙_, ap, sym}
 use mathlib.Core.List.{List, [], _∷_}
 use Prim.Native.Nat.{ℕ, zero, suc, _+_, _<_}
 use native.Mathlib.Nat.{add-zero, zero-add, add-suc, suc-add, le-of-suc-le-suc, not-suc-le-zero}

@@ -1,6 +1,6 @@
 -- The grammar of call messages and notices under any sound rules; that its messages are those accepted, and its roles those of their octets.
 -- Assumes nothing.
-use Prim.Native.Nat.{ℕ, zero, suc, _+_, _-_, _≤_, _<_}
+use Prim.Native.Nat.{ℕ, suc, _+_, _-_, _<_}
 use mathlib.Core.Path.{_≡_, refl, sym, _∙_, ap, subst}
 use mathlib.Core.Logic.{_⊎_, inl, inr, _↔_}
 use mathlib.Core.List.{List, [], _∷_, _++_}
@@ -8,21 +8,20 @@ use native.Mathlib.Nat.{zero-add}
 use native.Mathlib.Omega.{arith}
 use lib.ListN.{length, length-append}
 use lib.Dec.{T}
-use Rattle.rules.specs.Tests.{_=?_, _or_, either, eq-of, of-eq, pick-case}
+use Rattle.rules.specs.Tests.{_=?_, either, eq-of}
 use Rattle.rules.specs.Octets.{Octets, total, checksum, octets-append}
 use Rattle.rules.specs.Table.{Rules, typeFault, shapeOf}
 use Rattle.rules.specs.ContentLaw.{fit-octets, SoundRules}
 use Rattle.rules.specs.Message as message
-use Rattle.rules.specs.Message.{Parameter, AllLegal, messageKind, body, front, octets, LegalMessage, Accepts}
+use Rattle.rules.specs.Message.{Parameter, AllLegal, messageKind, body, front, octets, Accepts}
 use Rattle.rules.specs.Roles.{Role, always, times, bodyRoles, roles}
-use Rattle.rules.specs.Machine.{Machine}
 use Rattle.rules.specs.Judge.{contents, after, fault, machine}
 use Rattle.rules.specs.Remaining.{Whole, Body, forward, backward, nil-final, final-nil, lives, some-message, at-contents}
 use Rattle.rules.specs.Listening.{close, close-total, Grammar, Accepted}
 use Rattle.rules.specs.Numbers.{trace}
 use Rattle.rules.specs.declared.Class.{Class}
 use Rattle.rules.specs.declared.Stage.{Stage}
-use Rattle.rules.specs.declared.Stage.the-variants.{Kind, Header, Content}
+use Rattle.rules.specs.declared.Stage.the-variants.{Kind, Header}
 
 pub closed : (m : message.Message) → close 0 (front m) ≡ octets m
 unfolding octets

@@ -2,14 +2,14 @@
 -- when some more of them complete contents that fit. A message needs no more of a class than what stands here as `pub`.
 -- Assumes nothing.
 use Prim.Native.Nat.{ℕ, zero, suc, _+_, _*_, _-_, _/_, _≤_, _<_}
-use mathlib.Core.Path.{_≡_, refl, sym, _∙_, ap}
-use mathlib.Core.Bool.{Bool, true, false}
+use mathlib.Core.Path.{_≡_, refl, _∙_, ap}
+use mathlib.Core.Bool.{Bool, false}
 use mathlib.Core.Logic.{_⊎_, inl, inr, _↔_}
 use mathlib.Core.List.{List, [], _∷_, _++_}
 use native.Mathlib.Omega.{arith}
 use lib.ListN.{length, length-append}
 use lib.Dec.{T}
-use Rattle.rules.specs.Tests.{_≤?_, _=?_, _and_, _or_, pick, every, both, join, either, left, right, le-of, of-le, eq-of, of-eq, every-head, every-tail}
+use Rattle.rules.specs.Tests.{_≤?_, _=?_, _and_, _or_, pick, every, both, join, either, left, le-of, of-le, every-head, every-tail}
 use Rattle.rules.specs.Octets.{Octets}
 use Rattle.rules.specs.Contents.{Range, within, inSet, Shape, pairs, columns, text, only, lengths, lengthFits, digit, pairFits, pairsFit, columnsFit, allIn, contentsFit}
 use Rattle.rules.specs.Table.{Rules, rowIn, rowOf, classOf, shapeOf, shape01, shapeNarrow, document01, narrow}
@@ -144,6 +144,11 @@ pub record SoundRules (R : Rules) : Type 0 where
   pub one : T (lengthFits (shapeOf R 0x02) 1)
   pub two : T (lengthFits (shapeOf R 0x02) 2)
   pub three : T (lengthFits (shapeOf R 0x02) 3)
+
+-- and so each type
+pub sound-shape : (R : Rules) → SoundRules R → (t : ℕ) → T (sound (shapeOf R t))
+unfolding shapeOf
+sound-shape R S t = S .classes (classOf R t)
 
 classes01 : (c : Class) → T (sound (shape01 c))
 unfolding sound soundRule anyIn every shape01 _and_ _≤?_ lengths

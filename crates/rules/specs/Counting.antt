@@ -5,9 +5,8 @@ use mathlib.Core.Path.{_≡_, refl, sym, _∙_, ap, subst}
 use mathlib.Core.Logic.{_⊎_, inl, inr, _↔_}
 use mathlib.Core.List.{List, [], _∷_, _++_}
 use mathlib.Core.Option.{Option, none, some}
-use native.Mathlib.Omega.{arith}
 use lib.Dec.{T}
-use Rattle.rules.specs.Tests.{_=?_, pick, pick-yes, pick-not, picked, eq-of, of-eq, decide}
+use Rattle.rules.specs.Tests.{_=?_, pick, pick-yes, pick-not, picked, eq-of, of-eq, decide, clash}
 use Rattle.rules.specs.Contents.{contentsFit}
 use Rattle.rules.specs.Table.{Rules, listed, rivalOf, shapeOf}
 use Rattle.rules.specs.Message.{Parameter, Message, LegalParameter, AllLegal, LegalMessage}
@@ -44,16 +43,13 @@ pub record Counts (R : Rules) (m : Message) (t : ℕ) (v : List ℕ) : Type 0 wh
   pub listed : T (listed R t)
   pub first : First t (rivalOf R t) (m .parameters) v
 
-no-some : (v : List ℕ) → none ≡ some v → ⊥
-no-some v e = let z : _≡_ {A = ℕ} 0 1 = cc in omega arith
-
 first-is : (t u : ℕ) (ps : List Parameter) (v : List ℕ) → firstOf t u ps ≡ some v → First t u ps v
 unfolding firstOf
-first-is t u [] v e = absurd (no-some v e)
+first-is t u [] v e = clash cc
 first-is t u (p ∷ ps) v e = go (first-is t u ps v) (picked _ _ _ _ e)
   where
     later : (p .kind ≡ t → ⊥) → (firstOf t u ps ≡ some v → First t u ps v) → (T (p .kind =? u) × (none ≡ some v)) ⊎ ((T (p .kind =? u) → ⊥) × (firstOf t u ps ≡ some v)) → First t u (p ∷ ps) v
-    later n f (inl q) = absurd (no-some v (q .1))
+    later n f (inl q) = clash (cc (q .1))
     later n f (inr q) =
         let d = f (q .1) in
         record { before = p ∷ d .before; p = d .p; after = d .after; is = ap (λ (l : List Parameter). p ∷ l) (d .is); kind = d .kind; contents = d .contents; none = (n, λ k. q .0 (of-eq _ _ k), d .none) }
@@ -80,7 +76,7 @@ module _ (R : Rules) (m : Message) where
     where
       to : (T (listed R t) × (firstOf t (rivalOf R t) (m .parameters) ≡ some v)) ⊎ ((T (listed R t) → ⊥) × (none ≡ some v)) → Counts R m t v
       to (inl q) = record { listed = q .0; first = first-is t _ (m .parameters) v (q .1) }
-      to (inr q) = absurd (no-some v (q .1))
+      to (inr q) = clash (cc (q .1))
 
   -- where one of a pair counts, the other does not
   pub one-of-pair : (t : ℕ) (v : List ℕ) → (t ≡ rivalOf R t → ⊥) → rivalOf R (rivalOf R t) ≡ t → counted R m t ≡ some v → counted R m (rivalOf R t) ≡ none

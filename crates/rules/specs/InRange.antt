@@ -1,17 +1,17 @@
 -- In range is closed under step, and a new state is in range: so no octets lead out of it (document 01, Listening, its last sentences).
 -- Assumes nothing.
 use Prim.Native.Nat.{ℕ, zero, suc, _+_, _-_, _≤_, _<_}
-use mathlib.Core.Path.{_≡_, refl, sym, _∙_}
+use mathlib.Core.Path.{_≡_, refl}
 use mathlib.Core.List.{List, [], _∷_}
 use mathlib.Core.Logic.{_⊎_, inl, inr}
 use native.Mathlib.Omega.{arith}
 use lib.Dec.{T}
-use Rattle.rules.specs.Tests.{_≤?_, _=?_, _and_, _or_, both, join, either, left, right, le-of, of-le, eq-of, of-eq, pick-case}
+use Rattle.rules.specs.Tests.{_=?_, both, join, either, left, right, le-of, of-le, eq-of, of-eq, pick-case}
 use Rattle.rules.specs.Octets.{Octets}
 use Rattle.rules.specs.Contents.{within}
 use Rattle.rules.specs.Table.{Rules, listed, typeFault, document01}
-use Rattle.rules.specs.Machine.{Machine, moved, declined, step, run, start}
-use Rattle.rules.specs.Judge.{roomFits, final, fits, contents, after, fault, machine, given, inRange}
+use Rattle.rules.specs.Machine.{moved, step, run, start}
+use Rattle.rules.specs.Judge.{final, fits, contents, after, fault, machine, given, inRange}
 use Rattle.rules.specs.Remaining.{fits-room, at-contents}
 use Rattle.rules.specs.Listening.{place, Step, seals, spoils, takes, declines, stepped}
 use Rattle.rules.specs.declared.Class.{Class}

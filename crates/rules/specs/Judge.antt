@@ -1,7 +1,7 @@
 -- The machine of call messages and notices (document 01, The message and Numbers), under any rules; and when a state is in range.
 -- Assumes nothing.
 use Prim.Native.Nat.{ℕ, suc, _+_, _-_}
-use mathlib.Core.Bool.{Bool, true, false}
+use mathlib.Core.Bool.{Bool, false}
 use mathlib.Core.List.{List, [], _∷_}
 use Rattle.rules.specs.Tests.{_≤?_, _=?_, _and_, _or_, pick}
 use Rattle.rules.specs.Contents.{Range, within, Shape, lengths, lengthFits}

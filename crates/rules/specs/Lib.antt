@@ -17,6 +17,7 @@ pub mod Numbers
 pub mod Calls
 pub mod Demand3
 pub mod Unique
+pub mod Sizes
 pub mod InRange
 pub mod Rows
 pub mod Returns

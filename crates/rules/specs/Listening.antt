@@ -2,7 +2,7 @@
 -- The argument: every octet that the machine takes comes off what may still come, so what may still come after the octets heard is what
 -- completes them; it is never empty while the machine waits, and empty once it refuses.
 -- Assumes nothing.
-use Prim.Native.Nat.{ℕ, zero, suc, _+_, _-_, _%_, _≤_, _<_}
+use Prim.Native.Nat.{ℕ, suc, _+_, _-_, _%_, _≤_, _<_}
 use mathlib.Core.Path.{_≡_, refl, sym, _∙_, ap, subst}
 use mathlib.Core.Logic.{_≢_, _↔_}
 use mathlib.Core.List.{List, [], _∷_, _++_, append-assoc, append-nil}
@@ -11,7 +11,7 @@ use native.Mathlib.Omega.{arith}
 use lib.ListN.{length, length-append, length-take, take, drop, getD, take-append-drop}
 use lib.Seq.{take-append-seam, take-at, take-suc, length-take-le}
 use lib.Dec.{T}
-use Rattle.rules.specs.Tests.{_=?_, eq-of, of-eq, pick-case}
+use Rattle.rules.specs.Tests.{_=?_, eq-of, of-eq, pick-case, clash}
 use Rattle.rules.specs.Octets.{Octets, total, checksum, checksum-octet, octets-right, octets-take}
 use Rattle.rules.specs.Machine.{Machine, moved, declined, step, run, start, answer, Waits}
 use Rattle.rules.specs.declared.Stage.{Stage}
@@ -36,8 +36,8 @@ close-total σ (x ∷ b) = ap (λ (l : List ℕ). x ∷ l) (close-total ((σ + x
 
 close-some : (σ : ℕ) (b : List ℕ) → close σ b ≢ []
 unfolding close
-close-some σ [] q = let z : _≡_ {A = ℕ} 0 1 = cc in omega arith
-close-some σ (x ∷ b) q = let z : _≡_ {A = ℕ} 0 1 = cc in omega arith
+close-some σ [] q = clash cc
+close-some σ (x ∷ b) q = clash cc
 
 close-octets : (σ : ℕ) (b : List ℕ) → Octets b → Octets (close σ b)
 unfolding close

@@ -7,7 +7,6 @@ use Rattle.rules.specs.Tests.{_=?_, pick}
 use Rattle.rules.specs.Octets.{checksum}
 use Rattle.rules.specs.declared.Stage.{Stage}
 use Rattle.rules.specs.declared.Spot.{Spot}
-use Rattle.rules.specs.declared.Fault.{Fault}
 use Rattle.rules.specs.declared.State.{State}
 use Rattle.rules.specs.declared.State.the-variants.{Waiting, Message, Refused}
 

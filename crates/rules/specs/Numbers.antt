@@ -2,17 +2,17 @@
 -- The argument: the roles of a message's octets are the machine's faults along them, and the machine stands, after the octets before, at the stage
 -- whose role comes next.
 -- Assumes nothing.
-use Prim.Native.Nat.{ℕ, zero, suc, _≤_, _<_}
+use Prim.Native.Nat.{ℕ, zero, suc, _<_}
 use mathlib.Core.Path.{_≡_, refl, sym, _∙_, ap, subst}
 use mathlib.Core.List.{List, [], _∷_, _++_, append-nil}
 use native.Mathlib.Omega.{arith}
 use lib.ListN.{length, take, getD}
 use lib.Seq.{take-suc, length-take-le}
 use lib.Dec.{T}
-use Rattle.rules.specs.Tests.{pick, pick-yes, pick-not}
+use Rattle.rules.specs.Tests.{pick, pick-yes, pick-not, clash}
 use Rattle.rules.specs.Octets.{Octets, octets-take}
 use Rattle.rules.specs.Roles.{Role, always, roleAt}
-use Rattle.rules.specs.Machine.{Machine, moved, declined, step, run, start, answer, Waits}
+use Rattle.rules.specs.Machine.{Machine, moved, step, run, start, answer, Waits}
 use Rattle.rules.specs.Listening.{close, Grammar, Step, seals, spoils, takes, declines, stepped, Reach, here, there, reach-run, Cut, cut, taken, long, run-append, waits-before}
 use Rattle.rules.specs.declared.Stage.{Stage}
 use Rattle.rules.specs.declared.Spot.{Spot}
@@ -95,7 +95,7 @@ module _ (M : Machine) (G : Grammar M) where
     where
       go : (b : List ℕ) → G .Body s b → trace M s b ++ always 6 ∷ [] ≡ ρ → roleAt ρ 0 ≡ role M s
       go [] d z = sym (ap (λ (l : List Role). roleAt l 0) z) ∙ sym (at-final M s (G .nil-final s d))
-      go (x ∷ b) d z = sym (ap (λ (l : List Role). roleAt l 0) z) ∙ sym (at-other M s (λ f. let y : _≡_ {A = ℕ} 0 1 = cc (G .final-nil s (x ∷ b) f d) in omega arith))
+      go (x ∷ b) d z = sym (ap (λ (l : List Role). roleAt l 0) z) ∙ sym (at-other M s (λ f. clash (cc (G .final-nil s (x ∷ b) f d))))
 
   module _ (h : List ℕ) (o : Octets h) (f : Fault) (z : answer M h ≡ Refused f) where
     c : Cut M (start M) h (Refused f)

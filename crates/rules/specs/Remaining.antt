@@ -9,7 +9,7 @@ use mathlib.Core.List.{List, [], _∷_, _++_}
 use native.Mathlib.Omega.{arith}
 use lib.ListN.{length, length-append}
 use lib.Dec.{T}
-use Rattle.rules.specs.Tests.{_≤?_, _=?_, _and_, _or_, pick, both, join, either, left, right, le-of, of-le, eq-of, of-eq, pick-case}
+use Rattle.rules.specs.Tests.{_≤?_, _=?_, _and_, _or_, both, join, either, left, right, le-of, of-le, eq-of, of-eq, pick-case, clash}
 use Rattle.rules.specs.Contents.{Range, within, inSet, lengths, lengthFits, contentsFit}
 use Rattle.rules.specs.Table.{Rules, classOf, shapeOf}
 use Rattle.rules.specs.ContentJudge.{okAt, remember, fitsFrom}
@@ -134,7 +134,7 @@ module _ (R : Rules) (S : SoundRules R) where
   -- ---- a parameter stands first
   first-go : (t r : ℕ) (b : List ℕ) (ps : List Parameter) → AllLegal R ps → body ps ≡ t ∷ b → suc (length b) ≡ r → First R (classOf R t) r b
   unfolding body shapeOf
-  first-go t r b [] l e n = let z : _≡_ {A = ℕ} 0 1 = cc in absurd (omega arith)
+  first-go t r b [] l e n = clash cc
   first-go t r b (q ∷ ps) l e n =
       let k : q .kind ≡ t = cc in
       record {
@@ -274,10 +274,10 @@ module _ (R : Rules) (S : SoundRules R) where
   -- ---- nothing more comes before the checksum, and only there
   pub nil-final : (s : Stage) → Body R s [] → T (final s)
   unfolding final
-  nil-final Kind d = let z : _≡_ {A = ℕ} 0 1 = cc in absurd (omega arith)
-  nil-final Size d = let z : _≡_ {A = ℕ} 0 1 = cc in absurd (omega arith)
+  nil-final Kind d = clash cc
+  nil-final Size d = clash cc
   nil-final (Header r) d = of-eq _ _ (sym (d .long))
-  nil-final (Length c r) d = let z : _≡_ {A = ℕ} 0 1 = cc (d .is) in absurd (omega arith)
+  nil-final (Length c r) d = clash (cc (d .is))
   nil-final (Content c n i m r) d = absurd (omega (arith, d .0, d .1 .long, length-append (d .1 .v) (d .1 .rest), ap length (d .1 .is)))
 
   pub empty : (b : List ℕ) → length b ≡ 0 → b ≡ []

@@ -2,14 +2,14 @@
 -- Assumes nothing.
 use mathlib.Core.Path.{_≡_, refl, sym, _∙_, ap, ap₂}
 use mathlib.Core.Bool.{Bool, true, false}
-use Prim.Native.Nat.{ℕ, zero, suc, _+_, _-_, _%_, _≤_, _<_}
+use Prim.Native.Nat.{ℕ, _+_, _%_, _≤_, _<_}
 use native.Mathlib.Omega.{arith}
 use lib.Dec.{T}
-use Rattle.rules.specs.Tests.{_=?_, pick, pick-case}
+use Rattle.rules.specs.Tests.{pick-case}
 use Rattle.rules.specs.Octets.{checksum}
 use Rattle.rules.specs.Table.{Rules, listed, classOf, shapeOf, typeFault, shape01, document01}
-use Rattle.rules.specs.Machine.{Machine, moved, declined, step}
-use Rattle.rules.specs.Judge.{final, fits, contents, after, fault, machine, roomFits, possible}
+use Rattle.rules.specs.Machine.{moved, declined, step}
+use Rattle.rules.specs.Judge.{final, fits, after, fault, machine, roomFits, possible}
 use Rattle.rules.specs.Remaining.{fits-room}
 use Rattle.rules.specs.Returns.{pick-t, pick-f, yes-eq, no-eq}
 use Rattle.rules.specs.declared.Class.{Class}

@@ -5,6 +5,7 @@ use mathlib.Core.Path.{_≡_, subst, refl}
 use mathlib.Core.Bool.{Bool, true, false}
 use mathlib.Core.Logic.{_⊎_, inl, inr}
 use mathlib.Core.List.{List, [], _∷_}
+use native.Mathlib.Omega.{arith}
 use lib.Dec.{T, leb, eqb, leb→le, le→leb, eqb→eq, eqb-refl, not-T, nleb→lt}
 
 infix 40 _≤?_ _=?_
@@ -35,6 +36,10 @@ pick false x y = y
 unfoldable pub every : {A : Type 0} → (A → Bool) → List A → Bool
 every f [] = true
 every f (x ∷ l) = f x and every f l
+
+-- what was said equal has two constructors: anything follows
+pub clash : {A : Type 0} → _≡_ {A = ℕ} 0 1 → A
+clash e = absurd (omega arith)
 
 pub both : (a b : Bool) → T (a and b) → T a × T b
 unfolding _and_

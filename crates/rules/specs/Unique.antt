@@ -1,8 +1,8 @@
 -- What holds of all messages: their octets tell them apart, no accepted octets begin other accepted octets, and all octets sum to 0 modulo 256.
 -- Assumes nothing.
-use Prim.Native.Nat.{ℕ, _+_, _%_, _≤_}
-use mathlib.Core.Path.{_≡_, refl, sym, _∙_, ap, subst}
-use mathlib.Core.List.{List, [], _∷_, _++_, append-nil}
+use Prim.Native.Nat.{ℕ, _%_, _≤_}
+use mathlib.Core.Path.{_≡_, refl, sym, _∙_, ap}
+use mathlib.Core.List.{List, [], _∷_, _++_}
 use native.Mathlib.Omega.{arith}
 use lib.ListN.{length, length-append}
 use lib.Seq.{take-length}
@@ -10,13 +10,13 @@ use Rattle.rules.specs.Octets.{Octets, total, checksum, checksum-closes,
 use Rattle.rules.specs.Table.{Rules, document01, narrow}
 use Rattle.rules.specs.ContentLaw.{SoundRules, document01-sound, narrow-sound}
 use Rattle.rules.specs.Message as message
-use Rattle.rules.specs.Message.{Parameter, body, front, octets, LegalMessage, Accepts}
+use Rattle.rules.specs.Message.{Parameter, body, front, octets, Accepts}
 use Rattle.rules.specs.Machine.{run, start, answer}
 use Rattle.rules.specs.Judge.{machine}
 use Rattle.rules.specs.Remaining.{empty}
 use Rattle.rules.specs.Listening.{accepted-octets, message-stays, run-append}
 use Rattle.rules.specs.Calls.{grammar, accepts-iff}
-use Rattle.rules.specs.Demand3.{Demand3, demand3, accepted-size}
+use Rattle.rules.specs.Demand3.{demand3, accepted-size}
 use Rattle.rules.specs.declared.State.{State}
 use Rattle.rules.specs.declared.State.the-variants.{Message}
 

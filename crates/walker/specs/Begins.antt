@@ -5,7 +5,7 @@ use mathlib.Core.Path.{_≡_, refl, sym, _∙_, ap}
 use mathlib.Core.List.{List, [], _∷_, _++_}
 use native.Mathlib.Omega.{arith}
 use lib.ListN.{length, length-append, take, drop}
-use Rattle.rules.specs.Tests.{picked-by, eq-of}
+use Rattle.rules.specs.Tests.{picked-by, eq-of, clash}
 use Rattle.rules.specs.Message as message
 use Rattle.rules.specs.Message.{body}
 use Rattle.message.specs.Searching.{Stand, at-end, found-is, contents-are, on}
@@ -77,7 +77,7 @@ begins-apart first ps at behind b d h =
     omega (arith, apart (b .before) (b .p) (b .behind) (d .before) (d .p) (d .behind) (sym (b .is) ∙ d .is) (omega arith))
 
 not-given : (k s n next : ℕ) → NoMore ≡ Parameter k s n next → ⊥
-not-given k s n next e = let z : _≡_ {A = ℕ} 0 1 = cc in omega arith
+not-given k s n next e = clash cc
 
 place-far : (first : ℕ) (ps : List message.Parameter) (k : ℕ) → first ≤ placeOf first ps k
 unfolding placeOf

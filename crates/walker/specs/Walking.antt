@@ -5,7 +5,7 @@ use mathlib.Core.Path.{_≡_, refl, _∙_, ap}
 use mathlib.Core.List.{List}
 use native.Mathlib.Omega.{arith}
 use lib.ListN.{length}
-use Rattle.rules.specs.Tests.{_=?_, pick, pick-yes, pick-not, pick-case, of-eq, eq-of}
+use Rattle.rules.specs.Tests.{_=?_, pick, pick-yes, pick-not, pick-case, of-eq, eq-of, clash}
 use Rattle.rules.specs.declared.Fault.{Fault}
 use Rattle.message.specs.declared.Found.{Found}
 use Rattle.message.specs.declared.Found.the-variants as found
@@ -48,11 +48,11 @@ module _ (o : List ℕ) where
 
   plain-given : (k start n next : ℕ) → Plain (Parameter k start n next)
   unfolding told
-  plain-given k start n next = (refl, λ f e. let z : _≡_ {A = ℕ} 0 1 = cc in omega arith)
+  plain-given k start n next = (refl, λ f e. clash cc)
 
   plain-none : Plain NoMore
   unfolding told
-  plain-none = (refl, λ f e. let z : _≡_ {A = ℕ} 0 1 = cc in omega arith)
+  plain-none = (refl, λ f e. clash cc)
 
   met-plain : (at place : ℕ) (f : Found) (go : ℕ → Step) → ((b : ℕ) → Plain (go b)) → Plain (met at place f go)
   unfolding met

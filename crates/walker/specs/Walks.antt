@@ -7,6 +7,7 @@ use mathlib.Core.Logic.{_↔_}
 use mathlib.Core.List.{List, [], _∷_, _++_}
 use native.Mathlib.Omega.{arith}
 use lib.ListN.{length, length-append, take, drop}
+use Rattle.rules.specs.Tests.{clash}
 use Rattle.rules.specs.Octets.{Octets, total, checksum}
 use Rattle.rules.specs.Table.{document01}
 use Rattle.rules.specs.Unique.{document01-told}
@@ -19,7 +20,7 @@ use Rattle.message.specs.declared.Verdict.the-variants.{Accepted, Declined}
 use Rattle.message.specs.Verdict.{verdictOf}
 use Rattle.message.specs.Judges.{Judges, judges}
 use Rattle.message.specs.Searching.{Stand}
-use Rattle.message.specs.Parameters.{few}
+use Rattle.rules.specs.Sizes.{few}
 use Rattle.walker.specs.declared.Step.{Step}
 use Rattle.walker.specs.declared.Step.the-variants.{Parameter, NoMore, Refused}
 use Rattle.walker.specs.Steps.{walkFrom, stepUnder, stepOf, told, after, placeAt}
@@ -78,7 +79,7 @@ module _ (o : List ℕ) (at : ℕ) where
 
   refused-of : (v : Verdict) (f : Fault) → (stepUnder v o at ≡ Refused f) ↔ (v ≡ Declined f)
   unfolding stepUnder
-  refused-of (Accepted n) f = (λ e. absurd (walk-plain o 85 at 2 .1 f e), λ e. let z : _≡_ {A = ℕ} 0 1 = cc in absurd (omega arith))
+  refused-of (Accepted n) f = (λ e. absurd (walk-plain o 85 at 2 .1 f e), λ e. clash cc)
   refused-of (Declined g) f = (λ e. cc, λ e. cc)
 
   numbers-of : (v : Verdict) → ((f : Fault) → v ≡ Declined f → f .number ≤ 8) → told (stepUnder v o at) .number ≤ 8

@@ -5,8 +5,8 @@ use mathlib.Core.Path.{_≡_, refl, sym, _∙_, ap, ap₂, subst}
 use mathlib.Core.List.{List, [], _∷_, _++_, append-nil, append-assoc}
 use native.Mathlib.Numerals.{add-one}
 use native.Mathlib.Omega.{arith}
-use lib.ListN.{length, take, drop, set, getD, drop-of-length-le, length-drop, length-append, length-take, length-set, take-append-drop}
-use lib.Seq.{take-length, take-suc, take-all, take-take, take-at, drop-at, drop-drop, drop-cons, length-take-le, set-append-seam}
+use lib.ListN.{length, take, drop, set, getD, length-drop, length-append, length-take, length-set, take-append-drop}
+use lib.Seq.{take-suc, take-all, take-take, take-at, drop-drop, drop-cons, length-take-le, set-append-seam}
 use lib.Dec.{T}
 use borrow.Rule.Slice.PartMut.{putMid, midOf, same-len-mid}
 use Rattle.rules.specs.Tests.{every, both, le-of}

@@ -7,6 +7,7 @@ use lib.ListN.{length, take, drop}
 use lib.Seq.{take-at, drop-at}
 use Rattle.rules.specs.Table.{document01}
 use Rattle.rules.specs.ContentLaw.{document01-sound}
+use Rattle.rules.specs.Sizes.{octets-length}
 use Rattle.rules.specs.Message as message
 use Rattle.rules.specs.Message.{octets, LegalMessage, Accepts}
 use Rattle.rules.specs.declared.Fault.{Fault}
@@ -14,7 +15,7 @@ use Rattle.draft.specs.Draft.{messageOf, Equal}
 use Rattle.rules.specs.Laying.{laid}
 use Rattle.draft.specs.Packing.{textsOf, draftOf, equal-stand}
 use Rattle.writer.specs.Writing.{writeOf, outputAfter}
-use Rattle.writer.specs.Legal.{octets-length, written, message-legal}
+use Rattle.writer.specs.Legal.{written, message-legal}
 use Rattle.writer.specs.Reasons.{Answers, answers}
 use Rattle.writer.specs.RoundTrips.{document01-round-trips}
 use Rattle.writer.specs.declared.Written.{Written}

@@ -1,29 +1,31 @@
 -- Which entries make a legal parameter, which drafts are written, and that what is written is accepted.
 -- Assumes nothing.
-use Prim.Native.Nat.{ℕ, suc, _+_, _*_, _≤_, _<_}
+use Prim.Native.Nat.{ℕ, suc, _+_, _≤_, _<_}
 use mathlib.Core.Path.{_≡_, refl, _∙_, ap}
 use mathlib.Core.Logic.{_⊎_, inl, inr, _↔_}
 use mathlib.Core.List.{List, [], _∷_}
 use native.Mathlib.Nat.{min-le-left}
 use native.Mathlib.Omega.{arith}
-use lib.ListN.{length, length-append, length-take}
+use lib.ListN.{length, length-take}
 use lib.Dec.{T}
-use Rattle.rules.specs.Tests.{_≤?_, _=?_, _and_, pick, every, decide, both, join, le-of, of-le, eq-of, of-eq, pick-yes, pick-not, picked-by}
-use Rattle.rules.specs.Table.{Rules, classOf, shapeOf}
-use Rattle.rules.specs.ContentLaw.{SoundRules, sound, fit-length, some-length}
-use Rattle.rules.specs.Octets.{total, checksum}
-use Rattle.rules.specs.Message as message
-use Rattle.rules.specs.Message.{Parameter, body, front, octets, messageKind, LegalParameter, AllLegal, LegalMessage}
+use Rattle.rules.specs.Tests.{_≤?_, _=?_, _and_, pick, every, decide, both, join, le-of, of-le, eq-of, of-eq, pick-yes, pick-not, picked-by, clash}
+use Rattle.rules.specs.Table.{Rules}
+use Rattle.rules.specs.ContentLaw.{SoundRules}
+use Rattle.rules.specs.Sizes.{three-each}
+use Rattle.rules.specs.Message.{body, messageKind, LegalParameter, AllLegal, LegalMessage}
 use Rattle.draft.specs.Meaning.{formNumber, kindOf, formIs, same-form}
 use Rattle.draft.specs.Draft.{meaningOf, inside, allInside, parameterOf, parametersOf, used, messageOf}
 use Rattle.draft.specs.declared.Entry.{Entry}
 use Rattle.draft.specs.declared.Draft.{Draft}
-use Rattle.writer.specs.Writing.{declined, legalEntry, legalBefore, sized, measuredOf, writeOf}
+use Rattle.writer.specs.Writing.{legalEntry, legalBefore, sized, measuredOf, writeOf}
 use Rattle.writer.specs.declared.Written.the-variants.{Message}
 
--- a test that fails
+-- tests that fail
 pub at-most : (a b : ℕ) → (T (suc b ≤? a) → ⊥) → a ≤ b
 at-most a b f = let g : b < a → ⊥ = λ l. f (of-le _ _ l) in omega arith
+
+pub at-least-one : (n : ℕ) → (T (n =? 0) → ⊥) → 1 ≤ n
+at-least-one n f = let g : n ≡ 0 → ⊥ = λ q. f (of-eq _ _ q) in omega arith
 
 -- ---- an entry makes a legal parameter: its kind of value is its type's, its text lies inside the area, and the parameter it stands for is legal
 pub record Makes (R : Rules) (texts : List ℕ) (e : Entry) : Type 0 where
@@ -87,28 +89,9 @@ parameters-length texts [] = refl
 parameters-length texts (e ∷ es) = ap suc (parameters-length texts es)
 
 -- ---- sizes
--- L + 3 octets in all
-pub octets-length : (m : message.Message) → length (octets m) ≡ length (body (m .parameters)) + 3
-unfolding octets
-octets-length m = omega (arith, length-append (front m) (checksum (total (front m)) ∷ []))
-
 -- L of a draft
 abbrev pub lengthOf : Draft → List ℕ → ℕ
 lengthOf d texts = length (body (parametersOf texts (used d)))
-
-module _ (R : Rules) (S : SoundRules R) where
-  shaped : (t : ℕ) → T (sound (shapeOf R t))
-  unfolding shapeOf
-  shaped t = S .classes (classOf R t)
-
-  -- each legal parameter has at least three octets
-  pub three : (ps : List Parameter) → AllLegal R ps → 3 * length ps ≤ length (body ps)
-  unfolding body
-  three [] l = omega arith
-  three (p ∷ ps) l = omega (arith, three ps (l .1), length-append (p .contents) (body ps), one p (l .0))
-    where
-      one : (p : Parameter) → LegalParameter R p → 1 ≤ length (p .contents)
-      one p l = some-length (shapeOf R (p .kind)) (shaped (p .kind)) _ (fit-length (shapeOf R (p .kind)) _ (l .fits))
 
 -- ---- what the writer asks
 pub record Writable (R : Rules) (d : Draft) (texts : List ℕ) (room : ℕ) : Type 0 where
@@ -131,32 +114,26 @@ module _ (R : Rules) (d : Draft) (texts : List ℕ) (room : ℕ) where
       ∙ pick-not _ _ _ (λ t. omega (arith, le-of _ _ t, w .short))
       ∙ pick-not _ _ _ (λ t. omega (arith, le-of _ _ t, w .fits))
 
-  not-written : (k p n : ℕ) → declined k p ≡ Message n → ⊥
-  not-written k p n e = let z : _≡_ {A = ℕ} 0 1 = cc in omega arith
-
   -- and else it does not
   pub written : (n : ℕ) → writeOf R d texts room ≡ Message n → Writable R d texts room × (n ≡ lengthOf d texts + 3)
   unfolding writeOf measuredOf sized
   written n e =
       picked-by _ _ _ _ _ e
       (λ k e.
-      picked-by _ _ _ _ _ e (λ _ e. absurd (not-written _ _ _ e))
+      picked-by _ _ _ _ _ e (λ _ e. clash cc)
       (λ s e.
-      picked-by _ _ _ _ _ e (λ _ e. absurd (not-written _ _ _ e))
+      picked-by _ _ _ _ _ e (λ _ e. clash cc)
       (λ f e.
-      picked-by _ _ _ _ _ e (λ _ e. absurd (not-written _ _ _ e))
+      picked-by _ _ _ _ _ e (λ _ e. clash cc)
       (λ l e.
-      picked-by _ _ _ _ _ e (λ _ e. absurd (not-written _ _ _ e))
+      picked-by _ _ _ _ _ e (λ _ e. clash cc)
       (λ h e.
-      picked-by _ _ _ _ _ e (λ _ e. absurd (not-written _ _ _ e))
+      picked-by _ _ _ _ _ e (λ _ e. clash cc)
       (λ r e. (
-        record { kind = k; some = some-of s; few = at-most _ _ f; legal = at-most _ _ l; short = at-most _ _ h; fits = at-most _ _ r },
+        record { kind = k; some = at-least-one _ s; few = at-most _ _ f; legal = at-most _ _ l; short = at-most _ _ h; fits = at-most _ _ r },
         cc,
       )))))))
-      (λ _ e. absurd (not-written _ _ _ e))
-    where
-      some-of : (T (d .count =? 0) → ⊥) → 1 ≤ d .count
-      some-of f = let g : d .count ≡ 0 → ⊥ = λ q. f (of-eq _ _ q) in omega arith
+      (λ _ e. clash cc)
 
   module _ (w : Writable R d texts room) where
     -- every entry counted is there
@@ -173,6 +150,6 @@ module _ (R : Rules) (d : Draft) (texts : List ℕ) (room : ℕ) where
         record {
           kind = w .kind;
           parameters = p;
-          long = omega (arith, three R S (parametersOf texts (used d)) p, parameters-length texts (used d), used-all, w .some);
+          long = omega (arith, three-each R S (parametersOf texts (used d)) p, parameters-length texts (used d), used-all, w .some);
           short = omega (arith, w .short);
         }

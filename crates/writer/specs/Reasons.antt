@@ -15,7 +15,7 @@ use Rattle.draft.specs.Draft.{noEntry, meaningOf, used}
 use Rattle.draft.specs.declared.Entry.{Entry}
 use Rattle.draft.specs.declared.Draft.{Draft}
 use Rattle.writer.specs.Writing.{Answer, answerOf, declined, legalEntry, legalBefore, sized, measuredOf, writeOf}
-use Rattle.writer.specs.Legal.{at-most, Makes, makes-iff, lengthOf}
+use Rattle.writer.specs.Legal.{at-most, at-least-one, Makes, makes-iff, lengthOf}
 use Rattle.writer.specs.declared.Written.{Written}
 use Rattle.writer.specs.declared.Written.the-variants.{Message}
 
@@ -107,9 +107,6 @@ module _ (d : Draft) (texts : List ℕ) where
 
 -- ---- the answer has its reason, and what has a reason is the answer
 module _ (d : Draft) (texts : List ℕ) (room : ℕ) where
-  some-of : (T (d .count =? 0) → ⊥) → 1 ≤ d .count
-  some-of f = let g : d .count ≡ 0 → ⊥ = λ q. f (of-eq _ _ q) in omega arith
-
   reason : Went d texts room (writeOf document01 d texts room)
   unfolding writeOf measuredOf sized
   reason =
@@ -119,7 +116,7 @@ module _ (d : Draft) (texts : List ℕ) (room : ℕ) where
       (λ s.
       pick-case (Went d texts room) _ _ _ (λ m. many-entries k (le-of _ _ m))
       (λ f.
-      let a : Asked d = record { kind = k; some = some-of s; few = at-most _ _ f } in
+      let a : Asked d = record { kind = k; some = at-least-one _ s; few = at-most _ _ f } in
       pick-case (Went d texts room) _ _ _ (λ l. bad-entry _ a (first-is d texts (le-of _ _ l)))
       (λ l.
       let m = all-make d texts (at-most _ _ l) in

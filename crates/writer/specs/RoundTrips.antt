@@ -8,11 +8,12 @@ use mathlib.Core.List.{List, [], _∷_, _++_}
 use native.Mathlib.Omega.{arith}
 use lib.ListN.{length}
 use lib.Dec.{T}
-use Rattle.rules.specs.Tests.{_≤?_, _=?_, pick, every, both, join}
+use Rattle.rules.specs.Tests.{_≤?_, _=?_, pick, every, both, join, clash}
 use Rattle.rules.specs.Returns.{same-truth}
 use Rattle.rules.specs.Contents.{contentsFit}
 use Rattle.rules.specs.Table.{Rules, shapeOf, document01, narrow}
 use Rattle.rules.specs.ContentLaw.{SoundRules, document01-sound, narrow-sound}
+use Rattle.rules.specs.Sizes.{octets-length, some-parameter, few}
 use Rattle.rules.specs.Message as message
 use Rattle.rules.specs.Message.{Parameter, body, octets, messageKind, LegalParameter, AllLegal, LegalMessage}
 use Rattle.draft.specs.Meaning.{Meaning, formIs, kindOf, spelled, meant, form-meant, DrawnRules, drawn, document01-drawn, narrow-drawn, meant-spelled, Drawn}
@@ -21,7 +22,7 @@ use Rattle.draft.specs.Packing.{meaningIn, entriesOf, textsOf, draftOf, allMean
 use Rattle.draft.specs.declared.Entry.{Entry}
 use Rattle.draft.specs.declared.Draft.{Draft}
 use Rattle.writer.specs.Writing.{declined, legalEntry, legalBefore, sized, measuredOf, writeOf}
-use Rattle.writer.specs.Legal.{Makes, makes-iff, all-before, all-made, all-inside, parameters-length, octets-length, lengthOf, three, Writable, writes, written, used-all}
+use Rattle.writer.specs.Legal.{Makes, makes-iff, all-before, all-made, all-inside, parameters-length, lengthOf, Writable, writes, written, used-all}
 use Rattle.writer.specs.declared.Written.the-variants.{Message}
 
 -- the trips under some rules
@@ -53,7 +54,7 @@ module _ (R : Rules) (S : SoundRules R) (D : DrawnRules R) where
   said-legal : (texts : List ℕ) (es : List Entry) (ps : List Parameter) → allSaid texts es ≡ allMeant R ps → T (allInside texts es) → AllLegal R ps → T (every (legalEntry R texts) es)
   unfolding allSaid saidOf allMeant allInside every
   said-legal texts [] ps s i l = tt
-  said-legal texts (e ∷ es) [] s i l = let z : _≡_ {A = ℕ} 0 1 = cc in absurd (omega arith)
+  said-legal texts (e ∷ es) [] s i l = clash cc
   said-legal texts (e ∷ es) (p ∷ ps) s i l =
       let h : saidOf texts e ≡ record { kind = p .kind; meaning = meaningIn R p } = cc in
       let b = both _ _ i in
@@ -71,11 +72,6 @@ module _ (R : Rules) (S : SoundRules R) (D : DrawnRules R) where
         let p = pack R area 0 rest (m .parameters) (omega arith) refl in
         subst (λ (es : List Entry). T (every (legalEntry R area) es)) (sym (used-are R m)) (said-legal area (entriesOf R 0 (m .parameters)) (m .parameters) (p .says) (p .lies) (l .parameters))
 
-    some-parameter : (ps : List Parameter) → 3 ≤ length (body ps) → 1 ≤ length ps
-    unfolding body
-    some-parameter [] h = absurd (omega arith)
-    some-parameter (p ∷ ps) h = omega arith
-
     draft-writable : (room : ℕ) → length (octets m) ≤ room → Writable R (draftOf R m) area room
     unfolding draftOf messageOf
     draft-writable room h =
@@ -84,7 +80,7 @@ module _ (R : Rules) (S : SoundRules R) (D : DrawnRules R) where
         record {
           kind = l .kind;
           some = some-parameter (m .parameters) (l .long);
-          few = omega (arith, three R S (m .parameters) (l .parameters), l .short);
+          few = few R S m l;
           legal = omega (arith, b);
           short = omega (arith, s, l .short);
           fits = omega (arith, s, octets-length m);
@@ -142,8 +138,8 @@ module _ (R : Rules) where
   same-before : (s t : List ℕ) (es fs : List Entry) → allSaid s es ≡ allSaid t fs → T (allInside s es) → T (allInside t fs) → legalBefore R s es ≡ legalBefore R t fs
   unfolding allSaid allInside every legalBefore
   same-before s t [] [] h i j = refl
-  same-before s t [] (f ∷ fs) h i j = let z : _≡_ {A = ℕ} 0 1 = cc in absurd (omega arith)
-  same-before s t (e ∷ es) [] h i j = let z : _≡_ {A = ℕ} 0 1 = cc in absurd (omega arith)
+  same-before s t [] (f ∷ fs) h i j = clash cc
+  same-before s t (e ∷ es) [] h i j = clash cc
   same-before s t (e ∷ es) (f ∷ fs) h i j =
       let a = both _ _ i in
       let b = both _ _ j in

@@ -1,6 +1,6 @@
 -- Rows of the writer, computed, as one claim: document 01's own messages written from their drafts, and both sides of the limits at which it refuses.
 -- Assumes nothing.
-use Prim.Native.Nat.{ℕ, _+_, _-_}
+use Prim.Native.Nat.{ℕ, _-_}
 use mathlib.Core.Path.{_≡_, refl}
 use mathlib.Core.List.{List, [], _∷_, _++_}
 use lib.ListN.{length, replicate}

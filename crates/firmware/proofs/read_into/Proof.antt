@@ -1,6 +1,6 @@
 -- `firmware::read_into` meets its contract: the record is written where the texts were laid down.
 -- Assumes nothing.
-use mathlib.Core.Path.{refl, sym, _∙_, ap}
+use mathlib.Core.Path.{sym, _∙_, ap}
 use Rattle.firmware.specs.Exports.{packedWord, recordFrom}
 use borrow.Author.Needs.{needs}
 use Rattle.firmware.proofs.read_into.Statement.{statement}

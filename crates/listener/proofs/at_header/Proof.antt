@@ -1,6 +1,6 @@
 -- `listener::at_header` meets its contract: the checksum where no room is left; else the type is taken or declined as the machine does.
 -- Assumes nothing.
-use mathlib.Core.Path.{refl, sym, _∙_}
+use mathlib.Core.Path.{sym, _∙_}
 use Rattle.rules.specs.Judge.{final}
 use Rattle.rules.specs.Steps.{type-taken, type-declined}
 use borrow.Author.Needs.{needs}

@@ -1,6 +1,6 @@
 -- `listener::at_size` meets its contract: the octet is taken or declined as the machine does.
 -- Assumes nothing.
-use mathlib.Core.Path.{refl, sym, _∙_}
+use mathlib.Core.Path.{refl}
 use Rattle.rules.specs.Judge.{final, fits, after, fault}
 use Rattle.rules.specs.Table.{document01}
 use Rattle.rules.specs.Returns.{yes-le, no-le}

@@ -4,7 +4,7 @@ use Prim.Native.Nat.{_-_, _≤_}
 use native.Mathlib.Omega.{arith}
 use lib.ListN.{take}
 use Rattle.listing.specs.Put.{Put}
-use Rattle.listing.specs.Listing.{rowsAt, written}
+use Rattle.listing.specs.Listing.{rowsAt, rowCount, written}
 use Rattle.rules.specs.Table.{document01}
 use Rattle.listing.proofs.Rows.{no-rows, row-room, row-more, all-rows}
 use borrow.Author.Needs.{needs}
@@ -12,10 +12,10 @@ use Rattle.listing.proofs.put_rows.Statement.{statement}
 use Rattle.listing.proofs.put_rows.Tie as tie
 
 abbrev Inv-loop : tie.InvT-loop
-Inv-loop octets out₀ at end₀ i₀ out end i = (i ≤ 14) × Put (written (rowsAt document01 octets (take i (document01 .rows)))) at out₀ end out
+Inv-loop octets out₀ at end₀ i₀ out end i = (i ≤ rowCount) × Put (written (rowsAt document01 octets (take i (document01 .rows)))) at out₀ end out
 
 abbrev μ-loop : tie.MeasureT-loop
-μ-loop octets out₀ at end₀ i₀ out end i = 14 - i
+μ-loop octets out₀ at end₀ i₀ out end i = rowCount - i
 
 loop-holds : tie.Need-loop-holds Inv-loop μ-loop
 loop-holds c = (omega arith, no-rows (c .before .before .args .octets .now) _ _)

@@ -1,6 +1,5 @@
 -- `message::inside` meets its contract. The loop's invariant: what the contents lead to is what they lead to from the octets read so far.
 -- The measure is what is left of the length. Assumes nothing.
-use mathlib.Core.Path.{sym, _∙_}
 use Prim.Native.Nat.{_≤_, _-_}
 use native.Mathlib.Omega.{arith}
 use Rattle.rules.specs.Returns.{via}

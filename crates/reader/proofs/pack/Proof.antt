@@ -1,9 +1,8 @@
 -- `reader::pack` meets its contract: the verdict, then 9, then the texts.
 -- Assumes nothing.
-use mathlib.Core.Path.{_≡_}
 use native.Mathlib.Omega.{arith}
 use Rattle.rules.specs.Table.{document01}
-use Rattle.reader.specs.Laying.{Packs, packs-declined, packs-short, packs-whole, size-small}
+use Rattle.reader.specs.Laying.{packs-declined, packs-short, packs-whole, size-small}
 use borrow.Author.Needs.{needs}
 use Rattle.reader.proofs.pack.Statement.{statement}
 use Rattle.reader.proofs.pack.Tie as tie

@@ -1,6 +1,5 @@
 -- `reader::read` meets its contract: what becomes of the octets, and the draft to it.
 -- Assumes nothing.
-use mathlib.Core.Path.{_∙_, sym, ap}
 use Rattle.rules.specs.Table.{document01}
 use Rattle.reader.specs.Laying.{reads-whole, reads-refused}
 use borrow.Author.Needs.{needs}

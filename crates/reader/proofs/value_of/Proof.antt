@@ -2,7 +2,7 @@
 -- Assumes nothing.
 use Rattle.draft.specs.Meaning.{meant}
 use Rattle.draft.specs.Packing.{packed}
-use mathlib.Core.Path.{refl, ap}
+use mathlib.Core.Path.{ap}
 use Rattle.draft.specs.declared.Value.the-variants.{Code}
 use borrow.Author.Needs.{needs}
 use Rattle.reader.proofs.value_of.Statement.{statement}

@@ -5,7 +5,6 @@ use Prim.Native.Nat.{ℕ}
 use Rattle.rules.specs.Tests.{_≤?_}
 use Rattle.rules.specs.Codes.{classCode}
 use Rattle.rules.specs.Returns.{is-le}
-use Rattle.rules.specs.declared.Class.{Class}
 use Rattle.rules.proofs.Rivals.{listed-are}
 use borrow.Author.Needs.{needs}
 use Rattle.rules.proofs.is_listed.Statement.{statement}

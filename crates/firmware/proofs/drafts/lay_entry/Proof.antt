@@ -1,7 +1,6 @@
 -- `firmware::lay_entry` meets its contract: the first eight octets are stored.
 -- Assumes nothing.
 use mathlib.Core.Path.{_∙_, ap}
-use mathlib.Core.List.{[], _∷_}
 use native.Mathlib.Omega.{arith}
 use lib.ListN.{length-set}
 use Rattle.rules.specs.Laying.{laid}

@@ -1,7 +1,6 @@
 -- `firmware::numbers_of` meets its contract: one kind of value after the other.
 -- Assumes nothing.
-use mathlib.Core.Path.{_∙_}
-use Rattle.firmware.specs.DraftRecord.{numbersOf, textNumbers}
+use Rattle.firmware.specs.DraftRecord.{numbersOf}
 use borrow.Author.Needs.{needs}
 use Rattle.firmware.proofs.drafts.numbers_of.Statement.{statement}
 use Rattle.firmware.proofs.drafts.numbers_of.Tie as tie
