@@ -7,7 +7,7 @@ use Rattle.rules.specs.Unique.{document01-told}
 use Rattle.rules.specs.Message.{Message, octets, LegalMessage}
 use Rattle.caption.specs.declared.Found.{Found}
 use Rattle.caption.specs.Caption.{textOf, captionOf}
-use Rattle.caption.specs.Finds as finds
+use Rattle.caption.proofs.Finds as finds
 use Rattle.caption.specs.Finds.{Captions, Finds}
 use Rattle.caption.proofs.find.Reads as find
 use Rattle.caption.proofs.caption.Reads as caption

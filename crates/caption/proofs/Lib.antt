@@ -1,3 +1,8 @@
 -- The root of the proofs.
 pub mod Settled
 pub mod Finding
+pub mod Cutting
+pub mod Inside
+pub mod Directory
+pub mod Callers
+pub mod Finds

@@ -1,6 +1,8 @@
 -- The caption of a message: a part of the message or of the directory (document 01, The caption).
 -- Assumes nothing.
-use Prim.Native.Nat.{ℕ, suc, _+_}
+use Prim.Native.Nat.{ℕ, suc, _+_, _-_, _≤_, _<_}
+use mathlib.Core.Path.{_≡_}
+use mathlib.Core.Bool.{true}
 use mathlib.Core.List.{List, [], _∷_}
 use lib.ListN.{length, take, drop}
 use Rattle.rules.specs.Tests.{pick}
@@ -12,6 +14,7 @@ use Rattle.message.specs.declared.Part.the-variants.{At, Nowhere}
 use Rattle.message.specs.Verdict.{verdictOf}
 use Rattle.message.specs.Walking.{countedAt}
 use Rattle.caption.specs.Lines.{indexOf, behind, names, linesOf}
+use Rattle.caption.specs.declared.Line.{Line}
 use Rattle.caption.specs.declared.Entry.{Entry}
 use Rattle.caption.specs.declared.Entry.the-variants.{Text, Missing}
 use Rattle.caption.specs.declared.Found.{Found}
@@ -93,3 +96,10 @@ textOf r o d = take (lengthOf r) (drop (startOf r) (sliceOf r o d))
 -- the octets of the part that is found
 unfoldable pub captionOf : Rules → List ℕ → List ℕ → List ℕ
 captionOf R o d = textOf (findOf R o d) o d
+
+-- ---- how the search goes on
+-- the line that begins at a place of the directory: what the search makes of it
+pub record Cuts (caller d : List ℕ) (at : ℕ) (l : Line) : Type 0 where
+  pub inside : at + l .size ≤ length d
+  pub caller-inside : l .named ≡ true → length caller < l .size
+  pub goes : entryFrom caller at (linesOf (drop at d)) ≡ pick (l .named) (Text (at + length caller + 1) (l .size - length caller - 1)) (entryFrom caller (at + l .size + 1) (linesOf (drop (at + l .size + 1) d)))

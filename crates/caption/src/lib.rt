@@ -9,8 +9,7 @@ ghost use lib.ListN.{length, take, drop};
 ghost use Rattle.rules.specs.Table.{document01};
 ghost use Rattle.message.specs.Walking.{countedAt};
 ghost use Rattle.caption.specs.Lines.{indexOf, names};
-ghost use Rattle.caption.specs.Cutting.{Cuts};
-ghost use Rattle.caption.specs.Caption.{entryOf, byEntry, byCaller, byName, findOf, captionOf};
+ghost use Rattle.caption.specs.Caption.{entryOf, Cuts, byEntry, byCaller, byName, findOf, captionOf};
 
 // Where the caption stands, or number and place of a refusal.
 pub enum Found {

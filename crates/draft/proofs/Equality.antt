@@ -5,8 +5,8 @@ use mathlib.Core.Bool.{Bool}
 use mathlib.Core.Logic.{_↔_}
 use lib.Dec.{T}
 use Rattle.draft.specs.Draft.{Equal, messageOf}
-use Rattle.draft.specs.Packing.{equal-stand}
-use Rattle.draft.specs.Same.{same-equal}
+use Rattle.draft.proofs.Packing.{equal-stand}
+use Rattle.draft.proofs.Alike.{same-equal}
 use Rattle.draft.proofs.same.Reads as same
 
 -- it answers true exactly where they are equal

@@ -2,3 +2,6 @@
 pub mod Comparing
 pub mod Settled
 pub mod Equality
+pub mod Alike
+pub mod Packing
+pub mod Meaning

@@ -14,8 +14,9 @@ use Rattle.listener.specs.Heard.{stopped, newListener}
 use Rattle.firmware.specs.Record.{recordOf}
 use Rattle.firmware.specs.Word.{wordNumber, wordTaken}
 use Rattle.firmware.specs.Exports.{listenAnswer, listenRecord}
-use Rattle.firmware.specs.RecordHears as records
-use Rattle.firmware.specs.RecordHears.{SameEnd, Again, again, RecordHears, RecordStands, record-hears, record-stands-on, reset-stands, Sound, Seventeen, sound-or-17, sound-number, sound-steps, sound-stays, stands-sound, reset-number}
+use Rattle.firmware.proofs.RecordHears as records
+use Rattle.firmware.specs.RecordHears.{SameEnd, Again, RecordHears, RecordStands, Sound, Seventeen}
+use Rattle.firmware.proofs.RecordHears.{again, record-hears, record-stands-on, reset-stands, sound-or-17, sound-number, sound-steps, sound-stays, stands-sound, reset-number}
 use Rattle.firmware.proofs.anthercup_reset.Reads as reset
 use Rattle.firmware.proofs.anthercup_listen.Reads as listen
 

@@ -6,3 +6,6 @@ pub mod Settled
 pub mod Hearing
 pub mod Readings
 pub mod Settlings
+pub mod RecordHears
+pub mod RecordReads
+pub mod DraftRecord

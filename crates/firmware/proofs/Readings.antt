@@ -3,7 +3,8 @@
 use mathlib.Core.Path.{_≡_}
 use lib.ListN.{length}
 use Rattle.rules.specs.Octets.{Octets}
-use Rattle.firmware.specs.RecordReads.{Unread, RecordReads, unread, record-reads}
+use Rattle.firmware.specs.RecordReads.{Unread, RecordReads}
+use Rattle.firmware.proofs.RecordReads.{unread, record-reads}
 use Rattle.firmware.proofs.anthercup_read.Reads as anthercup-read
 
 -- the record's size is judged first: another than 688 is 17, and nothing is touched

@@ -1,28 +1,14 @@
 -- The draft's record, 688 octets: the message type, the number of entries, six octets of 0; then 85 entries of eight octets: the type, the kind of value,
 -- and six octets of value. What is not used is 0 (document 01: a record that is only written is judged by its size alone).
 -- Assumes nothing.
-use Prim.Native.Nat.{ℕ, zero, suc, _+_, _*_, _/_, _%_, _≤_, _<_}
-use mathlib.Core.Path.{_≡_, refl, sym, _∙_, ap, ap₂}
-use mathlib.Core.List.{List, [], _∷_, _++_, append-assoc}
-use native.Mathlib.Numerals.{add-one}
-use native.Mathlib.Omega.{arith}
-use lib.ListN.{length, length-append, length-set, take, drop, set, getD, replicate, replicate-append-replicate}
-use lib.Seq.{take-append-add, drop-append-add, take-nil, drop-nil, set-split, take-suc-set, take-all}
-use lib.Dec.{T}
-use Rattle.rules.specs.Tests.{_=?_, pick, le-of}
-use Rattle.rules.specs.Table.{document01}
+use Prim.Native.Nat.{ℕ, _+_, _*_, _/_, _%_}
+use mathlib.Core.List.{List, [], _∷_, _++_}
+use lib.ListN.{replicate}
+use Rattle.rules.specs.Tests.{_=?_, pick}
 use Rattle.draft.specs.declared.Value.{Value}
 use Rattle.draft.specs.declared.Value.the-variants.{Date, Code, State, Text, Carried}
 use Rattle.draft.specs.declared.Entry.{Entry}
 use Rattle.draft.specs.declared.Draft.{Draft}
-use Rattle.draft.specs.Meaning.{formNumber, formIs}
-use Rattle.draft.specs.Draft.{noEntry, inside, meaningOf}
-use Rattle.draft.specs.Packing.{draftOf}
-use Rattle.message.specs.Parameters.{messageIn, parametersIn, parameters-few}
-use Rattle.rules.specs.Laying.{laidAt}
-use Rattle.reader.specs.Laying.{Filled, filled-first, filled-small, filled-more, filled-end, left}
-use Rattle.reader.specs.Read.{entryAt}
-use Rattle.reader.specs.declared.Taken.the-variants as taken
 use Rattle.firmware.specs.declared.drafts.Numbers.{Numbers}
 
 -- start and length of a text, low octets first
@@ -36,15 +22,6 @@ numbersOf (Date m y h n) = record { form = 1; a = m; b = y; c = h; d = n }
 numbersOf (State s r) = record { form = 2; a = s; b = 0; c = r % 256; d = r / 256 }
 numbersOf (Text s n) = textNumbers 3 s n
 numbersOf (Carried s n) = textNumbers 4 s n
-
--- the kinds are numbered as in a draft laid flat
-pub form-is : (texts : List ℕ) (v : Value) → numbersOf v .form ≡ formNumber (formIs (meaningOf texts v))
-unfolding numbersOf textNumbers formNumber formIs meaningOf
-form-is texts (Date m y h n) = refl
-form-is texts (Code x) = refl
-form-is texts (State s r) = refl
-form-is texts (Text s n) = refl
-form-is texts (Carried s n) = refl
 
 -- the octets of an entry
 abbrev pub cellsOf : ℕ → Numbers → List ℕ
@@ -61,128 +38,6 @@ entriesCells (e ∷ es) = entryCells e ++ entriesCells es
 unfoldable pub draftRecord : Draft → List ℕ
 draftRecord d = d .kind ∷ d .count ∷ replicate 6 0 ++ entriesCells (d .entries)
 
--- ---- entries in their places
-entry-length : (e : Entry) → length (entryCells e) ≡ 8
-unfolding entryCells
-entry-length e = refl
-
--- unused places are octets of 0
-none-cells : (n : ℕ) → entriesCells (replicate n noEntry) ≡ replicate (8 * n) 0
-unfolding entriesCells entryCells numbersOf
-none-cells zero = refl
-none-cells (suc n) =
-    let z : 8 * suc n ≡ 8 + 8 * n = omega arith in
-    ap (λ (l : List ℕ). replicate {A = ℕ} 8 0 ++ l) (none-cells n) ∙ replicate-append-replicate 8 (8 * n) 0 ∙ ap (λ (k : ℕ). replicate {A = ℕ} k 0) (sym z)
-
-cells-take : (i : ℕ) (es : List Entry) → take (8 * i) (entriesCells es) ≡ entriesCells (take i es)
-unfolding entriesCells
-cells-take zero es = refl
-cells-take (suc i) [] = take-nil (8 * suc i)
-cells-take (suc i) (e ∷ es) =
-    let z : 8 * suc i ≡ length (entryCells e) + 8 * i = omega (arith, entry-length e) in
-    ap (λ (k : ℕ). take k (entryCells e ++ entriesCells es)) z ∙ take-append-add (entryCells e) (entriesCells es) (8 * i) ∙ ap (λ (l : List ℕ). entryCells e ++ l) (cells-take i es)
-
-cells-drop : (i : ℕ) (es : List Entry) → drop (8 * i) (entriesCells es) ≡ entriesCells (drop i es)
-unfolding entriesCells
-cells-drop zero es = refl
-cells-drop (suc i) [] = drop-nil (8 * suc i)
-cells-drop (suc i) (e ∷ es) =
-    let z : 8 * suc i ≡ length (entryCells e) + 8 * i = omega (arith, entry-length e) in
-    ap (λ (k : ℕ). drop k (entryCells e ++ entriesCells es)) z ∙ drop-append-add (entryCells e) (entriesCells es) (8 * i) ∙ cells-drop i es
-
-cells-append : (es fs : List Entry) → entriesCells (es ++ fs) ≡ entriesCells es ++ entriesCells fs
-unfolding entriesCells
-cells-append [] fs = refl
-cells-append (e ∷ es) fs = ap (λ (l : List ℕ). entryCells e ++ l) (cells-append es fs) ∙ sym (append-assoc (entryCells e) (entriesCells es) (entriesCells fs))
-
-abbrev zeros : List ℕ
-zeros = replicate 8 0
-
--- an entry put at its place
-put-entry : (es : List Entry) (i : ℕ) (e : Entry) → i < length es → laidAt (entryCells e) (8 + 8 * i) (zeros ++ entriesCells es) ≡ zeros ++ entriesCells (set es i e)
-unfolding laidAt entriesCells
-put-entry es i e h =
-    let n : 8 + 8 * i + length (entryCells e) ≡ 8 + 8 * suc i = omega (arith, entry-length e) in
-    ap₂ (λ (a b : List ℕ). a ++ (entryCells e ++ b))
-    (take-append-add zeros (entriesCells es) (8 * i) ∙ ap (λ (l : List ℕ). zeros ++ l) (cells-take i es))
-    (ap (λ (k : ℕ). drop k (zeros ++ entriesCells es)) n ∙ drop-append-add zeros (entriesCells es) (8 * suc i) ∙ cells-drop (suc i) es)
-    ∙ append-assoc zeros (entriesCells (take i es)) (entryCells e ++ entriesCells (drop (suc i) es))
-    ∙ ap (λ (l : List ℕ). zeros ++ l) (sym (cells-append (take i es) (e ∷ drop (suc i) es)) ∙ ap entriesCells (sym (set-split es i e h)))
-
--- ---- the loop over the entries
-module _ (o : List ℕ) where
-  pub record Recorded (count at used : ℕ) (cells : List ℕ) : Type 0 where
-    pub entries : List Entry
-    pub filled : Filled document01 o count at used entries
-    pub cells-are : cells ≡ zeros ++ entriesCells entries
-
-  pub recorded-first : (cells : List ℕ) → cells ≡ replicate 688 0 → Recorded 0 2 0 cells
-  recorded-first cells e = record {
-    entries = replicate 85 noEntry;
-    filled = filled-first document01 o;
-    cells-are = e ∙ sym (replicate-append-replicate 8 680 0) ∙ ap (λ (l : List ℕ). zeros ++ l) (sym (none-cells 85));
-  }
-
-  cells-length : (es : List Entry) → length (entriesCells es) ≡ 8 * length es
-  unfolding entriesCells
-  cells-length [] = refl
-  cells-length (e ∷ es) = omega (arith, length-append (entryCells e) (entriesCells es), entry-length e, cells-length es)
-
-  module _ (count at used : ℕ) (cells : List ℕ) (w : Recorded count at used cells) where
-    pub recorded-long : length cells ≡ 688
-    recorded-long = omega (arith, ap length (w .cells-are), length-append zeros (entriesCells (w .entries)), cells-length (w .entries), w .filled .long)
-
-    module _ (h : count < 85) (e : Entry) (n place : ℕ) (t : taken.Next e n place ≡ entryAt document01 o at used) where
-      pub recorded-small : used + n ≤ length o
-      recorded-small = filled-small document01 o count at used (w .entries) (w .filled) h e n place t
-
-      pub recorded-more : (next : List ℕ) → next ≡ laidAt (entryCells e) (8 + 8 * count) cells → Recorded (count + 1) place (used + n) next
-      recorded-more next p = record {
-        entries = set (w .entries) count e;
-        filled = filled-more document01 o count at used (w .entries) (w .filled) h e n place t;
-        cells-are = p ∙ ap (laidAt (entryCells e) (8 + 8 * count)) (w .cells-are) ∙ put-entry (w .entries) count e (omega (arith, w .filled .long));
-      }
-
-    pub recorded-end : left o count at ≡ [] → (count ≡ draftOf document01 (messageIn o) .count) × (cells ≡ zeros ++ entriesCells (draftOf document01 (messageIn o) .entries))
-    recorded-end e =
-        let z = filled-end document01 o count at used (w .entries) (w .filled) (record { kind = getD o 0 0; count = count; entries = w .entries }) refl refl refl e in
-        (ap (λ (d : Draft). d .count) z, w .cells-are ∙ ap (λ (d : Draft). zeros ++ entriesCells (d .entries)) z)
-
--- the header over eight octets of 0
-pub headed : (d : Draft) (cells : List ℕ) (kind count : ℕ) → kind ≡ d .kind → count ≡ d .count → cells ≡ zeros ++ entriesCells (d .entries) → set (set cells 0 kind) 1 count ≡ draftRecord d
-unfolding draftRecord
-headed d cells kind count k n e = ap (λ (l : List ℕ). set (set l 0 kind) 1 count) e ∙ (λ i. k i ∷ n i ∷ 0 ∷ 0 ∷ 0 ∷ 0 ∷ 0 ∷ 0 ∷ entriesCells (d .entries))
-
-pub kind-of : (o : List ℕ) → getD o 0 0 ≡ draftOf document01 (messageIn o) .kind
-unfolding draftOf messageIn
-kind-of o = refl
-
-pub count-small : (o : List ℕ) → draftOf document01 (messageIn o) .count ≤ 85
-unfolding draftOf messageIn parametersIn
-count-small o = parameters-few 85 o 2
-
--- ---- octets cleared one after the other
-pub record Cleared (old : List ℕ) (i : ℕ) (cells : List ℕ) : Type 0 where
-  pub below : i ≤ length old
-  pub long : length cells ≡ length old
-  pub front : take i cells ≡ replicate i 0
-
-pub cleared-first : (old : List ℕ) → Cleared old 0 old
-cleared-first old = record { below = omega arith; long = refl; front = refl }
-
-module _ (old : List ℕ) (i : ℕ) (cells : List ℕ) (w : Cleared old i cells) where
-  pub cleared-more : i < length cells → Cleared old (i + 1) (set cells i 0)
-  cleared-more h = record {
-    below = omega (arith, w .long);
-    long = length-set cells i 0 ∙ w .long;
-    front =
-        ap (λ (k : ℕ). take k (set cells i 0)) (add-one i) ∙ take-suc-set cells i 0 h
-        ∙ ap (λ (l : List ℕ). l ++ 0 ∷ []) (w .front) ∙ replicate-append-replicate i 1 0;
-  }
-
-  pub cleared-end : length cells ≤ i → cells ≡ replicate (length old) 0
-  cleared-end h = sym (take-all i cells h) ∙ w .front ∙ (let z : i ≡ length old = omega (arith, w .below, w .long) in ap (λ (k : ℕ). replicate {A = ℕ} k 0) z)
-
 -- ---- what the header's readers read back
 unfoldable pub valueOf : Numbers → Value
 valueOf f =
@@ -190,15 +45,3 @@ valueOf f =
     (pick (f .form =? 1) (Date (f .a) (f .b) (f .c) (f .d))
     (pick (f .form =? 2) (State (f .a) (f .c + 256 * f .d))
     (pick (f .form =? 3) (Text (f .a + 256 * f .b) (f .c + 256 * f .d)) (Carried (f .a + 256 * f .b) (f .c + 256 * f .d)))))
-
-two-octets : (n : ℕ) → n < 65536 → n % 256 + 256 * (n / 256 % 256) ≡ n
-two-octets n h = omega arith
-
--- is the value, where its text lies in an area of less than 65,536 octets
-pub value-back : (texts : List ℕ) (v : Value) → length texts < 65536 → T (inside texts v) → valueOf (numbersOf v) ≡ v
-unfolding valueOf numbersOf textNumbers inside pick _=?_
-value-back texts (Date m y h n) l t = refl
-value-back texts (Code x) l t = refl
-value-back texts (State s r) l t = ap (State s) (omega arith)
-value-back texts (Text s n) l t = let z = le-of _ _ t in ap₂ Text (two-octets s (omega arith)) (two-octets n (omega arith))
-value-back texts (Carried s n) l t = let z = le-of _ _ t in ap₂ Carried (two-octets s (omega arith)) (two-octets n (omega arith))

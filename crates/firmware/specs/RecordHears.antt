@@ -1,35 +1,22 @@
 -- What demand 3 says of a call on a listener's record, read off the answer's word and over the written rules alone.
 -- Assumes nothing.
-use Prim.Native.Nat.{ℕ, suc, _+_, _≤_, _<_}
-use mathlib.Core.Path.{_≡_, refl, sym, _∙_, ap, subst}
-use mathlib.Core.Bool.{true}
-use mathlib.Core.Logic.{_⊎_, inl, inr, _↔_, Iff·trans}
-use mathlib.Core.List.{List, [], _++_}
-use native.Mathlib.Omega.{arith}
+use Prim.Native.Nat.{ℕ, suc, _+_, _≤_}
+use mathlib.Core.Path.{_≡_}
+use mathlib.Core.Logic.{_↔_}
+use mathlib.Core.List.{List, _++_}
 use lib.ListN.{length, take}
 use lib.Dec.{T}
-use Rattle.rules.specs.Tests.{_=?_, pick-yes, pick-not, of-eq, decide, clash}
-use Rattle.rules.specs.Octets.{Octets, octets-append}
 use Rattle.rules.specs.Table.{document01}
 use Rattle.rules.specs.Message.{Accepts}
-use Rattle.rules.specs.Machine.{run}
-use Rattle.rules.specs.Judge.{machine, inRange}
+use Rattle.rules.specs.Judge.{inRange}
 use Rattle.rules.specs.Demand3.{Ending, Spoilt, Numbered}
-use Rattle.rules.specs.InRange.{in-range-run}
 use Rattle.rules.specs.declared.Fault.{Fault}
 use Rattle.listener.specs.declared.Listener.{Listener}
-use Rattle.listener.specs.declared.Answer.{Answer}
-use Rattle.listener.specs.declared.Answer.the-variants.{Waits, Message, Refused}
-use Rattle.listener.specs.declared.Heard.{Heard}
-use Rattle.listener.specs.Heard.{stopped, numberOf, placeOf, sizeOf, answerOf, heardOf, newListener}
-use Rattle.listener.specs.Hears as listening
-use Rattle.listener.specs.Hears.{Stands, Ranged, ranged, waits-told, message-told, refused-told, taken-small, in-range-heard, out-of-range-heard, stands-in-range, stands-on, new-stands, hears}
-use Rattle.firmware.specs.declared.Decoded.{Decoded}
-use Rattle.firmware.specs.declared.Decoded.the-variants.{Known, Unknown}
-use Rattle.firmware.specs.Record.{decodeOf, recordOf}
-use Rattle.firmware.specs.Word.{packed, wordNumber, wordPlace, wordSize, wordTaken, Unpacked, unpacked}
-use Rattle.firmware.specs.Exports.{badRecord, resetAnswer, resetRecord, wordOf, answered, recorded, listenAnswer, listenRecord}
-use Rattle.firmware.specs.Coding.{decode-encode, encode-decode}
+use Rattle.listener.specs.Heard.{numberOf, placeOf, sizeOf, answerOf}
+use Rattle.listener.specs.Hears.{Stands}
+use Rattle.firmware.specs.declared.Decoded.the-variants.{Known}
+use Rattle.firmware.specs.Record.{decodeOf}
+use Rattle.firmware.specs.Word.{wordNumber, wordPlace, wordSize, wordTaken}
 
 -- The record's listener had taken the octets h since its reset, was given the run o, and the call answered w.
 pub record RecordHears (h o : List ℕ) (w : ℕ) : Type 0 where
@@ -50,40 +37,11 @@ pub record RecordStands (c h : List ℕ) : Type 0 where
   pub known : decodeOf c ≡ Known listener
   pub stands : Stands listener h
 
--- the word of an answer is read back field by field
-small-fields : (a : Answer) → Ranged a → (numberOf a < 256) × (placeOf a < 65536) × (sizeOf a < 65536)
-unfolding numberOf placeOf sizeOf
-small-fields Waits g = (omega arith, omega arith, omega arith)
-small-fields (Message n) g = (omega arith, omega arith, omega arith)
-small-fields (Refused f) g = (omega arith, omega arith, omega arith)
-
-number-small : (a : Answer) → Ranged a → numberOf a ≤ 6
-unfolding numberOf
-number-small Waits g = omega arith
-number-small (Message n) g = omega arith
-number-small (Refused f) g = g .1
-
-read-back : (x : Heard) → Ranged (x .answer) → x .taken ≤ 258 → Unpacked (numberOf (x .answer)) (placeOf (x .answer)) (sizeOf (x .answer)) (x .taken) (wordOf x)
-unfolding wordOf
-read-back x g t = let b = small-fields (x .answer) g in unpacked _ _ _ _ (b .0) (b .1) (b .2) (omega arith)
-
--- ---- any record at all
 -- a record stands for a listener in range
 pub record Sound (c : List ℕ) : Type 0 where
   pub listener : Listener
   pub known : decodeOf c ≡ Known listener
   pub in-range : T (inRange document01 (listener .state))
-
-pub sound-or-not : (c : List ℕ) → Sound c ⊎ (Sound c → ⊥)
-sound-or-not c = go (decodeOf c) refl
-  where
-    in-or-out : (l : Listener) → decodeOf c ≡ Known l → T (inRange document01 (l .state)) ⊎ (T (inRange document01 (l .state)) → ⊥) → Sound c ⊎ (Sound c → ⊥)
-    in-or-out l k (inl t) = inl (record { listener = l; known = k; in-range = t })
-    in-or-out l k (inr n) = inr (λ s. let e : Known (s .listener) ≡ Known l = sym (s .known) ∙ k in let z : s .listener ≡ l = cc in n (subst (λ (x : Listener). T (inRange document01 (x .state))) z (s .in-range)))
-
-    go : (y : Decoded) → decodeOf c ≡ y → Sound c ⊎ (Sound c → ⊥)
-    go (Known l) k = in-or-out l k (decide (inRange document01 (l .state)))
-    go Unknown k = inr (λ s. clash (cc (s .known, k)))
 
 -- 17 at place 0, no size, nothing taken, and the record as it was
 pub record Seventeen (c : List ℕ) (w : ℕ) (d : List ℕ) : Type 0 where
@@ -93,53 +51,6 @@ pub record Seventeen (c : List ℕ) (w : ℕ) (d : List ℕ) : Type 0 where
   pub taken : wordTaken w ≡ 0
   pub as-it-was : d ≡ c
 
-seventeen : (c : List ℕ) (w : ℕ) (d : List ℕ) → w ≡ badRecord → d ≡ c → Seventeen c w d
-seventeen c w d e f =
-    let b = unpacked 17 0 0 0 (omega arith) (omega arith) (omega arith) (omega arith) in
-    rw e (record { number = b .number; place = b .place; size = b .size; taken = b .taken; as-it-was = f })
-
--- a record that is not sound is 17, whatever the octets
-unsound : (c : List ℕ) → Octets c → (Sound c → ⊥) → (o : List ℕ) → (listenAnswer c o ≡ badRecord) × (listenRecord c o ≡ c)
-unfolding listenAnswer listenRecord answered recorded wordOf numberOf placeOf sizeOf
-unsound c q n o = go (decodeOf c) refl
-  where
-    go : (y : Decoded) → decodeOf c ≡ y → (answered (decodeOf c) o ≡ badRecord) × (recorded (decodeOf c) c o ≡ c)
-    go Unknown k = (rw k, rw k)
-    go (Known l) k =
-        let x = out-of-range-heard l o (λ t. n (record { listener = l; known = k; in-range = t })) in
-        (rw (k, x), rw (k, x) (encode-decode c l q k))
-
--- a sound record is heard by its listener
-module _ (c : List ℕ) (s : Sound c) (o : List ℕ) where
-  sound-word : listenAnswer c o ≡ wordOf (heardOf document01 (s .listener) o)
-  unfolding listenAnswer answered
-  sound-word = ap (λ (y : Decoded). answered y o) (s .known)
-
-  pub sound-record : listenRecord c o ≡ recordOf (heardOf document01 (s .listener) o .listener)
-  unfolding listenRecord recorded
-  sound-record = ap (λ (y : Decoded). recorded y c o) (s .known)
-
-  sound-ranged : Octets o → Ranged (heardOf document01 (s .listener) o .answer)
-  sound-ranged q = subst Ranged (sym (ap (λ (r : Heard). r .answer) (in-range-heard (s .listener) o (s .in-range)))) (ranged _ (in-range-run document01 (s .listener .state) o q (s .in-range)))
-
-  sound-fields : Octets o → (w : ℕ) → w ≡ listenAnswer c o → Unpacked (numberOf (heardOf document01 (s .listener) o .answer)) (placeOf (heardOf document01 (s .listener) o .answer)) (sizeOf (heardOf document01 (s .listener) o .answer)) (heardOf document01 (s .listener) o .taken) w
-  sound-fields q w e = rw (e, sound-word) (read-back _ (sound-ranged q) (taken-small (s .listener) o q))
-
-  -- it is stepped by the written rule, also where no octets lead to it, and stays sound
-  pub sound-steps : (d : List ℕ) → d ≡ listenRecord c o → d ≡ recordOf (record { state = run (machine document01) (s .listener .state) o })
-  sound-steps d f = f ∙ sound-record ∙ ap (λ (y : Heard). recordOf (y .listener)) (in-range-heard (s .listener) o (s .in-range))
-
-  abbrev pub sound-stays : Octets o → (d : List ℕ) → d ≡ listenRecord c o → Sound d
-  sound-stays q d f = record {
-    listener = heardOf document01 (s .listener) o .listener;
-    known = ap decodeOf (f ∙ sound-record) ∙ decode-encode _;
-    in-range = subst (λ (x : Heard). T (inRange document01 (x .listener .state))) (sym (in-range-heard (s .listener) o (s .in-range))) (in-range-run document01 (s .listener .state) o q (s .in-range));
-  }
-
-  -- it gets a number up to 6, or none
-  pub sound-number : Octets o → (w : ℕ) → w ≡ listenAnswer c o → wordNumber w ≤ 6
-  sound-number q w e = omega (arith, sound-fields q w e .number, number-small (heardOf document01 (s .listener) o .answer) (sound-ranged q))
-
 -- after an answer it takes none, says the same again and stays as it was
 pub record Again (l : Listener) (c : List ℕ) (w : ℕ) (d : List ℕ) : Type 0 where
   pub number : wordNumber w ≡ numberOf (answerOf (l .state))
@@ -148,26 +59,6 @@ pub record Again (l : Listener) (c : List ℕ) (w : ℕ) (d : List ℕ) : Type 0
   pub taken : wordTaken w ≡ 0
   pub as-it-was : d ≡ c
 
-pub again : (c : List ℕ) (s : Sound c) (o : List ℕ) (w : ℕ) (d : List ℕ) → w ≡ listenAnswer c o → d ≡ listenRecord c o → stopped (s .listener .state) ≡ true → Octets c → Octets o → Again (s .listener) c w d
-again c s o w d e f t q p =
-    let x = listening.says-it-again (s .listener) o (heardOf document01 (s .listener) o) (s .in-range) t refl in
-    let u = sound-fields c s o p w e in
-    record {
-      number = u .number ∙ ap (λ (y : Heard). numberOf (y .answer)) x;
-      place = u .place ∙ ap (λ (y : Heard). placeOf (y .answer)) x;
-      size = u .size ∙ ap (λ (y : Heard). sizeOf (y .answer)) x;
-      taken = u .taken ∙ ap (λ (y : Heard). y .taken) x;
-      as-it-was = f ∙ sound-record c s o ∙ ap (λ (y : Heard). recordOf (y .listener)) x ∙ encode-decode c (s .listener) q (s .known);
-    }
-
--- every record is sound, or the call is 17 and leaves it as it was
-pub sound-or-17 : (c o : List ℕ) (w : ℕ) (d : List ℕ) → w ≡ listenAnswer c o → d ≡ listenRecord c o → Octets c → Sound c ⊎ Seventeen c w d
-sound-or-17 c o w d e f q = go (sound-or-not c)
-  where
-    go : Sound c ⊎ (Sound c → ⊥) → Sound c ⊎ Seventeen c w d
-    go (inl s) = inl s
-    go (inr n) = let u = unsound c q n o in inr (seventeen c w d (e ∙ u .0) (f ∙ u .1))
-
 -- two calls on a run cut in two end as one call on the whole: the same record and answer, and the octets taken together
 pub record SameEnd (w w₁ w₂ : ℕ) (d d₂ : List ℕ) : Type 0 where
   pub left : d ≡ d₂
@@ -175,84 +66,3 @@ pub record SameEnd (w w₁ w₂ : ℕ) (d d₂ : List ℕ) : Type 0 where
   pub place : wordPlace w ≡ wordPlace w₂
   pub size : wordSize w ≡ wordSize w₂
   pub taken : wordTaken w ≡ wordTaken w₁ + wordTaken w₂
-
-module _ (c a b : List ℕ) (w w₁ w₂ : ℕ) (d d₁ d₂ : List ℕ) (e : w ≡ listenAnswer c (a ++ b)) (f : d ≡ listenRecord c (a ++ b)) (e₁ : w₁ ≡ listenAnswer c a) (f₁ : d₁ ≡ listenRecord c a) (e₂ : w₂ ≡ listenAnswer d₁ b) (f₂ : d₂ ≡ listenRecord d₁ b) (q : Octets c) (p : Octets a) (r : Octets b) where
-  cut-sound : Sound c → SameEnd w w₁ w₂ d d₂
-  cut-sound s =
-      let l = s .listener in
-      let s₁ = sound-stays c s a p d₁ f₁ in
-      let k = listening.cut-anywhere l a b p (heardOf document01 l (a ++ b)) (heardOf document01 l a) (heardOf document01 (heardOf document01 l a .listener) b) refl refl refl in
-      let u = sound-fields c s (a ++ b) (octets-append a b p r) w e in
-      let u₁ = sound-fields c s a p w₁ e₁ in
-      let u₂ = sound-fields d₁ s₁ b r w₂ e₂ in
-      record {
-        left = f ∙ sound-record c s (a ++ b) ∙ ap recordOf (k .0) ∙ sym (f₂ ∙ sound-record d₁ s₁ b);
-        number = u .number ∙ ap numberOf (k .1) ∙ sym (u₂ .number);
-        place = u .place ∙ ap placeOf (k .1) ∙ sym (u₂ .place);
-        size = u .size ∙ ap sizeOf (k .1) ∙ sym (u₂ .size);
-        taken = omega (arith, u .taken, u₁ .taken, u₂ .taken, k .2);
-      }
-
-  cut-unsound : (Sound c → ⊥) → SameEnd w w₁ w₂ d d₂
-  cut-unsound n =
-      let v : d₁ ≡ c = f₁ ∙ unsound c q n a .1 in
-      let v₂ = unsound c q n b in
-      let z = seventeen c w d (e ∙ unsound c q n (a ++ b) .0) (f ∙ unsound c q n (a ++ b) .1) in
-      let z₁ = seventeen c w₁ d₁ (e₁ ∙ unsound c q n a .0) v in
-      let z₂ = seventeen c w₂ d₂ (e₂ ∙ ap (λ (x : List ℕ). listenAnswer x b) v ∙ v₂ .0) (f₂ ∙ ap (λ (x : List ℕ). listenRecord x b) v ∙ v₂ .1) in
-      record { left = z .as-it-was ∙ sym (z₂ .as-it-was); number = z .number ∙ sym (z₂ .number); place = z .place ∙ sym (z₂ .place); size = z .size ∙ sym (z₂ .size); taken = omega (arith, z .taken, z₁ .taken, z₂ .taken) }
-
-  pub cut-anywhere : SameEnd w w₁ w₂ d d₂
-  cut-anywhere = go (sound-or-not c)
-    where
-      go : Sound c ⊎ (Sound c → ⊥) → SameEnd w w₁ w₂ d d₂
-      go (inl s) = cut-sound s
-      go (inr n) = cut-unsound n
-
--- ---- a record that was reset, and any octets
-abbrev pub stands-sound : (c h : List ℕ) → RecordStands c h → Sound c
-stands-sound c h s = record { listener = s .listener; known = s .known; in-range = stands-in-range (s .listener) h (s .stands) }
-
-module _ (c h : List ℕ) (s : RecordStands c h) (o : List ℕ) (q : Octets o) (w : ℕ) (e : w ≡ listenAnswer c o) where
-  abbrev heard : Heard
-  heard = heardOf document01 (s .listener) o
-
-  fields : Unpacked (numberOf (heard .answer)) (placeOf (heard .answer)) (sizeOf (heard .answer)) (heard .taken) w
-  fields = sound-fields c (stands-sound c h s) o q w e
-
-  pub record-hears : RecordHears h o w
-  record-hears =
-      let said = hears (s .listener) h (s .stands) o q heard refl in
-      let g = sound-ranged c (stands-sound c h s) o q in
-      record {
-        waits = rw (fields .number, fields .size) (Iff·trans (waits-told _ g) (said .waits));
-        has-message = λ n l. rw (fields .size) (Iff·trans (message-told _ n l) (said .has-message n));
-        refuses = λ f l. rw (fields .number, fields .place) (Iff·trans (refused-told _ f l) (said .refuses f));
-        taken-waiting = λ a b. fields .taken ∙ said .taken-waiting (waits-told _ g .0 (sym (fields .number) ∙ a, sym (fields .size) ∙ b));
-        taken-message = λ n l a. ap (λ (t : ℕ). length h + t) (fields .taken) ∙ said .taken-message n (message-told _ n l .0 (sym (fields .size) ∙ a));
-        taken-refused = λ l.
-            let f : Fault = record { number = numberOf (heard .answer); place = placeOf (heard .answer) } in
-            ap (λ (t : ℕ). length h + t) (fields .taken) ∙ said .taken-refused f (refused-told _ f (omega (arith, fields .number)) .0 (refl, refl)) ∙ ap suc (sym (fields .place));
-      }
-
-  pub record-stands-on : (d : List ℕ) → d ≡ listenRecord c o → RecordStands d (h ++ take (wordTaken w) o)
-  record-stands-on d f = record {
-    listener = heard .listener;
-    known = ap decodeOf (f ∙ sound-record c (stands-sound c h s) o) ∙ decode-encode (heard .listener);
-    stands = rw (fields .taken) (stands-on (s .listener) h (s .stands) o q heard refl);
-  }
-
--- ---- reset
-pub reset-stands : (c d : List ℕ) → length c ≡ 16 → d ≡ resetRecord c → RecordStands d []
-unfolding resetRecord
-reset-stands c d n e =
-    let k : d ≡ recordOf newListener = e ∙ pick-yes _ _ _ (of-eq _ _ n) in
-    record { listener = newListener; known = ap decodeOf k ∙ decode-encode newListener; stands = new-stands }
-
-pub reset-number : (c : List ℕ) (w : ℕ) (d : List ℕ) → w ≡ resetAnswer c → d ≡ resetRecord c → ((w ≡ 0) × (d ≡ recordOf newListener)) ⊎ Seventeen c w d
-unfolding resetAnswer resetRecord packed
-reset-number c w d e f = go (decide (length c =? 16))
-  where
-    go : T (length c =? 16) ⊎ (T (length c =? 16) → ⊥) → ((w ≡ 0) × (d ≡ recordOf newListener)) ⊎ Seventeen c w d
-    go (inl t) = inl (e ∙ pick-yes _ _ _ t, f ∙ pick-yes _ _ _ t)
-    go (inr n) = inr (seventeen c w d (e ∙ pick-not _ _ _ n) (f ∙ pick-not _ _ _ n))

@@ -17,8 +17,9 @@ use Rattle.listener.specs.declared.Listener.{Listener}
 use Rattle.listener.specs.declared.Heard as heard
 use Rattle.listener.specs.declared.Answer.the-variants.{Refused}
 use Rattle.listener.specs.Heard.{stopped, answerOf, outOfRange, heardOf, newListener}
-use Rattle.listener.specs.Hears as hears
-use Rattle.listener.specs.Hears.{Hears, Stands, new-stands, stands-in-range, stands-on, in-range-heard, out-of-range-heard}
+use Rattle.listener.proofs.Hears as hears
+use Rattle.listener.specs.Hears.{Hears, Stands}
+use Rattle.listener.proofs.Hears.{new-stands, stands-in-range, stands-on, in-range-heard, out-of-range-heard}
 use Rattle.listener.proofs.reset.Reads as reset
 use Rattle.listener.proofs.listen.Reads as listen
 

@@ -2,3 +2,5 @@
 pub mod Bounds
 pub mod Settled
 pub mod Hearing
+pub mod Runs
+pub mod Hears

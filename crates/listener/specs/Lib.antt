@@ -1,4 +1,3 @@
 -- The root of what the listener promises.
 pub mod Heard
-pub mod Runs
 pub mod Hears

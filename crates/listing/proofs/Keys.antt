@@ -9,7 +9,7 @@ use lib.Dec.{T}
 use Rattle.rules.specs.Tests.{_≤?_, _=?_, _and_, both, le-of, eq-of}
 use Rattle.rules.specs.Table.{document01, ascii}
 use Rattle.rules.specs.Pairwise.{pairwise, sameOctets, octets-are}
-use Rattle.listing.specs.Tabled.{below, below-at}
+use Rattle.listing.proofs.Tabled.{below, below-at}
 use Rattle.listing.specs.Put.{part}
 use Rattle.listing.specs.Listing.{rowAt, rowCount}
 

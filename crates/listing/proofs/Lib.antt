@@ -5,3 +5,9 @@ pub mod Rows
 pub mod Whole
 pub mod Settled
 pub mod Listings
+pub mod Tabled
+pub mod Lines
+pub mod Longest
+pub mod First
+pub mod Plain
+pub mod Numerals

@@ -18,7 +18,7 @@ use Rattle.message.specs.Judges.{judges}
 use Rattle.message.specs.Parameters.{messageIn, message-in}
 use Rattle.listing.specs.declared.Text.{Text}
 use Rattle.listing.specs.Listing.{written, linesOf, listed, refusal, listingOf, textOf, bufferSize}
-use Rattle.listing.specs.Plain.{cut, bares, lines-back}
+use Rattle.listing.proofs.Plain.{cut, bares, lines-back}
 use Rattle.listing.proofs.listing.Reads as listing
 
 -- the octets of a listing

@@ -23,7 +23,7 @@ use Rattle.message.specs.Searching.{counted-part}
 use Rattle.message.specs.Parameters.{parametersIn, messageIn, message-in}
 use Rattle.listing.specs.Put.{Room, Put, put-first}
 use Rattle.listing.specs.Listing.{Line, written, kindLine, carriedLine, linesFor, rowLines, linesOf, partLines, rowsAt, linesAt, listed, refusal, listingOf, textOf, bufferSize}
-use Rattle.listing.specs.Longest.{longest, refusal-short}
+use Rattle.listing.proofs.Longest.{longest, refusal-short}
 
 -- ---- the rows from the octets, and from the message
 rows-same : (o : List ℕ) (m : message.Message) → ((t : ℕ) → partOf o (countedAt o t) ≡ counted document01 m t) → (rs : List Row) → rowsAt document01 o rs ≡ rowLines document01 m rs

@@ -19,7 +19,7 @@ use Rattle.message.specs.declared.Body.{Body}
 use Rattle.message.specs.declared.Body.the-variants as body
 use Rattle.message.specs.declared.Verdict.the-variants.{Accepted, Declined}
 use Rattle.message.specs.Verdict.{endFrom, onHead, HeadFits, onBody, verdictOf}
-use Rattle.message.specs.Turns.{endVerdict, verdict-end, early-short}
+use Rattle.message.proofs.Turns.{endVerdict, verdict-end, early-short}
 
 module _ (w : Head) (at : ℕ) (s : List ℕ) (whole : End) (e : whole ≡ onHead w at s) where
   pub head-good : (c : Class) (n r sum : ℕ) (x : End) → w ≡ head.Good c n r sum → x ≡ endFrom (stage.Content c n 0 0 r) sum at s → x ≡ whole

@@ -2,3 +2,4 @@
 pub mod Calls
 pub mod Settled
 pub mod Judging
+pub mod Turns

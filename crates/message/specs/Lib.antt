@@ -1,7 +1,6 @@
 -- The root of what is promised of whole messages.
 pub mod Verdict
 pub mod Walking
-pub mod Turns
 pub mod Judges
 pub mod Searching
 pub mod Parameters

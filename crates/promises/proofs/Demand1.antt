@@ -25,7 +25,8 @@ use Rattle.reader.proofs.Readings.{reads}
 use Rattle.reader.proofs.read.Reads as read
 use Rattle.writer.specs.declared.Written.{Written}
 use Rattle.writer.specs.declared.Written.the-variants.{Declined}
-use Rattle.writer.specs.Reasons.{Went, kind-is-none, no-entries, many-entries, bad-entry, too-long, too-tight, fits, answer-iff}
+use Rattle.writer.specs.Reasons.{Went, kind-is-none, no-entries, many-entries, bad-entry, too-long, too-tight, fits}
+use Rattle.writer.proofs.Reasons.{answer-iff}
 use Rattle.writer.proofs.Writing.{refusal-keeps}
 use Rattle.writer.proofs.write.Reads as write
 use Rattle.desk.specs.declared.Answer.the-variants as settled

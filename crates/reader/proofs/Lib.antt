@@ -2,3 +2,6 @@
 pub mod Putting
 pub mod Settled
 pub mod Readings
+pub mod Laying
+pub mod Taking
+pub mod Answered

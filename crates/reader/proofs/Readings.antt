@@ -8,7 +8,8 @@ use Rattle.rules.specs.Octets.{Octets}
 use Rattle.rules.specs.Table.{document01}
 use Rattle.reader.specs.declared.Reading.{Reading}
 use Rattle.reader.specs.Read.{readOf}
-use Rattle.reader.specs.Reads.{Reads, reads-of}
+use Rattle.reader.specs.Reads.{Reads}
+use Rattle.reader.proofs.Answered.{reads-of}
 use Rattle.reader.proofs.read.Reads as read
 
 pub reads : (κs : _) (a : _) (r : _) (s : _) → read.Post κs a r s → Octets (a .0 .now) → Reads (a .0 .now) (a .1 .0 .now) r (s .1 .0 .now)

@@ -3,3 +3,6 @@ pub mod Clauses
 pub mod Settled
 pub mod Stepping
 pub mod Walked
+pub mod Walking
+pub mod Begins
+pub mod Walks

@@ -5,7 +5,7 @@ use Rattle.rules.specs.Octets.{Octets}
 use Rattle.rules.specs.Table.{document01}
 use Rattle.rules.specs.Unique.{document01-told}
 use Rattle.rules.specs.Message.{Message, octets, LegalMessage}
-use Rattle.walker.specs.Walks as walks
+use Rattle.walker.proofs.Walks as walks
 use Rattle.walker.specs.Walks.{Stands, Walks}
 use Rattle.walker.proofs.step_at.Reads as step-at
 

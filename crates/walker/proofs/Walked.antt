@@ -14,7 +14,7 @@ use Rattle.walker.specs.declared.Walker.{Walker}
 use Rattle.walker.specs.declared.Step.{Step}
 use Rattle.walker.specs.declared.Step.the-variants.{NoMore}
 use Rattle.walker.specs.Steps.{stepOf, placeAt}
-use Rattle.walker.specs.Walks as walks
+use Rattle.walker.proofs.Walks as walks
 use Rattle.walker.specs.Walks.{Gives, Walks}
 use Rattle.walker.specs.Moves.{seen, Seen, Reached, reached}
 

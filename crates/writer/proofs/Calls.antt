@@ -16,10 +16,11 @@ use Rattle.draft.specs.declared.Flat.{Flat}
 use Rattle.draft.specs.declared.Entry.{Entry}
 use Rattle.draft.specs.declared.Draft.{Draft}
 use Rattle.writer.specs.Writing.{measuredOf, writeOf}
-use Rattle.writer.specs.Legal.{all-inside, written, all-made}
+use Rattle.writer.proofs.Legal.{all-inside, written, all-made}
 use Rattle.writer.specs.Laying.{Layable}
 use Rattle.writer.specs.declared.Written.the-variants.{Message}
-use Rattle.writer.specs.Judging.{small, fitting, takesOf, takes-none, takes-number, takes-text, measureFrom, onMeasure, measured-is}
+use Rattle.writer.specs.Judging.{small, fitting, takesOf, measureFrom}
+use Rattle.writer.proofs.Judging.{takes-none, takes-number, takes-text, onMeasure, measured-is}
 use Rattle.writer.specs.declared.Written.{Written}
 use Rattle.writer.specs.declared.Measure.{Measure}
 

@@ -5,3 +5,7 @@ pub mod Calls
 pub mod Putting
 pub mod Settled
 pub mod Writing
+pub mod Legal
+pub mod Reasons
+pub mod Judging
+pub mod RoundTrips

@@ -11,7 +11,8 @@ use Rattle.rules.specs.Tests.{pick, pick-yes, pick-not}
 use Rattle.rules.specs.Table.{document01}
 use Rattle.draft.specs.declared.Entry.{Entry}
 use Rattle.writer.specs.Writing.{contentsOf, legalEntry}
-use Rattle.writer.specs.Judging.{takesOf, takes-bad, takes-good, measureFrom}
+use Rattle.writer.specs.Judging.{takesOf, measureFrom}
+use Rattle.writer.proofs.Judging.{takes-bad, takes-good}
 use Rattle.writer.specs.declared.Measure.the-variants.{Bad, Size}
 
 abbrev pub Measured : List ℕ → ℕ → List Entry → ℕ → ℕ → Type 0

@@ -14,13 +14,15 @@ use Rattle.rules.specs.Octets.{total, total-append, checksum}
 use Rattle.rules.specs.Message.{body, front, octets}
 use Rattle.rules.specs.Laying.{laid, laidAt, laid-then, rest-laid, rest-copied}
 use Rattle.draft.specs.Draft.{inside, allInside, parameterOf, parametersOf, used, messageOf}
-use Rattle.draft.specs.Same.{flatOf, inside-flat}
+use Rattle.draft.specs.Same.{flatOf}
+use Rattle.draft.proofs.Alike.{inside-flat}
 use Rattle.draft.specs.declared.Value.{Value}
 use Rattle.draft.specs.declared.Flat.{Flat}
 use Rattle.draft.specs.declared.Entry.{Entry}
 use Rattle.draft.specs.declared.Draft.{Draft}
 use Rattle.writer.specs.Writing.{contentsOf}
-use Rattle.writer.specs.Judging.{spellingOf, small, small-short, small-contents, text-contents}
+use Rattle.writer.specs.Judging.{spellingOf, small}
+use Rattle.writer.proofs.Judging.{small-short, small-contents, text-contents}
 use Rattle.writer.specs.declared.Spelling.{Spelling}
 use Rattle.writer.specs.Laying.{parameterOctets, Puttable, Layable}
 

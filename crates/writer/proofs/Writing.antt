@@ -13,11 +13,13 @@ use Rattle.rules.specs.Message.{octets, LegalMessage, Accepts}
 use Rattle.rules.specs.declared.Fault.{Fault}
 use Rattle.draft.specs.Draft.{messageOf, Equal}
 use Rattle.rules.specs.Laying.{laid}
-use Rattle.draft.specs.Packing.{textsOf, draftOf, equal-stand}
+use Rattle.draft.specs.Packing.{textsOf, draftOf}
+use Rattle.draft.proofs.Packing.{equal-stand}
 use Rattle.writer.specs.Writing.{writeOf, outputAfter}
-use Rattle.writer.specs.Legal.{written, message-legal}
-use Rattle.writer.specs.Reasons.{Answers, answers}
-use Rattle.writer.specs.RoundTrips.{document01-round-trips}
+use Rattle.writer.proofs.Legal.{written, message-legal}
+use Rattle.writer.specs.Reasons.{Answers}
+use Rattle.writer.proofs.Reasons.{answers}
+use Rattle.writer.proofs.RoundTrips.{document01-round-trips}
 use Rattle.writer.specs.declared.Written.{Written}
 use Rattle.writer.specs.declared.Written.the-variants.{Message, Declined}
 use Rattle.writer.proofs.write.Reads as write

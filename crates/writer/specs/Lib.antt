@@ -1,6 +1,5 @@
 -- The root of what is promised of the writer.
 pub mod Writing
-pub mod Legal
 pub mod Judging
 pub mod Laying
 pub mod Reasons

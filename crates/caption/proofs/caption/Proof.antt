@@ -2,7 +2,7 @@
 -- Assumes nothing.
 use native.Mathlib.Omega.{arith}
 use Rattle.rules.specs.Table.{document01}
-use Rattle.caption.specs.Inside.{in-message, in-directory, message-part, directory-part, refused-part}
+use Rattle.caption.proofs.Inside.{in-message, in-directory, message-part, directory-part, refused-part}
 use borrow.Author.Needs.{needs}
 use Rattle.caption.proofs.caption.Statement.{statement}
 use Rattle.caption.proofs.caption.Tie as tie

@@ -7,7 +7,7 @@ use lib.ListN.{length, drop}
 use Rattle.rules.specs.Returns.{pick-t, pick-f}
 use Rattle.caption.specs.Lines.{linesOf}
 use Rattle.caption.specs.Caption.{entryFrom, entryOf}
-use Rattle.caption.specs.Cutting.{entry-end}
+use Rattle.caption.proofs.Cutting.{entry-end}
 use borrow.Author.Needs.{needs}
 use Rattle.caption.proofs.entry_for.Statement.{statement}
 use Rattle.caption.proofs.entry_for.Tie as tie

@@ -5,7 +5,7 @@ use mathlib.Core.Path.{_≡_}
 use native.Mathlib.Omega.{arith}
 use lib.ListN.{length, drop}
 use Rattle.caption.specs.Lines.{indexOf}
-use Rattle.caption.specs.Cutting.{index-here, index-on, index-end}
+use Rattle.caption.proofs.Cutting.{index-here, index-on, index-end}
 use Rattle.caption.proofs.index_of.Statement.{statement}
 use Rattle.caption.proofs.index_of.Tie as tie
 

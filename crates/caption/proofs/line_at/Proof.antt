@@ -3,7 +3,7 @@
 use mathlib.Core.Path.{sym}
 use lib.Seq.{length-take-le}
 use Rattle.rules.specs.Laying.{rest-whole}
-use Rattle.caption.specs.Cutting.{index-most, cuts}
+use Rattle.caption.proofs.Cutting.{index-most, cuts}
 use borrow.Author.Needs.{needs}
 use Rattle.caption.proofs.line_at.Statement.{statement}
 use Rattle.caption.proofs.line_at.Tie as tie

@@ -2,7 +2,7 @@
 -- Assumes nothing.
 use native.Mathlib.Omega.{arith}
 use Rattle.rules.specs.Octets.{octets-at}
-use Rattle.listener.specs.Hears.{taken-small}
+use Rattle.listener.proofs.Hears.{taken-small}
 use Rattle.firmware.proofs.Decoding.{outcome}
 use borrow.Author.Needs.{needs}
 use Rattle.firmware.proofs.hear.Statement.{statement}

@@ -10,7 +10,7 @@ use Rattle.rules.specs.Judge.{machine, inRange}
 use Rattle.rules.specs.InRange.{in-range-closed}
 use Rattle.rules.specs.Returns.{via}
 use Rattle.listener.specs.Heard.{runOf}
-use Rattle.listener.specs.Runs.{runFrom, run-zero, ran-stopped, ran-out, run-more}
+use Rattle.listener.proofs.Runs.{runFrom, run-zero, ran-stopped, ran-out, run-more}
 use borrow.Author.Needs.{needs}
 use Rattle.listener.proofs.run.Statement.{statement}
 use Rattle.listener.proofs.run.Tie as tie

@@ -3,7 +3,7 @@
 use mathlib.Core.Path.{sym, _∙_}
 use native.Mathlib.Omega.{arith}
 use Rattle.message.specs.Verdict.{onHead, HeadFits}
-use Rattle.message.specs.Turns.{ends-early, type-on, type-spoils}
+use Rattle.message.proofs.Turns.{ends-early, type-on, type-spoils}
 use Rattle.message.proofs.Calls.{two-on}
 use borrow.Author.Needs.{needs}
 use Rattle.message.proofs.ahead.Statement.{statement}

@@ -2,7 +2,7 @@
 -- Assumes nothing.
 use mathlib.Core.Path.{sym}
 use native.Mathlib.Omega.{arith}
-use Rattle.message.specs.Turns.{ends-early, sealed, not-sealed}
+use Rattle.message.proofs.Turns.{ends-early, sealed, not-sealed}
 use borrow.Author.Needs.{needs}
 use Rattle.message.proofs.check.Statement.{statement}
 use Rattle.message.proofs.check.Tie as tie

@@ -4,7 +4,7 @@ use Prim.Native.Nat.{_≤_, _-_}
 use native.Mathlib.Omega.{arith}
 use Rattle.rules.specs.Returns.{via}
 use Rattle.message.specs.Verdict.{onBody}
-use Rattle.message.specs.Turns.{Read, none-read, one-more, all-read, cut-short, content-spoils}
+use Rattle.message.proofs.Turns.{Read, none-read, one-more, all-read, cut-short, content-spoils}
 use borrow.Author.Needs.{needs}
 use Rattle.message.proofs.inside.Statement.{statement}
 use Rattle.message.proofs.inside.Tie as tie

@@ -3,7 +3,7 @@
 use mathlib.Core.Path.{sym, _∙_}
 use native.Mathlib.Omega.{arith}
 use Rattle.message.specs.Verdict.{onHead, HeadFits}
-use Rattle.message.specs.Turns.{ends-early, fits-facts, length-on, length-spoils}
+use Rattle.message.proofs.Turns.{ends-early, fits-facts, length-on, length-spoils}
 use borrow.Author.Needs.{needs}
 use Rattle.message.proofs.length_at.Statement.{statement}
 use Rattle.message.proofs.length_at.Tie as tie

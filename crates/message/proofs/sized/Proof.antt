@@ -2,7 +2,7 @@
 -- Assumes nothing.
 use mathlib.Core.Path.{sym, _∙_}
 use native.Mathlib.Omega.{arith}
-use Rattle.message.specs.Turns.{ends-early, size-on, size-spoils}
+use Rattle.message.proofs.Turns.{ends-early, size-on, size-spoils}
 use borrow.Author.Needs.{needs}
 use Rattle.message.proofs.sized.Statement.{statement}
 use Rattle.message.proofs.sized.Tie as tie

@@ -5,7 +5,7 @@ use Prim.Native.Nat.{_-_}
 use mathlib.Core.Path.{refl, sym, _∙_}
 use native.Mathlib.Omega.{arith}
 use Rattle.rules.specs.Table.{document01}
-use Rattle.reader.specs.Laying.{Filled, filled-first, filled-small, filled-more, filled-end, left-ended, left-full}
+use Rattle.reader.proofs.Laying.{Filled, filled-first, filled-small, filled-more, filled-end, left-ended, left-full}
 use borrow.Author.Needs.{needs}
 use Rattle.reader.proofs.draft_of.Statement.{statement}
 use Rattle.reader.proofs.draft_of.Tie as tie

@@ -3,7 +3,7 @@
 use native.Mathlib.Omega.{arith}
 use Rattle.rules.specs.Table.{document01}
 use Rattle.message.specs.Searching.{found-inside}
-use Rattle.reader.specs.Taking.{entry-found, entry-ended}
+use Rattle.reader.proofs.Taking.{entry-found, entry-ended}
 use borrow.Author.Needs.{needs}
 use Rattle.reader.proofs.entry.Statement.{statement}
 use Rattle.reader.proofs.entry.Tie as tie

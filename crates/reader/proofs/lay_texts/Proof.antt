@@ -5,7 +5,7 @@ use Prim.Native.Nat.{_-_}
 use mathlib.Core.Path.{sym, _∙_}
 use native.Mathlib.Omega.{arith}
 use Rattle.rules.specs.Table.{document01}
-use Rattle.reader.specs.Laying.{Laid, laid-first, laid-room, laid-more, laid-end, left-none, left-full}
+use Rattle.reader.proofs.Laying.{Laid, laid-first, laid-room, laid-more, laid-end, left-none, left-full}
 use borrow.Author.Needs.{needs}
 use Rattle.reader.proofs.lay_texts.Statement.{statement}
 use Rattle.reader.proofs.lay_texts.Tie as tie

@@ -2,7 +2,7 @@
 -- Assumes nothing.
 use native.Mathlib.Omega.{arith}
 use Rattle.rules.specs.Table.{document01}
-use Rattle.reader.specs.Laying.{packs-declined, packs-short, packs-whole, size-small}
+use Rattle.reader.proofs.Laying.{packs-declined, packs-short, packs-whole, size-small}
 use borrow.Author.Needs.{needs}
 use Rattle.reader.proofs.pack.Statement.{statement}
 use Rattle.reader.proofs.pack.Tie as tie

@@ -1,7 +1,7 @@
 -- `reader::read` meets its contract: what becomes of the octets, and the draft to it.
 -- Assumes nothing.
 use Rattle.rules.specs.Table.{document01}
-use Rattle.reader.specs.Laying.{reads-whole, reads-refused}
+use Rattle.reader.proofs.Laying.{reads-whole, reads-refused}
 use borrow.Author.Needs.{needs}
 use Rattle.reader.proofs.read.Statement.{statement}
 use Rattle.reader.proofs.read.Tie as tie

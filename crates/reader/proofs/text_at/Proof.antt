@@ -3,7 +3,7 @@
 use native.Mathlib.Omega.{arith}
 use Rattle.rules.specs.Table.{document01}
 use Rattle.message.specs.Searching.{found-inside}
-use Rattle.reader.specs.Taking.{text-found, text-ended}
+use Rattle.reader.proofs.Taking.{text-found, text-ended}
 use borrow.Author.Needs.{needs}
 use Rattle.reader.proofs.text_at.Statement.{statement}
 use Rattle.reader.proofs.text_at.Tie as tie

@@ -4,7 +4,7 @@ use Prim.Native.Nat.{_-_}
 use mathlib.Core.Path.{sym, _∙_}
 use native.Mathlib.Omega.{arith}
 use Rattle.rules.specs.Table.{document01}
-use Rattle.reader.specs.Laying.{Sized, sized-first, sized-more, sized-small, sized-end, left-none, left-full}
+use Rattle.reader.proofs.Laying.{Sized, sized-first, sized-more, sized-small, sized-end, left-none, left-full}
 use borrow.Author.Needs.{needs}
 use Rattle.reader.proofs.text_size.Statement.{statement}
 use Rattle.reader.proofs.text_size.Tie as tie

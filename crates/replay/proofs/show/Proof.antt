@@ -2,7 +2,7 @@
 -- Assumes nothing.
 use mathlib.Core.Path.{sym}
 use lib.Seq.{length-take-le}
-use Rattle.listing.specs.Longest.{text-inside}
+use Rattle.listing.proofs.Longest.{text-inside}
 use borrow.Author.Needs.{needs}
 use Rattle.replay.proofs.show.Statement.{statement}
 use Rattle.replay.proofs.show.Tie as tie

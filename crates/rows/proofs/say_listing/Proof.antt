@@ -3,7 +3,7 @@
 use mathlib.Core.Path.{sym}
 use native.Mathlib.Omega.{arith}
 use lib.Seq.{length-take-le}
-use Rattle.listing.specs.Longest.{text-inside}
+use Rattle.listing.proofs.Longest.{text-inside}
 use borrow.Author.Needs.{needs}
 use Rattle.rows.proofs.say_listing.Statement.{statement}
 use Rattle.rows.proofs.say_listing.Tie as tie

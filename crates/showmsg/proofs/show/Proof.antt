@@ -3,7 +3,7 @@
 use mathlib.Core.Path.{sym}
 use lib.Seq.{length-take-le}
 use borrow.Author.Needs.{needs}
-use Rattle.listing.specs.Longest.{text-inside}
+use Rattle.listing.proofs.Longest.{text-inside}
 use Rattle.showmsg.proofs.show.Statement.{statement}
 use Rattle.showmsg.proofs.show.Tie as tie
 

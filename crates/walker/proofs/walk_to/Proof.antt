@@ -4,7 +4,7 @@ use mathlib.Core.Path.{_≡_, refl, sym, _∙_}
 use native.Mathlib.Omega.{arith}
 use Rattle.message.specs.Searching.{found-inside}
 use Rattle.walker.specs.Steps.{walkFrom}
-use Rattle.walker.specs.Walking.{no-turns, none-here, here, onward}
+use Rattle.walker.proofs.Walking.{no-turns, none-here, here, onward}
 use borrow.Author.Needs.{needs}
 use Rattle.walker.proofs.walk_to.Statement.{statement}
 use Rattle.walker.proofs.walk_to.Tie as tie

@@ -4,7 +4,8 @@ use mathlib.Core.Path.{sym, _∙_, ap}
 use lib.ListN.{take}
 use lib.Seq.{length-take-le}
 use Rattle.writer.specs.declared.Spelling.{Spelling}
-use Rattle.writer.specs.Judging.{small, fitting, spelled-room}
+use Rattle.writer.specs.Judging.{small, fitting}
+use Rattle.writer.proofs.Judging.{spelled-room}
 use borrow.Author.Needs.{needs}
 use Rattle.writer.proofs.number_length.Statement.{statement}
 use Rattle.writer.proofs.number_length.Tie as tie

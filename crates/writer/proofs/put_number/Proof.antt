@@ -2,7 +2,7 @@
 -- Assumes nothing.
 use mathlib.Core.Path.{sym}
 use lib.Seq.{length-take-le}
-use Rattle.writer.specs.Judging.{spelled-room}
+use Rattle.writer.proofs.Judging.{spelled-room}
 use Rattle.writer.proofs.Putting.{spelled-asked, spelled-put}
 use borrow.Author.Needs.{needs}
 use Rattle.writer.proofs.put_number.Statement.{statement}

@@ -1,7 +1,7 @@
 -- `writer::with_entries` meets its contract: 12, or what the size gives.
 -- Assumes nothing.
 use lib.ListN.{length-map}
-use Rattle.writer.specs.Judging.{onMeasure}
+use Rattle.writer.proofs.Judging.{onMeasure}
 use Rattle.writer.proofs.Calls.{entries-went}
 use borrow.Author.Needs.{needs}
 use Rattle.writer.proofs.with_entries.Statement.{statement}

@@ -3,7 +3,7 @@
 use Prim.Native.Nat.{_-_}
 use native.Mathlib.Omega.{arith}
 use lib.ListN.{length}
-use Rattle.firmware.specs.DraftRecord.{Cleared, cleared-first, cleared-more, cleared-end}
+use Rattle.firmware.proofs.DraftRecord.{Cleared, cleared-first, cleared-more, cleared-end}
 use borrow.Author.Needs.{needs}
 use Rattle.firmware.proofs.drafts.clear.Statement.{statement}
 use Rattle.firmware.proofs.drafts.clear.Tie as tie

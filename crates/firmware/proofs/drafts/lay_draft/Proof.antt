@@ -7,7 +7,7 @@ use lib.ListN.{length-set, replicate}
 use Rattle.rules.specs.Table.{document01}
 use Rattle.draft.specs.Packing.{draftOf}
 use Rattle.message.specs.Parameters.{messageIn}
-use Rattle.firmware.specs.DraftRecord.{headed, kind-of, count-small}
+use Rattle.firmware.proofs.DraftRecord.{headed, kind-of, count-small}
 use borrow.Author.Needs.{needs}
 use Rattle.firmware.proofs.drafts.lay_draft.Statement.{statement}
 use Rattle.firmware.proofs.drafts.lay_draft.Tie as tie

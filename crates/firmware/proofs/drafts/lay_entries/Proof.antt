@@ -5,8 +5,8 @@ use mathlib.Core.Path.{sym, _∙_, ap}
 use native.Mathlib.Omega.{arith}
 use lib.ListN.{length, length-take, length-drop, length-replicate}
 use Rattle.rules.specs.Table.{document01}
-use Rattle.reader.specs.Laying.{left-ended, left-full}
-use Rattle.firmware.specs.DraftRecord.{Recorded, recorded-first, recorded-long, recorded-small, recorded-more, recorded-end}
+use Rattle.reader.proofs.Laying.{left-ended, left-full}
+use Rattle.firmware.proofs.DraftRecord.{Recorded, recorded-first, recorded-long, recorded-small, recorded-more, recorded-end}
 use Rattle.rules.specs.Laying.{rest-laid}
 use borrow.Author.Needs.{needs}
 use Rattle.firmware.proofs.drafts.lay_entries.Statement.{statement}

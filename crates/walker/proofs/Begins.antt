@@ -1,4 +1,4 @@
--- Where the parameters of a message begin, and that a walk over its octets gives a parameter exactly there, and that one.
+-- A walk over a message's octets gives a parameter exactly where one begins, and that one.
 -- Assumes nothing.
 use Prim.Native.Nat.{ℕ, zero, suc, _+_, _-_, _≤_, _<_}
 use mathlib.Core.Path.{_≡_, refl, sym, _∙_, ap}
@@ -11,16 +11,9 @@ use Rattle.rules.specs.Message.{body}
 use Rattle.message.specs.Searching.{Stand, at-end, found-is, contents-are, on}
 use Rattle.walker.specs.declared.Step.{Step}
 use Rattle.walker.specs.declared.Step.the-variants.{Parameter, NoMore}
+use Rattle.walker.specs.Walks.{Begins}
 use Rattle.walker.specs.Steps.{walkFrom, after}
-use Rattle.walker.specs.Walking.{none-here, stands, here, onward}
-
--- of the parameters ps, of which the first begins at `first`, one begins at `at`: behind those before it
-pub record Begins (first : ℕ) (ps : List message.Parameter) (at : ℕ) : Type 0 where
-  pub before : List message.Parameter
-  pub p : message.Parameter
-  pub behind : List message.Parameter
-  pub is : ps ≡ before ++ p ∷ behind
-  pub place : at ≡ first + length (body before)
+use Rattle.walker.proofs.Walking.{none-here, stands, here, onward}
 
 -- the step that gives a parameter: its type, its contents behind type and length, and the place behind them
 abbrev pub giving : ℕ → message.Parameter → Step

@@ -20,13 +20,10 @@ use Rattle.caption.specs.declared.Entry.the-variants.{Text, Missing}
 use Rattle.caption.specs.declared.Found.{Found}
 use Rattle.caption.specs.declared.Found.the-variants.{InMessage, InDirectory, Refused}
 use Rattle.caption.specs.Lines.{onFirst, linesOf, indexOf, behind, names}
+use Rattle.caption.specs.Directory.{span}
 use Rattle.caption.specs.Caption.{entryFrom, byEntry, byCaller, byName, findUnder, findOf, startOf, lengthOf, sliceOf, textOf, captionOf}
 
 -- ---- lines, each with its end
-unfoldable pub span : List (List ℕ) → ℕ
-span [] = 0
-span (l ∷ ls) = suc (length l) + span ls
-
 on-first-span : (x : ℕ) (ls : List (List ℕ)) (n : ℕ) → span ls ≤ suc n → span (onFirst x ls) ≤ suc (suc n)
 unfolding onFirst span
 on-first-span x [] n h = omega arith

@@ -14,7 +14,7 @@ use Rattle.rules.specs.Table.{Row, document01, classOf, styleOf, ascii}
 use Rattle.rules.specs.Message.{Message}
 use Rattle.rules.specs.Counting.{counted, carriedIn}
 use Rattle.rules.specs.Pairwise.{pairwise}
-use Rattle.listing.specs.Tabled.{differ, differ-is, below, below-at}
+use Rattle.listing.proofs.Tabled.{differ, differ-is, below, below-at}
 use Rattle.listing.specs.Listing.{printed, Line, lineOf, linesFor, rowLines, noRow, rowAt, kindLine, carriedLine, linesOf, rowCount, row-count}
 
 -- a line is among some

@@ -19,13 +19,14 @@ use Rattle.draft.specs.declared.Entry.{Entry}
 use Rattle.draft.specs.declared.Draft.{Draft}
 use Rattle.draft.specs.Draft.{noEntry, emptyOf}
 use Rattle.rules.specs.Laying.{laid, laidAt, laid-front, laid-behind, laid-length}
-use Rattle.draft.specs.Packing.{textsOf, entriesOf, draftOf, entries-length}
+use Rattle.draft.specs.Packing.{textsOf, entriesOf, draftOf}
+use Rattle.draft.proofs.Packing.{entries-length}
 use Rattle.reader.specs.declared.Packed.{Packed}
 use Rattle.reader.specs.declared.Packed.the-variants as packed
 use Rattle.reader.specs.declared.Taken.the-variants as taken
 use Rattle.reader.specs.declared.Text.the-variants as text
 use Rattle.reader.specs.Read.{textSize, textAt, entryAt, packFrom, packOf, areaFrom, areaAfter, draftFrom, readOf}
-use Rattle.reader.specs.Taking.{TextHere, text-here, text-none, EntryHere, entry-here, entry-none, size-within, accepted-long}
+use Rattle.reader.proofs.Taking.{TextHere, text-here, text-none, EntryHere, entry-here, entry-none, size-within, accepted-long}
 
 -- the parameters not yet taken
 abbrev pub left : List ℕ → ℕ → ℕ → List Parameter

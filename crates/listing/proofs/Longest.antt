@@ -21,7 +21,8 @@ use Rattle.rules.specs.declared.Class.the-variants.{Date, Number, Absent, Name,
 use Rattle.rules.specs.declared.Fault.{Fault}
 use Rattle.rules.specs.Sizes.{few}
 use Rattle.listing.specs.declared.Text.{Text}
-use Rattle.listing.specs.Numerals.{decimal, hex, two-digits, three-digits, five-digits}
+use Rattle.listing.specs.Numerals.{decimal, hex}
+use Rattle.listing.proofs.Numerals.{two-digits, three-digits, five-digits}
 use Rattle.listing.specs.Listing.{half, clock, lampWord, stateWord, reference, printed, Line, lineText, written, lineOf, linesFor, rowLines, rowAt, kindLine, carriedLine, linesOf, refusal, textOf, written-one, written-append, bufferSize}
 
 -- ---- values

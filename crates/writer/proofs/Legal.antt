@@ -12,11 +12,13 @@ use Rattle.rules.specs.Tests.{_≤?_, _=?_, _and_, pick, every, decide, both, j
 use Rattle.rules.specs.Table.{Rules}
 use Rattle.rules.specs.ContentLaw.{SoundRules}
 use Rattle.rules.specs.Sizes.{three-each}
-use Rattle.rules.specs.Message.{body, messageKind, LegalParameter, AllLegal, LegalMessage}
-use Rattle.draft.specs.Meaning.{formNumber, kindOf, formIs, same-form}
-use Rattle.draft.specs.Draft.{meaningOf, inside, allInside, parameterOf, parametersOf, used, messageOf}
+use Rattle.rules.specs.Message.{messageKind, AllLegal, LegalMessage}
+use Rattle.draft.specs.Meaning.{formNumber}
+use Rattle.draft.proofs.Meaning.{same-form}
+use Rattle.draft.specs.Draft.{allInside, parameterOf, parametersOf, used, messageOf}
 use Rattle.draft.specs.declared.Entry.{Entry}
 use Rattle.draft.specs.declared.Draft.{Draft}
+use Rattle.writer.specs.Reasons.{Makes, lengthOf}
 use Rattle.writer.specs.Writing.{legalEntry, legalBefore, sized, measuredOf, writeOf}
 use Rattle.writer.specs.declared.Written.the-variants.{Message}
 
@@ -27,12 +29,7 @@ at-most a b f = let g : b < a → ⊥ = λ l. f (of-le _ _ l) in omega arith
 pub at-least-one : (n : ℕ) → (T (n =? 0) → ⊥) → 1 ≤ n
 at-least-one n f = let g : n ≡ 0 → ⊥ = λ q. f (of-eq _ _ q) in omega arith
 
--- ---- an entry makes a legal parameter: its kind of value is its type's, its text lies inside the area, and the parameter it stands for is legal
-pub record Makes (R : Rules) (texts : List ℕ) (e : Entry) : Type 0 where
-  pub kind : formIs (meaningOf texts (e .value)) ≡ kindOf R (e .kind)
-  pub lies : T (inside texts (e .value))
-  pub legal : LegalParameter R (parameterOf texts e)
-
+-- ---- entries that make legal parameters
 module _ (R : Rules) (texts : List ℕ) where
   pub makes-iff : (e : Entry) → T (legalEntry R texts e) ↔ Makes R texts e
   unfolding legalEntry parameterOf
@@ -89,10 +86,6 @@ parameters-length texts [] = refl
 parameters-length texts (e ∷ es) = ap suc (parameters-length texts es)
 
 -- ---- sizes
--- L of a draft
-abbrev pub lengthOf : Draft → List ℕ → ℕ
-lengthOf d texts = length (body (parametersOf texts (used d)))
-
 -- ---- what the writer asks
 pub record Writable (R : Rules) (d : Draft) (texts : List ℕ) (room : ℕ) : Type 0 where
   pub kind : T (messageKind (d .kind))

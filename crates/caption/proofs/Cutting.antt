@@ -16,7 +16,7 @@ use Rattle.caption.specs.declared.Line.{Line}
 use Rattle.caption.specs.declared.Entry.{Entry}
 use Rattle.caption.specs.declared.Entry.the-variants.{Text, Missing}
 use Rattle.caption.specs.Lines.{onFirst, linesOf, indexOf, before, behind, names}
-use Rattle.caption.specs.Caption.{entryFrom}
+use Rattle.caption.specs.Caption.{entryFrom, Cuts}
 
 -- ---- the search for an octet x, from an index on
 module _ (x : ℕ) (s : List ℕ) (i : ℕ) (w : i + indexOf x (drop i s) ≡ indexOf x s) where
@@ -64,12 +64,6 @@ chosen a false x x' y y' e f g = ap (λ (z : Bool). pick z x y) (sym e) ∙ g
 
 -- ---- the search for an entry, from the line that begins at a place on
 module _ (caller d : List ℕ) (at : ℕ) where
-  -- the line that begins there: what the search makes of it
-  pub record Cuts (l : Line) : Type 0 where
-    pub inside : at + l .size ≤ length d
-    pub caller-inside : l .named ≡ true → length caller < l .size
-    pub goes : entryFrom caller at (linesOf (drop at d)) ≡ pick (l .named) (Text (at + length caller + 1) (l .size - length caller - 1)) (entryFrom caller (at + l .size + 1) (linesOf (drop (at + l .size + 1) d)))
-
   pub entry-end : length d ≤ at → entryFrom caller at (linesOf (drop at d)) ≡ Missing
   unfolding entryFrom linesOf
   entry-end h = ap (λ (r : List ℕ). entryFrom caller at (linesOf r)) (drop-of-length-le d h)
@@ -106,7 +100,7 @@ module _ (caller d : List ℕ) (at : ℕ) where
         ap (λ (k : ℕ). entryFrom caller (at + suc k) (linesOf (drop (at + suc (l .size)) d))) line-size
         ∙ ap (λ (k : ℕ). entryFrom caller k (linesOf (drop k d))) z
 
-    pub cuts : Cuts l
+    pub cuts : Cuts caller d at l
     unfolding entryFrom
     cuts = record {
       inside = omega (arith, index-most 0x0A rest, rest-size);

@@ -17,8 +17,9 @@ use Rattle.rules.specs.Message.{Message, LegalMessage}
 use Rattle.rules.specs.Counting.{counted, carriedIn}
 use Rattle.rules.specs.declared.Class.{Class}
 use Rattle.rules.specs.declared.Class.the-variants.{Date, Number, Absent, Name, Lamp, Identity, CallType, Waiting, Forwarded, User, Carried}
-use Rattle.listing.specs.Numerals.{decimal, decimal-small, decimal-big, by-digits, hexDigit, hex}
-use Rattle.listing.specs.Longest.{counted-fits}
+use Rattle.listing.specs.Numerals.{decimal, hexDigit, hex}
+use Rattle.listing.proofs.Numerals.{decimal-small, decimal-big, by-digits}
+use Rattle.listing.proofs.Longest.{counted-fits}
 use Rattle.listing.specs.Listing.{half, clock, lampWord, stateWord, reference, printed, Line, lineText, written, lineOf, linesFor, rowLines, kindLine, carriedLine, linesOf}
 
 -- ---- cutting

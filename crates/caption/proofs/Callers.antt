@@ -9,7 +9,7 @@ use Rattle.rules.specs.Contents.{Shape, text, within, inSet, allIn, contentsFit
 use Rattle.rules.specs.Table.{document01, shapeOf, classOf, rowOf, rowIn, shape01, numberSet}
 use Rattle.rules.specs.Message.{Message, LegalMessage}
 use Rattle.rules.specs.Counting.{Counts, legal-counts}
-use Rattle.caption.specs.Directory.{Without}
+use Rattle.caption.proofs.Directory.{Without}
 
 number-octet : (x : ℕ) → T (inSet numberSet x) → x ≡ 0x3D → ⊥
 unfolding inSet within _and_ _or_ _≤?_
