@@ -8,6 +8,7 @@ use native.Mathlib.Omega.{arith}
 use lib.ListN.{length, take, drop, getD}
 use lib.Seq.{getD-take, length-take-le}
 use lib.Dec.{leb}
+use Rattle.rules.specs.Message.{most}
 use Rattle.rules.specs.Tests.{_≤?_, le-of, of-le}
 use Rattle.rules.specs.Returns.{is-le, same-truth}
 use Rattle.rules.specs.Pairwise.{sameOctets, compared, agrees, differs}
@@ -30,8 +31,8 @@ parts-of s t a m b n r e =
 abbrev pub Left : List ℕ → List ℕ → ℕ → List Entry → List Entry → ℕ → Type 0
 Left s t n es fs i = sameEntries s (drop i (take n es)) t (drop i (take n fs)) ≡ sameEntries s (take n es) t (take n fs)
 
-module _ (s t : List ℕ) (n : ℕ) (es fs : List Entry) (few : n ≤ 85) (l : length es ≡ 85) (m : length fs ≡ 85) where
-  used-length : (gs : List Entry) → length gs ≡ 85 → length (take n gs) ≡ n
+module _ (s t : List ℕ) (n : ℕ) (es fs : List Entry) (few : n ≤ most) (l : length es ≡ most) (m : length fs ≡ most) where
+  used-length : (gs : List Entry) → length gs ≡ most → length (take n gs) ≡ n
   used-length gs k = length-take-le n gs (omega arith)
 
   module _ (i : ℕ) (inv : Left s t n es fs i) where

@@ -10,7 +10,7 @@ use lib.Dec.{T}
 use Rattle.rules.specs.Tests.{every, join, of-le}
 use Rattle.rules.specs.Table.{Rules, shapeOf}
 use Rattle.rules.specs.ContentLaw.{SoundRules, sound-shape, fit-octets}
-use Rattle.rules.specs.Message.{Parameter, Message, LegalParameter, AllLegal, LegalMessage}
+use Rattle.rules.specs.Message.{Parameter, Message, LegalParameter, AllLegal, LegalMessage, most}
 use Rattle.draft.specs.Meaning.{Meaning, dateIs, codeIs, stateIs, textIs, carriedIs, spelled, textIn}
 use Rattle.draft.proofs.Meaning.{DrawnRules, drawn, spelled-meant}
 use Rattle.draft.specs.Draft.{noEntry, meaningOf, inside, parameterOf, parametersOf, Said, saidOf, allSaid, allInside, used, messageOf, Equal}
@@ -71,8 +71,8 @@ module _ (R : Rules) where
   pub used-are : (m : Message) → used (draftOf R m) ≡ entriesOf R 0 (m .parameters)
   unfolding draftOf
   used-are m =
-      ap (λ (n : ℕ). take n (entriesOf R 0 (m .parameters) ++ replicate (85 - length (m .parameters)) noEntry)) (sym (entries-length 0 (m .parameters)))
-      ∙ take-append-seam (entriesOf R 0 (m .parameters)) (replicate (85 - length (m .parameters)) noEntry)
+      ap (λ (n : ℕ). take n (entriesOf R 0 (m .parameters) ++ replicate (most - length (m .parameters)) noEntry)) (sym (entries-length 0 (m .parameters)))
+      ∙ take-append-seam (entriesOf R 0 (m .parameters)) (replicate (most - length (m .parameters)) noEntry)
 
 -- ---- what is said is what it stands for
 -- the parameters that say something

@@ -7,7 +7,7 @@ use mathlib.Core.List.{List, [], _∷_}
 use lib.ListN.{length, take, drop, replicate}
 use lib.Dec.{T}
 use Rattle.rules.specs.Tests.{_≤?_, every}
-use Rattle.rules.specs.Message.{Parameter, Message}
+use Rattle.rules.specs.Message.{Parameter, Message, most}
 use Rattle.draft.specs.Meaning.{Meaning, dateIs, codeIs, stateIs, textIs, carriedIs, spelled}
 use Rattle.draft.specs.declared.Value.{Value}
 use Rattle.draft.specs.declared.Value.the-variants.{Date, Code, State, Text, Carried}
@@ -50,7 +50,7 @@ saidOf texts e = record { kind = e .kind; meaning = meaningOf texts (e .value) }
 -- ---- drafts
 -- a draft of a message type with no entries
 unfoldable pub emptyOf : ℕ → Draft
-emptyOf kind = record { kind = kind; count = 0; entries = replicate 85 noEntry }
+emptyOf kind = record { kind = kind; count = 0; entries = replicate most noEntry }
 
 -- the entries that are used
 abbrev pub used : Draft → List Entry
@@ -77,6 +77,6 @@ pub record Equal (a : Draft) (s : List ℕ) (b : Draft) (t : List ℕ) : Type 0 
   pub kind : a .kind ≡ b .kind
   pub count : a .count ≡ b .count
   pub entries : allSaid s (used a) ≡ allSaid t (used b)
-  pub few : a .count ≤ 85
+  pub few : a .count ≤ most
   pub left : T (allInside s (used a))
   pub right : T (allInside t (used b))

@@ -4,7 +4,7 @@ use Prim.Native.Nat.{ℕ, _+_, _-_}
 use mathlib.Core.List.{List, [], _∷_, _++_}
 use lib.ListN.{length, replicate}
 use Rattle.rules.specs.Table.{Rules}
-use Rattle.rules.specs.Message.{Parameter, Message}
+use Rattle.rules.specs.Message.{Parameter, Message, most}
 use Rattle.draft.specs.Meaning.{Meaning, dateIs, codeIs, stateIs, textIs, carriedIs, meant, textIn, kindOf}
 use Rattle.draft.specs.Draft.{noEntry}
 use Rattle.draft.specs.declared.Value.{Value}
@@ -46,5 +46,5 @@ draftOf R m =
     record {
       kind = m .kind;
       count = length (m .parameters);
-      entries = entriesOf R 0 (m .parameters) ++ replicate (85 - length (m .parameters)) noEntry;
+      entries = entriesOf R 0 (m .parameters) ++ replicate (most - length (m .parameters)) noEntry;
     }

@@ -5,6 +5,7 @@ use Prim.Native.Nat.{ℕ, _+_}
 use mathlib.Core.Bool.{Bool}
 use mathlib.Core.List.{List}
 use lib.ListN.{length, take, drop}
+use Rattle.rules.specs.Message.{most}
 use Rattle.rules.specs.Tests.{_≤?_, _=?_, _and_}
 use Rattle.rules.specs.Pairwise.{pairwise, sameOctets}
 use Rattle.draft.specs.Draft.{used}
@@ -52,4 +53,4 @@ sameEntries s es t fs = pairwise (λ (e f : Entry). sameEntry s e t f) es fs
 
 -- message type, number of entries (at most 85) and, entry by entry, type and value
 unfoldable pub sameDraft : Draft → List ℕ → Draft → List ℕ → Bool
-sameDraft a s b t = a .kind =? b .kind and (a .count =? b .count and (a .count ≤? 85 and sameEntries s (used a) t (used b)))
+sameDraft a s b t = a .kind =? b .kind and (a .count =? b .count and (a .count ≤? most and sameEntries s (used a) t (used b)))

@@ -1,12 +1,14 @@
 // Drafts (document 01, Drafts): a message type and up to 85 entries, each a parameter type with its value.
 use rules::Class;
 use rules::Form;
+use rules::MOST;
 ghost use mathlib.Core.Path.{_≡_};
 ghost use Prim.Native.Nat.{_+_, _≤_};
 ghost use lib.ListN as list;
 ghost use Rattle.rules.specs.Tests.{_≤?_};
 ghost use Rattle.rules.specs.Pairwise.{sameOctets};
 ghost use Rattle.rules.specs.Table.{formOf};
+ghost use Rattle.rules.specs.Message.{most};
 ghost use Rattle.draft.specs.Meaning.{formNumber};
 ghost use Rattle.draft.specs.Draft.{noEntry, emptyOf};
 ghost use Rattle.draft.specs.Same.{flatOf, textAt, sameText, sameNumbers, sameFlat, sameEntry, sameEntries, sameDraft};
@@ -41,7 +43,7 @@ pub struct Entry {
 pub struct Draft {
     pub kind: u8,
     pub count: usize,
-    pub entries: [Entry; 85],
+    pub entries: [Entry; MOST],
 }
 
 // An entry place that is not used.
@@ -59,7 +61,7 @@ pub fn empty(kind: u8) -> Draft
     ensures { λ r. ⌜ r ≡ emptyOf kind ⌝ }
 {
     let none = no_entry();
-    let entries = [none; 85];
+    let entries = [none; MOST];
     Draft {
         kind,
         count: 0,
@@ -235,7 +237,7 @@ fn same_entry(s: &[u8], e: Entry, t: &[u8], f: Entry) -> bool
 }
 
 fn same_entries(a: Draft, s: &[u8], b: Draft, t: &[u8]) -> bool
-    requires { ⌜ a .count ≤ 85 ⌝ }
+    requires { ⌜ a .count ≤ most ⌝ }
     ensures { λ r. ⌜ r ≡ sameEntries (now (s .entry)) (list.take (a .count) (a .entries)) (now (t .entry)) (list.take (a .count) (b .entries)) ⌝ }
 {
     let n = a.count;
@@ -260,7 +262,7 @@ pub fn same(a: Draft, s: &[u8], b: Draft, t: &[u8]) -> bool
 {
     if a.kind == b.kind {
         if a.count == b.count {
-            if a.count <= 85 {
+            if a.count <= MOST {
                 same_entries(a, s, b, t)
             } else {
                 false

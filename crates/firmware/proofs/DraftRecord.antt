@@ -8,6 +8,7 @@ use native.Mathlib.Omega.{arith}
 use lib.ListN.{length, length-append, length-set, take, drop, set, getD, replicate, replicate-append-replicate}
 use lib.Seq.{take-append-add, drop-append-add, take-nil, drop-nil, set-split, take-suc-set, take-all}
 use lib.Dec.{T}
+use Rattle.rules.specs.Message.{most}
 use Rattle.rules.specs.Tests.{_=?_, pick, le-of}
 use Rattle.rules.specs.Table.{document01}
 use Rattle.draft.specs.declared.Value.{Value}
@@ -90,9 +91,9 @@ module _ (o : List ℕ) where
 
   pub recorded-first : (cells : List ℕ) → cells ≡ replicate 688 0 → Recorded 0 2 0 cells
   recorded-first cells e = record {
-    entries = replicate 85 noEntry;
+    entries = replicate most noEntry;
     filled = filled-first document01 o;
-    cells-are = e ∙ sym (replicate-append-replicate 8 680 0) ∙ ap (λ (l : List ℕ). zeros ++ l) (sym (none-cells 85));
+    cells-are = e ∙ sym (replicate-append-replicate 8 680 0) ∙ ap (λ (l : List ℕ). zeros ++ l) (sym (none-cells most));
   }
 
   cells-length : (es : List Entry) → length (entriesCells es) ≡ 8 * length es
@@ -104,7 +105,7 @@ module _ (o : List ℕ) where
     pub recorded-long : length cells ≡ 688
     recorded-long = omega (arith, ap length (w .cells-are), length-append zeros (entriesCells (w .entries)), cells-length (w .entries), w .filled .long)
 
-    module _ (h : count < 85) (e : Entry) (n place : ℕ) (t : taken.Next e n place ≡ entryAt document01 o at used) where
+    module _ (h : count < most) (e : Entry) (n place : ℕ) (t : taken.Next e n place ≡ entryAt document01 o at used) where
       pub recorded-small : used + n ≤ length o
       recorded-small = filled-small document01 o count at used (w .entries) (w .filled) h e n place t
 
@@ -129,9 +130,9 @@ pub kind-of : (o : List ℕ) → getD o 0 0 ≡ draftOf document01 (messageIn o)
 unfolding draftOf messageIn
 kind-of o = refl
 
-pub count-small : (o : List ℕ) → draftOf document01 (messageIn o) .count ≤ 85
+pub count-small : (o : List ℕ) → draftOf document01 (messageIn o) .count ≤ most
 unfolding draftOf messageIn parametersIn
-count-small o = parameters-few 85 o 2
+count-small o = parameters-few most o 2
 
 -- ---- octets cleared one after the other
 pub record Cleared (old : List ℕ) (i : ℕ) (cells : List ℕ) : Type 0 where

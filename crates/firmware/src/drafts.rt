@@ -103,7 +103,7 @@ fn lay_entries(octets: &[u8], cells: &mut [u8]) -> usize
     let mut at: usize = 2;
     let mut used: usize = 0;
     let mut count: usize = 0;
-    while count < 85 {
+    while count < rules::MOST {
         let taken = reader::entry(octets, at, used);
         match taken {
             Taken::Next { entry, text, place } => {

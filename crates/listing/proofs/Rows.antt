@@ -8,6 +8,7 @@ use native.Mathlib.Numerals.{add-one}
 use native.Mathlib.Omega.{arith}
 use lib.ListN.{length, length-append, getD, take, drop, take-append-drop}
 use lib.Seq.{take-suc}
+use Rattle.rules.specs.Message.{most}
 use Rattle.rules.specs.Tests.{pick}
 use Rattle.rules.specs.Table.{Row, document01, listed, ascii}
 use Rattle.rules.specs.Counting.{carriedIn}
@@ -99,9 +100,9 @@ module _ (o : List ℕ) where
 -- ---- how many are carried
 module _ (o : List ℕ) where
   abbrev pub Counted : ℕ → ℕ → ℕ → Type 0
-  Counted count at turns = (count + carriedIn document01 (parametersFrom turns o at) ≡ carriedIn document01 (parametersIn o)) × (count + turns ≤ 85)
+  Counted count at turns = (count + carriedIn document01 (parametersFrom turns o at) ≡ carriedIn document01 (parametersIn o)) × (count + turns ≤ most)
 
-  pub none-counted : Counted 0 2 85
+  pub none-counted : Counted 0 2 most
   unfolding parametersIn
   none-counted = (omega arith, omega arith)
 
@@ -117,7 +118,7 @@ module _ (o : List ℕ) where
 
   module _ (count at turns : ℕ) (i : Counted count at turns) where
     module _ (h : 0 < turns) (k s n x : ℕ) (e : Parameter k s n ≡ parameterAt o at) (d : x ≡ pick (listed document01 k) 0 1) where
-      pub counted-small : count + x ≤ 85
+      pub counted-small : count + x ≤ most
       counted-small = omega (arith, few (listed document01 k), i .1)
 
       pub counted-more : Counted (count + x) (s + n) (turns - 1)

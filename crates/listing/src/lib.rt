@@ -279,7 +279,7 @@ fn carried(octets: &[u8]) -> u16
 {
     let mut count: u16 = 0;
     let mut at: usize = 2;
-    let mut turns: usize = 85;
+    let mut turns: usize = rules::MOST;
     while 0 < turns {
         let found = message::parameter(octets, at);
         match found {

@@ -10,7 +10,7 @@ use Rattle.rules.specs.Table.{Rules}
 use Rattle.rules.specs.ContentLaw.{SoundRules}
 use Rattle.rules.specs.Sizes.{few}
 use Rattle.rules.specs.Message as message
-use Rattle.rules.specs.Message.{front, octets, LegalMessage}
+use Rattle.rules.specs.Message.{front, octets, LegalMessage, most}
 use Rattle.message.specs.declared.Found.{Found}
 use Rattle.message.specs.declared.Found.the-variants.{Parameter, Nothing}
 use Rattle.message.specs.Walking.{parameterAt}
@@ -28,7 +28,7 @@ parametersFrom (suc turns) o at = found o (parameterAt o at) (parametersFrom tur
 
 -- a message has 85 parameters at most, the first at octet 2
 unfoldable pub parametersIn : List ℕ → List message.Parameter
-parametersIn o = parametersFrom 85 o 2
+parametersIn o = parametersFrom most o 2
 
 -- the message that accepted octets are
 unfoldable pub messageIn : List ℕ → message.Message
@@ -78,4 +78,4 @@ module _ (R : Rules) (S : SoundRules R) where
   unfolding messageIn parametersIn octets
   message-in m l =
       ap (λ (ps : List message.Parameter). record { kind = m .kind; parameters = ps })
-      (parameters-are (octets m) (checksum (total (front m))) 85 2 (m .parameters) refl (few R S m l))
+      (parameters-are (octets m) (checksum (total (front m))) most 2 (m .parameters) refl (few R S m l))

@@ -13,7 +13,7 @@ use Rattle.rules.specs.declared.Fault.{Fault}
 use Rattle.message.specs.declared.Verdict.{Verdict}
 use Rattle.message.specs.declared.Verdict.the-variants.{Accepted, Declined}
 use Rattle.message.specs.Verdict.{verdictOf}
-use Rattle.rules.specs.Message.{Parameter}
+use Rattle.rules.specs.Message.{Parameter, most}
 use Rattle.message.specs.Parameters.{parametersFrom, parametersIn, messageIn, no-more}
 use Rattle.draft.specs.declared.Entry.{Entry}
 use Rattle.draft.specs.declared.Draft.{Draft}
@@ -30,20 +30,20 @@ use Rattle.reader.proofs.Taking.{TextHere, text-here, text-none, EntryH
 
 -- the parameters not yet taken
 abbrev pub left : List ℕ → ℕ → ℕ → List Parameter
-left o count at = parametersFrom (85 - count) o at
+left o count at = parametersFrom (most - count) o at
 
 -- none are left after 85, or where none stands
-pub left-full : (o : List ℕ) (count at : ℕ) → 85 ≤ count → left o count at ≡ []
-left-full o count at h = no-more (85 - count) o at (omega arith)
+pub left-full : (o : List ℕ) (count at : ℕ) → most ≤ count → left o count at ≡ []
+left-full o count at h = no-more (most - count) o at (omega arith)
 
-pub left-none : (R : Rules) (o : List ℕ) (count at : ℕ) → count < 85 → text.End ≡ textAt R o at → left o count at ≡ []
-left-none R o count at h e = text-none R o (85 - count) at (omega arith) e
+pub left-none : (R : Rules) (o : List ℕ) (count at : ℕ) → count < most → text.End ≡ textAt R o at → left o count at ≡ []
+left-none R o count at h e = text-none R o (most - count) at (omega arith) e
 
-pub left-ended : (R : Rules) (o : List ℕ) (count at used : ℕ) → count < 85 → taken.End ≡ entryAt R o at used → left o count at ≡ []
-left-ended R o count at used h e = entry-none R o (85 - count) at (omega arith) used e
+pub left-ended : (R : Rules) (o : List ℕ) (count at used : ℕ) → count < most → taken.End ≡ entryAt R o at used → left o count at ≡ []
+left-ended R o count at used h e = entry-none R o (most - count) at (omega arith) used e
 
-turn : (o : List ℕ) (count at : ℕ) → parametersFrom (85 - count - 1) o at ≡ left o (count + 1) at
-turn o count at = let z : 85 - count - 1 ≡ 85 - (count + 1) = omega arith in ap (λ (n : ℕ). parametersFrom n o at) z
+turn : (o : List ℕ) (count at : ℕ) → parametersFrom (most - count - 1) o at ≡ left o (count + 1) at
+turn o count at = let z : most - count - 1 ≡ most - (count + 1) = omega arith in ap (λ (n : ℕ). parametersFrom n o at) z
 
 module _ (R : Rules) (o : List ℕ) where
   size-is : textSize R o ≡ length (textsOf R (parametersIn o))
@@ -52,7 +52,7 @@ module _ (R : Rules) (o : List ℕ) where
 
   -- ---- the size of the texts
   pub record Sized (count at size : ℕ) : Type 0 where
-    pub few : count ≤ 85
+    pub few : count ≤ most
     pub sum : size + length (textsOf R (left o count at)) ≡ textSize R o
 
   pub sized-first : Sized 0 2 0
@@ -60,16 +60,16 @@ module _ (R : Rules) (o : List ℕ) where
   sized-first = record { few = omega arith; sum = omega arith }
 
   module _ (count at size : ℕ) (s : Sized count at size) where
-    module _ (h : count < 85) (start n place : ℕ) (e : text.At start n place ≡ textAt R o at) where
-      here : TextHere R o (85 - count) at (omega arith) start n place
-      here = text-here R o (85 - count) at (omega arith) start n place e
+    module _ (h : count < most) (start n place : ℕ) (e : text.At start n place ≡ textAt R o at) where
+      here : TextHere R o (most - count) at (omega arith) start n place
+      here = text-here R o (most - count) at (omega arith) start n place e
 
       text-long : length (take n (drop start o)) ≡ n
       text-long = length-take-le n (drop start o) (omega (arith, length-drop start o, here .lies))
 
       parted : length (textsOf R (left o count at)) ≡ n + length (textsOf R (left o (count + 1) place))
       parted =
-          ap length (here .texts) ∙ length-append (take n (drop start o)) (textsOf R (parametersFrom (85 - count - 1) o place))
+          ap length (here .texts) ∙ length-append (take n (drop start o)) (textsOf R (parametersFrom (most - count - 1) o place))
           ∙ ap₂ (λ (a : ℕ) (ps : List Parameter). a + length (textsOf R ps)) text-long (turn o count place)
 
       pub sized-more : Sized (count + 1) place (size + n)
@@ -95,7 +95,7 @@ module _ (R : Rules) (o : List ℕ) where
     laid-first = record { sized = sized-first; long = refl; texts = refl; rest = refl }
 
     module _ (count at used : ℕ) (area : List ℕ) (w : Laid old count at used area) where
-      module _ (h : count < 85) (start n place : ℕ) (e : text.At start n place ≡ textAt R o at) where
+      module _ (h : count < most) (start n place : ℕ) (e : text.At start n place ≡ textAt R o at) where
         pub laid-room : (start + n ≤ length o) × (used + n ≤ length area)
         laid-room = (here count at used (w .sized) h start n place e .lies, omega (arith, w .sized .sum, parted count at used (w .sized) h start n place e, w .long))
 
@@ -130,20 +130,20 @@ module _ (R : Rules) (o : List ℕ) where
 
   -- ---- the entries taken
   pub record Filled (count at used : ℕ) (entries : List Entry) : Type 0 where
-    pub few : count ≤ 85
-    pub long : length entries ≡ 85
+    pub few : count ≤ most
+    pub long : length entries ≡ most
     pub used-small : used ≤ at
     pub front : take count entries ++ entriesOf R used (left o count at) ≡ entriesOf R 0 (parametersIn o)
-    pub rest : drop count entries ≡ replicate (85 - count) noEntry
+    pub rest : drop count entries ≡ replicate (most - count) noEntry
 
-  pub filled-first : Filled 0 2 0 (replicate 85 noEntry)
+  pub filled-first : Filled 0 2 0 (replicate most noEntry)
   unfolding parametersIn
-  filled-first = record { few = omega arith; long = length-replicate 85 noEntry; used-small = omega arith; front = refl; rest = refl }
+  filled-first = record { few = omega arith; long = length-replicate most noEntry; used-small = omega arith; front = refl; rest = refl }
 
   module _ (count at used : ℕ) (entries : List Entry) (w : Filled count at used entries) where
-    module _ (h : count < 85) (e : Entry) (n place : ℕ) (t : taken.Next e n place ≡ entryAt R o at used) where
-      entry-is : EntryHere R o (85 - count) at (omega arith) used e n place
-      entry-is = entry-here R o (85 - count) at (omega arith) used e n place t
+    module _ (h : count < most) (e : Entry) (n place : ℕ) (t : taken.Next e n place ≡ entryAt R o at used) where
+      entry-is : EntryHere R o (most - count) at (omega arith) used e n place
+      entry-is = entry-here R o (most - count) at (omega arith) used e n place t
 
       pub filled-small : used + n ≤ length o
       filled-small = omega (arith, w .used-small, entry-is .behind, entry-is .lies)
@@ -163,7 +163,7 @@ module _ (R : Rules) (o : List ℕ) where
             rest =
                 drop-set-lt (count + 1) entries count e (omega arith)
                 ∙ sym (drop-drop 1 count entries)
-                ∙ ap (drop 1) (w .rest ∙ (let z : 85 - count ≡ suc (85 - (count + 1)) = omega arith in ap (λ (k : ℕ). replicate k noEntry) z));
+                ∙ ap (drop 1) (w .rest ∙ (let z : most - count ≡ suc (most - (count + 1)) = omega arith in ap (λ (k : ℕ). replicate k noEntry) z));
           }
 
     pub filled-end : (d : Draft) → d .kind ≡ getD o 0 0 → d .count ≡ count → d .entries ≡ entries → left o count at ≡ [] → d ≡ draftOf R (messageIn o)
@@ -172,8 +172,8 @@ module _ (R : Rules) (o : List ℕ) where
         let t : take count entries ≡ entriesOf R 0 (parametersIn o) = sym (append-nil (take count entries)) ∙ ap (λ (ps : List Parameter). take count entries ++ entriesOf R used ps) (sym e) ∙ w .front in
         let n : count ≡ length (parametersIn o) = sym (length-take-le count entries (omega (arith, w .few, w .long))) ∙ ap length t ∙ entries-length R 0 (parametersIn o) in
         let a : d .count ≡ length (parametersIn o) = c ∙ n in
-        let b : d .entries ≡ entriesOf R 0 (parametersIn o) ++ replicate (85 - length (parametersIn o)) noEntry =
-        s ∙ sym (take-append-drop count entries) ∙ ap₂ _++_ t (w .rest ∙ ap (λ (m : ℕ). replicate (85 - m) noEntry) n) in
+        let b : d .entries ≡ entriesOf R 0 (parametersIn o) ++ replicate (most - length (parametersIn o)) noEntry =
+        s ∙ sym (take-append-drop count entries) ∙ ap₂ _++_ t (w .rest ∙ ap (λ (m : ℕ). replicate (most - m) noEntry) n) in
         λ i. record { kind = k i; count = a i; entries = b i }
 
 -- ---- the verdict, then 9, then the texts

@@ -10,7 +10,7 @@ use Rattle.rules.specs.Tests.{pick, picked-by, eq-of, clash}
 use Rattle.rules.specs.Table.{Rules}
 use Rattle.rules.specs.declared.Form.{Form}
 use Rattle.rules.specs.declared.Form.the-variants.{DateValue, CodeValue, StateValue, TextValue, CarriedValue}
-use Rattle.rules.specs.Message.{Parameter, body}
+use Rattle.rules.specs.Message.{Parameter, body, most}
 use Rattle.rules.specs.Machine.{answer}
 use Rattle.rules.specs.Judge.{machine}
 use Rattle.rules.specs.declared.State.{State}
@@ -160,7 +160,7 @@ texts-in-body R (p ∷ ps) =
 
 pub size-within : (R : Rules) (o : List ℕ) → textSize R o ≤ length o
 unfolding textSize parametersIn
-size-within R o = omega (arith, texts-within R 85 o 2)
+size-within R o = omega (arith, texts-within R most o 2)
 
 -- an accepted message's size is the number of octets
 pub accepted-long : (R : Rules) (o : List ℕ) (n : ℕ) → Accepted n ≡ verdictOf R o → length o ≡ n

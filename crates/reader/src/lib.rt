@@ -7,6 +7,7 @@ use message::Found;
 use message::Verdict;
 use rules::Fault;
 use rules::Form;
+use rules::MOST;
 ghost use mathlib.Core.Path.{_≡_};
 ghost use Prim.Native.Nat.{_+_, _≤_};
 ghost use lib.ListN.{length, take, drop};
@@ -167,7 +168,7 @@ fn text_size(octets: &[u8]) -> usize
     let mut at: usize = 2;
     let mut size: usize = 0;
     let mut count: usize = 0;
-    while count < 85 {
+    while count < MOST {
         let text = text_at(octets, at);
         match text {
             Text::At {
@@ -204,7 +205,7 @@ fn lay_texts(octets: &[u8], area: &mut [u8])
     let mut at: usize = 2;
     let mut used: usize = 0;
     let mut count: usize = 0;
-    while count < 85 {
+    while count < MOST {
         let text = text_at(octets, at);
         match text {
             Text::At {
@@ -274,12 +275,12 @@ fn draft_of(octets: &[u8]) -> Draft
     ensures { λ r. ⌜ r ≡ draftOf document01 (messageIn (now (octets .entry))) ⌝ }
 {
     let none = draft::no_entry();
-    let mut entries = [none; 85];
+    let mut entries = [none; MOST];
     let kind = message::octet(octets, 0);
     let mut at: usize = 2;
     let mut used: usize = 0;
     let mut count: usize = 0;
-    while count < 85 {
+    while count < MOST {
         let taken = entry(octets, at, used);
         match taken {
             Taken::Next { entry, text, place } => {

@@ -32,6 +32,10 @@ front m = m .kind ∷ length (body (m .parameters)) ∷ body (m .parameters)
 unfoldable pub octets : Message → List ℕ
 octets m = front m ++ checksum (total (front m)) ∷ []
 
+-- at most so many parameters: each takes three of 255 octets (`few` in Sizes)
+abbrev pub most : ℕ
+most = 85
+
 -- a call message or a notice
 unfoldable pub messageKind : ℕ → Bool
 messageKind x = x =? 0x80 or x =? 0x82

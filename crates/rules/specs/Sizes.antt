@@ -7,7 +7,7 @@ use native.Mathlib.Omega.{arith}
 use lib.ListN.{length, length-append}
 use Rattle.rules.specs.Octets.{total, checksum}
 use Rattle.rules.specs.Table.{Rules, shapeOf}
-use Rattle.rules.specs.Message.{Parameter, Message, body, front, octets, AllLegal, LegalMessage}
+use Rattle.rules.specs.Message.{Parameter, Message, body, front, octets, AllLegal, LegalMessage, most}
 use Rattle.rules.specs.ContentLaw.{SoundRules, sound-shape, fit-length, some-length}
 
 -- L + 3 octets in all
@@ -30,5 +30,5 @@ module _ (R : Rules) (S : SoundRules R) where
       omega (arith, three-each ps (l .1), length-append (p .contents) (body ps))
 
   -- so 85 fill a message
-  pub few : (m : Message) → LegalMessage R m → length (m .parameters) ≤ 85
+  pub few : (m : Message) → LegalMessage R m → length (m .parameters) ≤ most
   few m l = omega (arith, three-each (m .parameters) (l .parameters), l .short)

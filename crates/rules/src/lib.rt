@@ -17,6 +17,9 @@ ghost use Rattle.rules.specs.Judge as judge;
 ghost use Rattle.rules.specs.declared.Class.the-variants as class;
 ghost use Rattle.rules.specs.declared.Stage.the-variants as stage;
 
+// A message has at most so many parameters: each takes three of its 255 octets (document 01, The message).
+pub const MOST: usize = 85;
+
 // The classes of contents.
 pub enum Class {
     Date,

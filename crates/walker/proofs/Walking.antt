@@ -5,6 +5,7 @@ use mathlib.Core.Path.{_≡_, refl, _∙_, ap}
 use mathlib.Core.List.{List}
 use native.Mathlib.Omega.{arith}
 use lib.ListN.{length}
+use Rattle.rules.specs.Message.{most}
 use Rattle.rules.specs.Tests.{_=?_, pick, pick-yes, pick-not, pick-case, of-eq, eq-of, clash}
 use Rattle.rules.specs.declared.Fault.{Fault}
 use Rattle.message.specs.declared.Found.{Found}
@@ -81,5 +82,5 @@ module _ (o : List ℕ) where
 
   pub under-inside : (v : Verdict) (at : ℕ) → Inside (stepUnder v o at)
   unfolding stepUnder told
-  under-inside (Accepted n) at = walk-inside 85 at 2
+  under-inside (Accepted n) at = walk-inside most at 2
   under-inside (Declined f) at = omega arith

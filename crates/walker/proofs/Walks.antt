@@ -13,7 +13,7 @@ use Rattle.rules.specs.Table.{document01}
 use Rattle.rules.specs.Unique.{document01-told}
 use Rattle.rules.specs.ContentLaw.{document01-sound}
 use Rattle.rules.specs.Message as message
-use Rattle.rules.specs.Message.{Message, body, front, octets, LegalMessage}
+use Rattle.rules.specs.Message.{Message, body, front, octets, LegalMessage, most}
 use Rattle.rules.specs.declared.Fault.{Fault}
 use Rattle.message.specs.declared.Verdict.{Verdict}
 use Rattle.message.specs.declared.Verdict.the-variants.{Accepted, Declined}
@@ -30,7 +30,7 @@ use Rattle.walker.specs.Walks.{Begins, Gives, Stands, Walks}
 
 -- ---- the step and the verdict
 module _ (o : List ℕ) (at : ℕ) where
-  accepted-is : (v : Verdict) (n : ℕ) → v ≡ Accepted n → stepUnder v o at ≡ walkFrom 85 o at 2
+  accepted-is : (v : Verdict) (n : ℕ) → v ≡ Accepted n → stepUnder v o at ≡ walkFrom most o at 2
   unfolding stepUnder
   accepted-is v n e = rw e
 
@@ -41,12 +41,12 @@ module _ (o : List ℕ) (at : ℕ) where
 
   refused-of : (v : Verdict) (f : Fault) → (stepUnder v o at ≡ Refused f) ↔ (v ≡ Declined f)
   unfolding stepUnder
-  refused-of (Accepted n) f = (λ e. absurd (walk-plain o 85 at 2 .1 f e), λ e. clash cc)
+  refused-of (Accepted n) f = (λ e. absurd (walk-plain o most at 2 .1 f e), λ e. clash cc)
   refused-of (Declined g) f = (λ e. cc, λ e. cc)
 
   numbers-of : (v : Verdict) → ((f : Fault) → v ≡ Declined f → f .number ≤ 8) → told (stepUnder v o at) .number ≤ 8
   unfolding stepUnder told
-  numbers-of (Accepted n) h = omega (arith, walk-plain o 85 at 2 .0)
+  numbers-of (Accepted n) h = omega (arith, walk-plain o most at 2 .0)
   numbers-of (Declined f) h = h f refl
 
 refusal-of : (at : ℕ) (r : Step) (f : Fault) → r ≡ Refused f → (told r .number ≡ f .number) × (told r .place ≡ f .place) × (told r .more ≡ 0) × (after at r ≡ at)
@@ -71,7 +71,7 @@ module _ (m : Message) (l : LegalMessage document01 m) where
   abbrev c : ℕ
   c = checksum (total (front m))
 
-  legal-step : (at : ℕ) → stepOf document01 o at ≡ walkFrom 85 o at 2
+  legal-step : (at : ℕ) → stepOf document01 o at ≡ walkFrom most o at 2
   unfolding stepOf
   legal-step at = accepted-is o at _ (length o) (judges o (document01-told .octets _ (m, l, refl)) .accepted (length o) .1 (refl, (m, l, refl)))
 
@@ -81,11 +81,11 @@ module _ (m : Message) (l : LegalMessage document01 m) where
 
   step-gives : (at : ℕ) (b : Begins 2 (m .parameters) at) → Gives o at (b .p) (stepOf document01 o at)
   step-gives at b =
-      subst (Gives o at (b .p)) (sym (legal-step at ∙ walk-begins o c 85 at 2 (m .parameters) stand (few document01 document01-sound m l) b))
+      subst (Gives o at (b .p)) (sym (legal-step at ∙ walk-begins o c most at 2 (m .parameters) stand (few document01 document01-sound m l) b))
       (giving-gives o at (b .p) (contents-stand o c at 2 (m .parameters) stand b))
 
   none-at : (at : ℕ) → (Begins 2 (m .parameters) at → ⊥) → stepOf document01 o at ≡ NoMore
-  none-at at n = legal-step at ∙ walk-none o c 85 at 2 (m .parameters) stand (few document01 document01-sound m l) n
+  none-at at n = legal-step at ∙ walk-none o c most at 2 (m .parameters) stand (few document01 document01-sound m l) n
 
   long-is : length o ≡ 3 + length (body (m .parameters))
   unfolding octets
@@ -94,7 +94,7 @@ module _ (m : Message) (l : LegalMessage document01 m) where
   step-stands : (at : ℕ) → Stands m at (stepOf document01 o at)
   step-stands at = record {
     parameter = step-gives at;
-    begins = λ e. let g = given-is _ e in walk-begun o c 85 at 2 (m .parameters) stand (few document01 document01-sound m l) _ _ _ _ (sym (legal-step at) ∙ g .4);
+    begins = λ e. let g = given-is _ e in walk-begun o c most at 2 (m .parameters) stand (few document01 document01-sound m l) _ _ _ _ (sym (legal-step at) ∙ g .4);
     none = none-at at;
     none-early = λ h. none-at at (λ b. omega (arith, b .place, h));
     none-inside = λ place b h k. none-at at (λ d. omega (arith, begins-apart 2 (m .parameters) place at b d h, k));
@@ -107,7 +107,7 @@ module _ (m : Message) (l : LegalMessage document01 m) where
   place-is zero = refl
   place-is (suc calls) =
       ap₂ after (place-is calls) (ap (stepOf document01 o) (place-is calls) ∙ legal-step _)
-      ∙ walk-on o c 85 2 (m .parameters) calls stand (few document01 document01-sound m l)
+      ∙ walk-on o c most 2 (m .parameters) calls stand (few document01 document01-sound m l)
 
   -- the call that as many went before as the parameter p has before it gives p
   pub in-order : (b : List message.Parameter) (p : message.Parameter) (a : List message.Parameter) → m .parameters ≡ b ++ p ∷ a → Gives o (placeAt document01 o (length b)) p (stepOf document01 o (placeAt document01 o (length b)))
@@ -124,7 +124,7 @@ module _ (m : Message) (l : LegalMessage document01 m) where
   no-more calls h =
       ap (stepOf document01 o) (place-is calls)
       ∙ legal-step _
-      ∙ walk-ended o c 85 2 (m .parameters) calls stand (few document01 document01-sound m l) h
+      ∙ walk-ended o c most 2 (m .parameters) calls stand (few document01 document01-sound m l) h
 
 module _ (o : List ℕ) (q : Octets o) (at : ℕ) where
   abbrev v : Verdict
@@ -138,7 +138,7 @@ module _ (o : List ℕ) (q : Octets o) (at : ℕ) where
   walks = record {
     done = (
       λ e. let a = accepted-of o at v (λ f k. J .numbers f k .0) e in J .accepted (a .0) .0 (a .1) .1,
-      λ a. ap (λ (r : Step). told r .number) (accepted-is o at v (length o) (J .accepted (length o) .1 (refl, a))) ∙ walk-plain o 85 at 2 .0,
+      λ a. ap (λ (r : Step). told r .number) (accepted-is o at v (length o) (J .accepted (length o) .1 (refl, a))) ∙ walk-plain o most at 2 .0,
     );
     verdict = v;
     judged = J;

@@ -2,6 +2,7 @@
 -- Assumes nothing.
 use Prim.Native.Nat.{ℕ, zero, suc, _+_}
 use mathlib.Core.List.{List}
+use Rattle.rules.specs.Message.{most}
 use Rattle.rules.specs.Tests.{_=?_, pick}
 use Rattle.rules.specs.Table.{Rules}
 use Rattle.message.specs.declared.Verdict.{Verdict}
@@ -25,7 +26,7 @@ walkFrom (suc turns) o at place = met at place (parameterAt o place) (walkFrom t
 
 -- octets that the whole read declines get its number and place; of a message the walk begins at 2 and meets 85 parameters at most
 unfoldable pub stepUnder : Verdict → List ℕ → ℕ → Step
-stepUnder (Accepted n) o at = walkFrom 85 o at 2
+stepUnder (Accepted n) o at = walkFrom most o at 2
 stepUnder (Declined f) o at = Refused f
 
 -- what stands at the place `at` of the octets o, by the whole read's verdict on o

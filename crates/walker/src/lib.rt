@@ -5,6 +5,7 @@ use message::Verdict;
 use rules::Fault;
 ghost use mathlib.Core.Path.{_≡_};
 ghost use Rattle.rules.specs.Table.{document01};
+ghost use Rattle.rules.specs.Message.{most};
 ghost use Rattle.walker.specs.Steps.{walkFrom, stepOf, after};
 ghost use Rattle.walker.specs.Moves.{Begun, Seen, Moved};
 
@@ -22,10 +23,10 @@ pub enum Step {
 
 // The parameter that begins at a place: parameters begin at 2 and behind one another, 85 at most.
 fn walk_to(message: &[u8], at: usize) -> Step
-    ensures { λ r. ⌜ r ≡ walkFrom 85 (now (message .entry)) at 2 ⌝ }
+    ensures { λ r. ⌜ r ≡ walkFrom most (now (message .entry)) at 2 ⌝ }
 {
     let mut place: usize = 2;
-    let mut turns: u8 = 85;
+    let mut turns: usize = rules::MOST;
     while 0 < turns {
         let found = message::parameter(message, place);
         match found {

@@ -6,6 +6,7 @@ use mathlib.Core.List.{List}
 use native.Mathlib.Omega.{arith}
 use lib.ListN.{length, take, drop}
 use lib.Seq.{length-take-le}
+use Rattle.rules.specs.Message.{most}
 use Rattle.rules.specs.Tests.{_≤?_, pick}
 use Rattle.rules.specs.Table.{document01, classOf, formOf}
 use Rattle.rules.specs.declared.Class.{Class}
@@ -28,10 +29,10 @@ use Rattle.writer.specs.declared.Measure.{Measure}
 pub part-of : (a n : ℕ) → a + n - a ≡ n
 part-of a n = omega arith
 
-pub used-count : (d : Draft) → length (d .entries) ≡ 85 → d .count ≤ 85 → length (used d) ≡ d .count
+pub used-count : (d : Draft) → length (d .entries) ≡ most → d .count ≤ most → length (used d) ≡ d .count
 used-count d l h = length-take-le (d .count) (d .entries) (omega arith)
 
-pub entries-went : (d : Draft) (texts : List ℕ) (room : ℕ) (m : Measure) → length (d .entries) ≡ 85 → d .count ≤ 85 → m ≡ measureFrom texts 0 0 (used d) → {x : Measure} → m ≡ x → {r : Written} → r ≡ onMeasure x room → r ≡ measuredOf document01 d texts room
+pub entries-went : (d : Draft) (texts : List ℕ) (room : ℕ) (m : Measure) → length (d .entries) ≡ most → d .count ≤ most → m ≡ measureFrom texts 0 0 (used d) → {x : Measure} → m ≡ x → {r : Written} → r ≡ onMeasure x room → r ≡ measuredOf document01 d texts room
 entries-went d texts room m l h e q g = g ∙ ap (λ (m : Measure). onMeasure m room) (sym q ∙ e) ∙ measured-is d texts room (used-count d l h)
 
 -- ---- an entry, by the class of its type and its value laid flat

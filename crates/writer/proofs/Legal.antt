@@ -12,7 +12,7 @@ use Rattle.rules.specs.Tests.{_≤?_, _=?_, _and_, pick, every, decide, both, j
 use Rattle.rules.specs.Table.{Rules}
 use Rattle.rules.specs.ContentLaw.{SoundRules}
 use Rattle.rules.specs.Sizes.{three-each}
-use Rattle.rules.specs.Message.{messageKind, AllLegal, LegalMessage}
+use Rattle.rules.specs.Message.{messageKind, AllLegal, LegalMessage, most}
 use Rattle.draft.specs.Meaning.{formNumber}
 use Rattle.draft.proofs.Meaning.{same-form}
 use Rattle.draft.specs.Draft.{allInside, parameterOf, parametersOf, used, messageOf}
@@ -90,7 +90,7 @@ parameters-length texts (e ∷ es) = ap suc (parameters-length texts es)
 pub record Writable (R : Rules) (d : Draft) (texts : List ℕ) (room : ℕ) : Type 0 where
   pub kind : T (messageKind (d .kind))
   pub some : 1 ≤ d .count
-  pub few : d .count ≤ 85
+  pub few : d .count ≤ most
   pub legal : d .count ≤ legalBefore R texts (used d)
   pub short : lengthOf d texts ≤ 255
   pub fits : lengthOf d texts + 3 ≤ room

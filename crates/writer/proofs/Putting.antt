@@ -11,7 +11,7 @@ use lib.Dec.{T}
 use borrow.Rule.Slice.PartMut.{putMid, midOf, same-len-mid}
 use Rattle.rules.specs.Tests.{every, both, le-of}
 use Rattle.rules.specs.Octets.{total, total-append, checksum}
-use Rattle.rules.specs.Message.{body, front, octets}
+use Rattle.rules.specs.Message.{body, front, octets, most}
 use Rattle.rules.specs.Laying.{laid, laidAt, laid-then, rest-laid, rest-copied}
 use Rattle.draft.specs.Draft.{inside, allInside, parameterOf, parametersOf, used, messageOf}
 use Rattle.draft.specs.Same.{flatOf}
@@ -167,7 +167,7 @@ header-laid (x ∷ y ∷ zs) v kind l h = refl
 abbrev headed : Draft → List ℕ → ℕ → List ℕ
 headed d old l = set (set old 0 (d .kind)) 1 l
 
-module _ (d : Draft) (texts old : List ℕ) (l : ℕ) (p : Layable d texts (length old) l) (full : length (d .entries) ≡ 85) (out : List ℕ) (at i : ℕ) (w : Wrote (d .count) (d .entries) texts (headed d old l) out at i) where
+module _ (d : Draft) (texts old : List ℕ) (l : ℕ) (p : Layable d texts (length old) l) (full : length (d .entries) ≡ most) (out : List ℕ) (at i : ℕ) (w : Wrote (d .count) (d .entries) texts (headed d old l) out at i) where
   headed-long : length (headed d old l) ≡ length old
   headed-long = simp length-set
 

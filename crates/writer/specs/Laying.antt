@@ -5,7 +5,7 @@ use mathlib.Core.Path.{_≡_}
 use mathlib.Core.List.{List, _∷_}
 use lib.ListN.{length}
 use lib.Dec.{T}
-use Rattle.rules.specs.Message.{body}
+use Rattle.rules.specs.Message.{body, most}
 use Rattle.draft.specs.Draft.{inside, allInside, parametersOf, used}
 use Rattle.draft.specs.declared.Entry.{Entry}
 use Rattle.draft.specs.declared.Draft.{Draft}
@@ -23,7 +23,7 @@ pub record Puttable (e : Entry) (texts : List ℕ) (room : ℕ) : Type 0 where
 
 -- what is asked before anything is laid down: up to 85 entries, all texts inside, L octets of parameters, and room for L + 3
 pub record Layable (d : Draft) (texts : List ℕ) (room l : ℕ) : Type 0 where
-  pub few : d .count ≤ 85
+  pub few : d .count ≤ most
   pub lie : T (allInside texts (used d))
   pub size : length (body (parametersOf texts (used d))) ≡ l
   pub short : l ≤ 255

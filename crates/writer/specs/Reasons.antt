@@ -7,7 +7,7 @@ use mathlib.Core.List.{List}
 use lib.ListN.{length, getD}
 use lib.Dec.{T}
 use Rattle.rules.specs.Table.{Rules, document01}
-use Rattle.rules.specs.Message.{body, messageKind, LegalParameter}
+use Rattle.rules.specs.Message.{body, messageKind, LegalParameter, most}
 use Rattle.draft.specs.Meaning.{formIs, kindOf}
 use Rattle.draft.specs.Draft.{noEntry, meaningOf, inside, parameterOf, parametersOf, used}
 use Rattle.draft.specs.declared.Entry.{Entry}
@@ -44,7 +44,7 @@ pub record FirstBad (d : Draft) (texts : List ℕ) (i : ℕ) : Type 0 where
 pub record Asked (d : Draft) : Type 0 where
   pub kind : T (messageKind (d .kind))
   pub some : 1 ≤ d .count
-  pub few : d .count ≤ 85
+  pub few : d .count ≤ most
 
 -- ---- the seven ways: each answer with its reason
 pub data Went (d : Draft) (texts : List ℕ) (room : ℕ) : Written → Type 0 where

@@ -8,7 +8,7 @@ use Rattle.rules.specs.Tests.{_≤?_, _=?_, _and_, _or_, pick}
 use Rattle.rules.specs.Octets.{total, checksum}
 use Rattle.rules.specs.Contents.{within, inSet, digit, pairFits, pairsFit, columnsFit, allIn, contentsFit}
 use Rattle.rules.specs.Table.{document01, rowIn, rowOf, classOf, shapeOf, shape01, formOf}
-use Rattle.rules.specs.Message.{body, octets, messageKind}
+use Rattle.rules.specs.Message.{body, octets, messageKind, most}
 use Rattle.draft.specs.Meaning.{formNumber, kindOf, formIs, tens, ones, spelled}
 use Rattle.draft.specs.Draft.{noEntry, meaningOf, inside, parameterOf, parametersOf, messageOf}
 use Rattle.draft.specs.declared.Value.{Value}
@@ -24,7 +24,7 @@ says t v = record { kind = t; value = v }
 
 -- a draft of some entries
 abbrev pub drafted : ℕ → List Entry → Draft
-drafted kind es = record { kind = kind; count = length es; entries = es ++ replicate (85 - length es) noEntry }
+drafted kind es = record { kind = kind; count = length es; entries = es ++ replicate (most - length es) noEntry }
 
 -- a draft with its text area, an output with so many octets, and the answer
 pub record Row : Type 0 where

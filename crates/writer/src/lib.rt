@@ -13,7 +13,7 @@ ghost use Rattle.rules.specs.Tests.{_≤?_, pick};
 ghost use Rattle.rules.specs.Octets.{total};
 ghost use Rattle.rules.specs.Table.{document01, shape01};
 ghost use Rattle.rules.specs.ContentJudge.{fitsFrom};
-ghost use Rattle.rules.specs.Message.{front, octets};
+ghost use Rattle.rules.specs.Message.{front, octets, most};
 ghost use Rattle.draft.specs.Draft.{used, messageOf};
 ghost use Rattle.rules.specs.Laying.{laid};
 ghost use Rattle.draft.specs.declared.Value.the-variants as value;
@@ -182,7 +182,7 @@ fn entry_length(e: Entry, texts: &[u8]) -> u8
 }
 
 fn measure_entries(draft: Draft, texts: &[u8]) -> Measure
-    requires { ⌜ draft .count ≤ 85 ⌝ }
+    requires { ⌜ draft .count ≤ most ⌝ }
     ensures { λ r. ⌜ r ≡ measureFrom (now (texts .entry)) 0 0 (used draft) ⌝ }
 {
     let n = draft.count;
@@ -225,7 +225,7 @@ fn with_room(size: usize, room: usize) -> Written
 }
 
 fn with_entries(draft: Draft, texts: &[u8], room: usize) -> Written
-    requires { ⌜ draft .count ≤ 85 ⌝ }
+    requires { ⌜ draft .count ≤ most ⌝ }
     ensures { λ r. ⌜ r ≡ measuredOf document01 draft (now (texts .entry)) room ⌝ }
 {
     let measured = measure_entries(draft, texts);
@@ -243,7 +243,7 @@ fn judge(draft: Draft, texts: &[u8], room: usize) -> Written
         if draft.count == 0 {
             return refusal(14, 0);
         }
-        if 85 < draft.count {
+        if rules::MOST < draft.count {
             return refusal(13, 0);
         }
         with_entries(draft, texts, room)

@@ -3,6 +3,7 @@
 use mathlib.Core.Path.{_≡_, refl}
 use Prim.Native.Nat.{_≤_, _-_}
 use lib.ListN.{length, length-map}
+use Rattle.rules.specs.Message.{most}
 use Rattle.draft.proofs.Comparing.{Left, all-agree, entry-agrees, entry-differs}
 use borrow.Author.Needs.{needs}
 use Rattle.draft.proofs.same_entries.Statement.{statement}
@@ -40,20 +41,20 @@ loop-less c = search needs
 
 loop-again : tie.Need-loop-again Inv-loop μ-loop
 loop-again c =
-    let l : length (c .before .before .before .before .before .before .before .before .before .before .args .a .entries) ≡ 85 = simp length-map at (c .before .before .before .before .before .before .before .before .before .before .good .0 .1 .1 .1 .1 .0 .1 .0 .1) in
-    let m : length (c .before .before .before .before .before .before .before .before .before .before .args .b .entries) ≡ 85 = simp length-map at (c .before .before .before .before .before .before .before .before .before .before .good .1 .1 .0 .1 .1 .1 .1 .0 .1 .0 .1) in
+    let l : length (c .before .before .before .before .before .before .before .before .before .before .args .a .entries) ≡ most = simp length-map at (c .before .before .before .before .before .before .before .before .before .before .good .0 .1 .1 .1 .1 .0 .1 .0 .1) in
+    let m : length (c .before .before .before .before .before .before .before .before .before .before .args .b .entries) ≡ most = simp length-map at (c .before .before .before .before .before .before .before .before .before .before .good .1 .1 .0 .1 .1 .1 .1 .0 .1 .0 .1) in
     (search needs, entry-agrees _ _ _ _ _ (c .before .before .before .before .before .before .before .before .before .before .pre) l m _ (c .before .before .before .before .before .loop .inv .1) _ _ (c .before .before .before .before .loop-test .taken) (c .before .same-entry .ensures) (c .if1 .taken))
 
 returns : tie.Need-returns Inv-loop μ-loop
 returns c =
-    let l : length (c .before .before .before .before .before .before .before .before .before .before .args .a .entries) ≡ 85 = simp length-map at (c .before .before .before .before .before .before .before .before .before .before .good .0 .1 .1 .1 .1 .0 .1 .0 .1) in
-    let m : length (c .before .before .before .before .before .before .before .before .before .before .args .b .entries) ≡ 85 = simp length-map at (c .before .before .before .before .before .before .before .before .before .before .good .1 .1 .0 .1 .1 .1 .1 .0 .1 .0 .1) in
+    let l : length (c .before .before .before .before .before .before .before .before .before .before .args .a .entries) ≡ most = simp length-map at (c .before .before .before .before .before .before .before .before .before .before .good .0 .1 .1 .1 .1 .0 .1 .0 .1) in
+    let m : length (c .before .before .before .before .before .before .before .before .before .before .args .b .entries) ≡ most = simp length-map at (c .before .before .before .before .before .before .before .before .before .before .good .1 .1 .0 .1 .1 .1 .1 .0 .1 .0 .1) in
     entry-differs _ _ _ _ _ (c .before .before .before .before .before .before .before .before .before .before .pre) l m _ (c .before .before .before .before .before .loop .inv .1) _ _ (c .before .before .before .before .loop-test .taken) (c .before .same-entry .ensures) (c .if1 .left)
 
 returns-2 : tie.Need-returns-2 Inv-loop μ-loop
 returns-2 c =
-    let l : length (c .before .before .before .before .before .before .args .a .entries) ≡ 85 = simp length-map at (c .before .before .before .before .before .before .good .0 .1 .1 .1 .1 .0 .1 .0 .1) in
-    let m : length (c .before .before .before .before .before .before .args .b .entries) ≡ 85 = simp length-map at (c .before .before .before .before .before .before .good .1 .1 .0 .1 .1 .1 .1 .0 .1 .0 .1) in
+    let l : length (c .before .before .before .before .before .before .args .a .entries) ≡ most = simp length-map at (c .before .before .before .before .before .before .good .0 .1 .1 .1 .1 .0 .1 .0 .1) in
+    let m : length (c .before .before .before .before .before .before .args .b .entries) ≡ most = simp length-map at (c .before .before .before .before .before .before .good .1 .1 .0 .1 .1 .1 .1 .0 .1 .0 .1) in
     all-agree _ _ _ _ _ (c .before .before .before .before .before .before .pre) l m _ (c .before .loop .inv .1) (c .loop-test .left)
 
 pub same-entries-spec : {M : Type 1} → statement M

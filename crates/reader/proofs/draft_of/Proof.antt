@@ -4,6 +4,7 @@
 use Prim.Native.Nat.{_-_}
 use mathlib.Core.Path.{refl, sym, _∙_}
 use native.Mathlib.Omega.{arith}
+use Rattle.rules.specs.Message.{most}
 use Rattle.rules.specs.Table.{document01}
 use Rattle.reader.proofs.Laying.{Filled, filled-first, filled-small, filled-more, filled-end, left-ended, left-full}
 use borrow.Author.Needs.{needs}
@@ -14,7 +15,7 @@ abbrev Inv-loop : tie.InvT-loop
 Inv-loop octets entries₀ kind at₀ used₀ count₀ entries at used count = Filled document01 octets count at used entries
 
 abbrev μ-loop : tie.MeasureT-loop
-μ-loop octets entries₀ kind at₀ used₀ count₀ entries at used count = 85 - count
+μ-loop octets entries₀ kind at₀ used₀ count₀ entries at used count = most - count
 
 no-entry-requires : tie.Need-no-entry-requires Inv-loop μ-loop
 no-entry-requires c κs = search needs

@@ -4,6 +4,7 @@
 use Prim.Native.Nat.{_-_}
 use mathlib.Core.Path.{sym, _∙_}
 use native.Mathlib.Omega.{arith}
+use Rattle.rules.specs.Message.{most}
 use Rattle.rules.specs.Table.{document01}
 use Rattle.reader.proofs.Laying.{Laid, laid-first, laid-room, laid-more, laid-end, left-none, left-full}
 use borrow.Author.Needs.{needs}
@@ -14,7 +15,7 @@ abbrev Inv-loop : tie.InvT-loop
 Inv-loop octets area₀ at₀ used₀ count₀ area at used count = Laid document01 octets area₀ count at used area
 
 abbrev μ-loop : tie.MeasureT-loop
-μ-loop octets area₀ at₀ used₀ count₀ area at used count = 85 - count
+μ-loop octets area₀ at₀ used₀ count₀ area at used count = most - count
 
 loop-holds : tie.Need-loop-holds Inv-loop μ-loop
 loop-holds c = laid-first document01 _ (c .before .before .args .area .now) (c .before .before .pre)

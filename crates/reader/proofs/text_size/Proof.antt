@@ -3,6 +3,7 @@
 use Prim.Native.Nat.{_-_}
 use mathlib.Core.Path.{sym, _∙_}
 use native.Mathlib.Omega.{arith}
+use Rattle.rules.specs.Message.{most}
 use Rattle.rules.specs.Table.{document01}
 use Rattle.reader.proofs.Laying.{Sized, sized-first, sized-more, sized-small, sized-end, left-none, left-full}
 use borrow.Author.Needs.{needs}
@@ -13,7 +14,7 @@ abbrev Inv-loop : tie.InvT-loop
 Inv-loop octets at₀ size₀ count₀ at size count = Sized document01 octets count at size
 
 abbrev μ-loop : tie.MeasureT-loop
-μ-loop octets at₀ size₀ count₀ at size count = 85 - count
+μ-loop octets at₀ size₀ count₀ at size count = most - count
 
 loop-holds : tie.Need-loop-holds Inv-loop μ-loop
 loop-holds c = sized-first document01 (c .before .args .octets .now)

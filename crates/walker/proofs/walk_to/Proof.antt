@@ -2,6 +2,7 @@
 -- Assumes nothing.
 use mathlib.Core.Path.{_≡_, refl, sym, _∙_}
 use native.Mathlib.Omega.{arith}
+use Rattle.rules.specs.Message.{most}
 use Rattle.message.specs.Searching.{found-inside}
 use Rattle.walker.specs.Steps.{walkFrom}
 use Rattle.walker.proofs.Walking.{no-turns, none-here, here, onward}
@@ -10,7 +11,7 @@ use Rattle.walker.proofs.walk_to.Statement.{statement}
 use Rattle.walker.proofs.walk_to.Tie as tie
 
 abbrev Inv-loop : tie.InvT-loop
-Inv-loop message at place₀ turns₀ place turns = walkFrom turns message at place ≡ walkFrom 85 message at 2
+Inv-loop message at place₀ turns₀ place turns = walkFrom turns message at place ≡ walkFrom most message at 2
 
 abbrev μ-loop : tie.MeasureT-loop
 μ-loop message at place₀ turns₀ place turns = turns

@@ -4,6 +4,7 @@ use mathlib.Core.Path.{_≡_, refl}
 use Prim.Native.Nat.{_≤_, _*_, _-_}
 use native.Mathlib.Omega.{arith}
 use lib.ListN.{length, length-map}
+use Rattle.rules.specs.Message.{most}
 use Rattle.writer.proofs.Measuring.{Measured, all-measured, entry-bad, entry-good}
 use borrow.Author.Needs.{needs}
 use Rattle.writer.proofs.measure_entries.Statement.{statement}
@@ -33,7 +34,7 @@ cast-t14 c = search needs
 returns : tie.Need-returns Inv-loop μ-loop
 returns c =
     let start = c .before .before .before .before .before .before .before in
-    entry-bad _ _ _ _ _ (c .before .before .before .before .loop .inv .1 .1) _ _ (c .before .before .before .loop-test .taken) (let l : length (start .args .draft .entries) ≡ 85 = simp length-map at (start .good .0 .1 .1 .1 .1 .0 .1 .0 .1) in omega arith) (c .before .entry-length .ensures) (c .if1 .taken)
+    entry-bad _ _ _ _ _ (c .before .before .before .before .loop .inv .1 .1) _ _ (c .before .before .before .loop-test .taken) (let l : length (start .args .draft .entries) ≡ most = simp length-map at (start .good .0 .1 .1 .1 .1 .0 .1 .0 .1) in omega arith) (c .before .entry-length .ensures) (c .if1 .taken)
 
 cast-size : tie.Need-cast-size Inv-loop μ-loop
 cast-size c = search needs
@@ -53,7 +54,7 @@ loop-less c = search needs
 loop-again : tie.Need-loop-again Inv-loop μ-loop
 loop-again c =
     let start = c .before .before .before .before .before .before .before in
-    (search needs, (search needs, entry-good _ _ _ _ _ (c .before .before .before .before .loop .inv .1 .1) _ _ (c .before .before .before .loop-test .taken) (let l : length (start .args .draft .entries) ≡ 85 = simp length-map at (start .good .0 .1 .1 .1 .1 .0 .1 .0 .1) in omega arith) (c .before .entry-length .ensures) (c .if1 .left)))
+    (search needs, (search needs, entry-good _ _ _ _ _ (c .before .before .before .before .loop .inv .1 .1) _ _ (c .before .before .before .loop-test .taken) (let l : length (start .args .draft .entries) ≡ most = simp length-map at (start .good .0 .1 .1 .1 .1 .0 .1 .0 .1) in omega arith) (c .before .entry-length .ensures) (c .if1 .left)))
 
 returns-2 : tie.Need-returns-2 Inv-loop μ-loop
 returns-2 c = all-measured _ _ _ _ _ (c .before .loop .inv .1 .1) (c .loop-test .left)

@@ -4,6 +4,7 @@ use mathlib.Core.Path.{_≡_}
 use Prim.Native.Nat.{_-_}
 use native.Mathlib.Omega.{arith}
 use lib.ListN.{length, length-map, length-set}
+use Rattle.rules.specs.Message.{most}
 use Rattle.draft.specs.declared.Entry.{Entry}
 use Rattle.draft.specs.declared.Value.the-variants.{Date}
 use Rattle.writer.proofs.Putting.{Wrote, wrote-none, wrote-length, wrote-room, wrote-small, wrote-asked, wrote-more, wrote-end}
@@ -21,7 +22,7 @@ abbrev μ-loop : tie.MeasureT-loop
 μ-loop texts out₀ size n entries at₀ next₀ out at next = n - next
 
 -- a draft has 85 entry places
-full : (c : tie.In-loop Inv-loop μ-loop) → length (c .before .before .before .before .before .args .draft .entries) ≡ 85
+full : (c : tie.In-loop Inv-loop μ-loop) → length (c .before .before .before .before .before .args .draft .entries) ≡ most
 full c = simp length-map at (c .before .before .before .before .before .good .0 .1 .1 .1 .1 .0 .1 .0 .1)
 
 slice-write-out : tie.Need-slice-write-out Inv-loop μ-loop

@@ -4,6 +4,7 @@ use Prim.Native.Nat.{ℕ, _+_, _*_, _-_}
 use mathlib.Core.Path.{sym, _∙_, ap}
 use native.Mathlib.Omega.{arith}
 use lib.ListN.{length, length-take, length-drop, length-replicate}
+use Rattle.rules.specs.Message.{most}
 use Rattle.rules.specs.Table.{document01}
 use Rattle.reader.proofs.Laying.{left-ended, left-full}
 use Rattle.firmware.proofs.DraftRecord.{Recorded, recorded-first, recorded-long, recorded-small, recorded-more, recorded-end}
@@ -16,7 +17,7 @@ abbrev Inv-loop : tie.InvT-loop
 Inv-loop octets cells₀ at₀ used₀ count₀ cells at used count = Recorded octets count at used cells
 
 abbrev μ-loop : tie.MeasureT-loop
-μ-loop octets cells₀ at₀ used₀ count₀ cells at used count = 85 - count
+μ-loop octets cells₀ at₀ used₀ count₀ cells at used count = most - count
 
 loop-holds : tie.Need-loop-holds Inv-loop μ-loop
 loop-holds c = recorded-first _ (c .before .before .args .cells .now) (c .before .before .pre)
