@@ -47,13 +47,19 @@ slice-aggregate-result : tie.Need-slice-aggregate-result
 slice-aggregate-result c = search needs
 
 returns : tie.Need-returns
-returns c = message-part document01 (c .before .before .before .before .before .before .before .args .message .now) (c .before .before .before .before .before .before .before .args .directory .now) _ (c .before .before .before .before .find .ensures) _ _ (c .before .before .found .given .1)
+returns c =
+    let start = c .before .before .before .before .before .before .before in
+    message-part document01 (start .args .message .now) (start .args .directory .now) _ (c .before .before .before .before .find .ensures) _ _ (c .before .before .found .given .1)
 
 returns-2 : tie.Need-returns-2
-returns-2 c = directory-part document01 (c .before .before .before .before .before .before .before .args .message .now) (c .before .before .before .before .before .before .before .args .directory .now) _ (c .before .before .before .before .find .ensures) _ _ (c .before .before .found2 .given .1)
+returns-2 c =
+    let start = c .before .before .before .before .before .before .before in
+    directory-part document01 (start .args .message .now) (start .args .directory .now) _ (c .before .before .before .before .find .ensures) _ _ (c .before .before .found2 .given .1)
 
 returns-3 : tie.Need-returns-3
-returns-3 c = refused-part document01 (c .before .before .before .before .before .before .before .args .message .now) (c .before .before .before .before .before .before .before .args .directory .now) _ (c .before .before .before .before .find .ensures) _ (c .before .before .found3 .given .1)
+returns-3 c =
+    let start = c .before .before .before .before .before .before .before in
+    refused-part document01 (start .args .message .now) (start .args .directory .now) _ (c .before .before .before .before .find .ensures) _ (c .before .before .found3 .given .1)
 
 pub caption-spec : {M : Type 1} → statement M
 caption-spec =

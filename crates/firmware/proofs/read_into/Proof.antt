@@ -32,14 +32,18 @@ same-length-2 c = search needs
 
 returns : tie.Need-returns
 unfolding recordFrom
-returns c = (c .packed-word .ensures ∙ ap packedWord (c .before .before .before .before .before .before .before .before .before .pack .ensures .0), (c .before .before .before .lay-draft .ensures ∙ ap (recordFrom (c .before .before .before .before .before .before .before .before .before .before .before .before .before .before .args .octets .now) (c .before .before .before .before .before .before .before .before .before .before .before .before .before .before .args .cells .now)) (sym (c .before .before .before .before .before .enum-told .given .1) ∙ c .before .before .before .before .before .before .before .before .before .pack .ensures .0), c .before .before .before .before .before .before .before .before .before .pack .ensures .1))
+returns c =
+    let start = c .before .before .before .before .before .before .before .before .before .before .before .before .before .before in
+    (c .packed-word .ensures ∙ ap packedWord (c .before .before .before .before .before .before .before .before .before .pack .ensures .0), (c .before .before .before .lay-draft .ensures ∙ ap (recordFrom (start .args .octets .now) (start .args .cells .now)) (sym (c .before .before .before .before .before .enum-told .given .1) ∙ c .before .before .before .before .before .before .before .before .before .pack .ensures .0), c .before .before .before .before .before .before .before .before .before .pack .ensures .1))
 
 same-length-3 : tie.Need-same-length-3
 same-length-3 c = search needs
 
 returns-2 : tie.Need-returns-2
 unfolding recordFrom
-returns-2 c = (c .packed-word2 .ensures ∙ ap packedWord (c .before .before .before .before .before .pack .ensures .0), (ap (recordFrom (c .before .before .before .before .before .before .before .before .before .before .args .octets .now) (c .before .before .before .before .before .before .before .before .before .before .args .cells .now)) (sym (c .before .enum-told2 .given .1) ∙ c .before .before .before .before .before .pack .ensures .0), c .before .before .before .before .before .pack .ensures .1))
+returns-2 c =
+    let start = c .before .before .before .before .before .before .before .before .before .before in
+    (c .packed-word2 .ensures ∙ ap packedWord (c .before .before .before .before .before .pack .ensures .0), (ap (recordFrom (start .args .octets .now) (start .args .cells .now)) (sym (c .before .enum-told2 .given .1) ∙ c .before .before .before .before .before .pack .ensures .0), c .before .before .before .before .before .pack .ensures .1))
 
 pub read-into-spec : {M : Type 1} → statement M
 read-into-spec =

@@ -29,10 +29,14 @@ put-refusal-requires : tie.Need-put-refusal-requires
 put-refusal-requires c κs = listing-room _ _ (lists-refusal (c .before .before .before .before .before .before .args .octets .now) (octets-at (c .before .before .before .before .before .before .args .octets .now) (λ i. omega (arith, c .before .before .before .before .before .shared-slice-known .given i))) _ (c .before .before .before .before .judge .ensures) _ (c .before .before .verdict .given .1))
 
 returns : tie.Need-returns
-returns c = listing-text _ _ (lists-message (c .before .before .before .before .before .before .before .args .octets .now) (octets-at (c .before .before .before .before .before .before .before .args .octets .now) (λ i. omega (arith, c .before .before .before .before .before .before .shared-slice-known .given i))) _ (c .before .before .before .before .before .judge .ensures) _ (c .before .before .before .enum-told .given .1)) _ _ (c .before .put-message .ensures)
+returns c =
+    let start = c .before .before .before .before .before .before .before in
+    listing-text _ _ (lists-message (start .args .octets .now) (octets-at (start .args .octets .now) (λ i. omega (arith, c .before .before .before .before .before .before .shared-slice-known .given i))) _ (c .before .before .before .before .before .judge .ensures) _ (c .before .before .before .enum-told .given .1)) _ _ (c .before .put-message .ensures)
 
 returns-2 : tie.Need-returns-2
-returns-2 c = listing-text _ _ (lists-refusal (c .before .before .before .before .before .before .before .before .args .octets .now) (octets-at (c .before .before .before .before .before .before .before .before .args .octets .now) (λ i. omega (arith, c .before .before .before .before .before .before .before .shared-slice-known .given i))) _ (c .before .before .before .before .before .before .judge .ensures) _ (c .before .before .before .before .verdict .given .1)) _ _ (c .before .put-refusal .ensures)
+returns-2 c =
+    let start = c .before .before .before .before .before .before .before .before in
+    listing-text _ _ (lists-refusal (start .args .octets .now) (octets-at (start .args .octets .now) (λ i. omega (arith, c .before .before .before .before .before .before .before .shared-slice-known .given i))) _ (c .before .before .before .before .before .before .judge .ensures) _ (c .before .before .before .before .verdict .given .1)) _ _ (c .before .put-refusal .ensures)
 
 pub listing-spec : {M : Type 1} → statement M
 listing-spec =

@@ -30,7 +30,9 @@ same-length : tie.Need-same-length
 same-length c = search needs
 
 returns : tie.Need-returns
-returns c = copied (c .before .before .before .before .before .before .args .text .now) (c .before .before .before .before .before .before .args .out .now) _ (c .before .before .before .before .before .before .args .at) (c .before .before .before .before .before .before .pre) (c .before .before .copy .ensures .1)
+returns c =
+    let start = c .before .before .before .before .before .before in
+    copied (start .args .text .now) (start .args .out .now) _ (start .args .at) (start .pre) (c .before .before .copy .ensures .1)
 
 pub put-spec : {M : Type 1} → statement M
 put-spec =

@@ -23,18 +23,24 @@ put-key-requires c κs = (c .before .before .before .before .pre .0, room-first 
 
 put-value-requires : tie.Need-put-value-requires
 unfolding lineText lineOf kinds ascii
-put-value-requires c κs = room-same _ _ _ _ (ap (λ (k : Class). printed (styleOf k) (c .before .before .before .before .before .before .before .before .args .contents .now)) (c .before .before .before .before .before .class-of .ensures ∙ ap (classOf document01) (key-at (c .before .before .before .before .before .before .before .before .args .i) (c .before .before .before .before .before .before .before .before .pre .0) .kind))) (room-second _ _ _ _ _ (c .before .before .before .before .before .before .before .before .pre .1) _ _ (c .before .before .before .put-key .ensures))
+put-value-requires c κs =
+    let start = c .before .before .before .before .before .before .before .before in
+    room-same _ _ _ _ (ap (λ (k : Class). printed (styleOf k) (start .args .contents .now)) (c .before .before .before .before .before .class-of .ensures ∙ ap (classOf document01) (key-at (start .args .i) (start .pre .0) .kind))) (room-second _ _ _ _ _ (start .pre .1) _ _ (c .before .before .before .put-key .ensures))
 
 put-octet-requires : tie.Need-put-octet-requires
 unfolding lineText lineOf kinds ascii
-put-octet-requires c κs = room-third _ _ _ _ _ (c .before .before .before .before .before .before .before .before .before .before .before .before .pre .1) _ _ (c .before .before .before .before .before .before .before .put-key .ensures) _ _ (put-same _ _ _ _ _ _ (ap (λ (k : Class). printed (styleOf k) (c .before .before .before .before .before .before .before .before .before .before .before .before .args .contents .now)) (c .before .before .before .before .before .before .before .before .before .class-of .ensures ∙ ap (classOf document01) (key-at (c .before .before .before .before .before .before .before .before .before .before .before .before .args .i) (c .before .before .before .before .before .before .before .before .before .before .before .before .pre .0) .kind))) (c .before .before .before .put-value .ensures))
+put-octet-requires c κs =
+    let start = c .before .before .before .before .before .before .before .before .before .before .before .before in
+    room-third _ _ _ _ _ (start .pre .1) _ _ (c .before .before .before .before .before .before .before .put-key .ensures) _ _ (put-same _ _ _ _ _ _ (ap (λ (k : Class). printed (styleOf k) (start .args .contents .now)) (c .before .before .before .before .before .before .before .before .before .class-of .ensures ∙ ap (classOf document01) (key-at (start .args .i) (start .pre .0) .kind))) (c .before .before .before .put-value .ensures))
 
 same-length : tie.Need-same-length
 same-length c = search needs
 
 returns : tie.Need-returns
 unfolding lineText lineOf kinds ascii
-returns c = put-three _ _ _ _ _ _ _ _ _ _ _ (c .before .before .before .before .before .before .before .before .before .before .put-key .ensures) (put-same _ _ _ _ _ _ (ap (λ (k : Class). printed (styleOf k) (c .before .before .before .before .before .before .before .before .before .before .before .before .before .before .before .args .contents .now)) (c .before .before .before .before .before .before .before .before .before .before .before .before .class-of .ensures ∙ ap (classOf document01) (key-at (c .before .before .before .before .before .before .before .before .before .before .before .before .before .before .before .args .i) (c .before .before .before .before .before .before .before .before .before .before .before .before .before .before .before .pre .0) .kind))) (c .before .before .before .before .before .before .put-value .ensures)) (c .before .before .put-octet .ensures)
+returns c =
+    let start = c .before .before .before .before .before .before .before .before .before .before .before .before .before .before .before in
+    put-three _ _ _ _ _ _ _ _ _ _ _ (c .before .before .before .before .before .before .before .before .before .before .put-key .ensures) (put-same _ _ _ _ _ _ (ap (λ (k : Class). printed (styleOf k) (start .args .contents .now)) (c .before .before .before .before .before .before .before .before .before .before .before .before .class-of .ensures ∙ ap (classOf document01) (key-at (start .args .i) (start .pre .0) .kind))) (c .before .before .before .before .before .before .put-value .ensures)) (c .before .before .put-octet .ensures)
 
 pub put-line-spec : {M : Type 1} → statement M
 put-line-spec =

@@ -19,7 +19,9 @@ put-kind-requires c κs = room-first _ _ _ _ _ (room-same _ _ _ _ (message-text 
 
 put-rows-requires : tie.Need-put-rows-requires
 unfolding ascii
-put-rows-requires c κs = room-second _ _ _ _ _ (room-same _ _ _ _ (message-text (c .before .before .before .before .before .before .before .before .args .octets .now) _ _ (c .before .before .before .before .before .octet .ensures) refl) (c .before .before .before .before .before .before .before .before .pre)) _ _ (c .before .before .before .put-kind .ensures)
+put-rows-requires c κs =
+    let start = c .before .before .before .before .before .before .before .before in
+    room-second _ _ _ _ _ (room-same _ _ _ _ (message-text (start .args .octets .now) _ _ (c .before .before .before .before .before .octet .ensures) refl) (start .pre)) _ _ (c .before .before .before .put-kind .ensures)
 
 slice-aggregate-put-number : tie.Need-slice-aggregate-put-number
 slice-aggregate-put-number c = search needs
@@ -29,7 +31,9 @@ carried-requires c κs = search needs
 
 put-number-requires : tie.Need-put-number-requires
 unfolding ascii
-put-number-requires c κs = room-same _ _ _ _ (ap (numberLine (ascii "carried=")) (c .before .carried .ensures)) (room-third _ _ _ _ _ (room-same _ _ _ _ (message-text (c .before .before .before .before .before .before .before .before .before .before .before .before .before .before .args .octets .now) _ _ (c .before .before .before .before .before .before .before .before .before .before .before .octet .ensures) refl) (c .before .before .before .before .before .before .before .before .before .before .before .before .before .before .pre)) _ _ (c .before .before .before .before .before .before .before .before .before .put-kind .ensures) _ _ (c .before .before .before .before .before .put-rows .ensures))
+put-number-requires c κs =
+    let start = c .before .before .before .before .before .before .before .before .before .before .before .before .before .before in
+    room-same _ _ _ _ (ap (numberLine (ascii "carried=")) (c .before .carried .ensures)) (room-third _ _ _ _ _ (room-same _ _ _ _ (message-text (start .args .octets .now) _ _ (c .before .before .before .before .before .before .before .before .before .before .before .octet .ensures) refl) (start .pre)) _ _ (c .before .before .before .before .before .before .before .before .before .put-kind .ensures) _ _ (c .before .before .before .before .before .put-rows .ensures))
 
 same-length : tie.Need-same-length
 same-length c = search needs

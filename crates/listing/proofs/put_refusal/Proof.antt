@@ -24,7 +24,9 @@ slice-aggregate-put-number-2 c = search needs
 
 put-number-requires-2 : tie.Need-put-number-requires-2
 unfolding ascii
-put-number-requires-2 c κs = room-then (numberLine (ascii "refused=") (c .before .before .before .before .before .before .before .before .before .args .fault .number)) (numberLine (ascii "at=") (c .before .before .before .before .before .before .before .before .before .args .fault .place)) _ _ _ _ (room-same _ _ _ _ (refusal-text (c .before .before .before .before .before .before .before .before .before .args .fault)) (c .before .before .before .before .before .before .before .before .before .pre)) (c .before .before .before .before .put-number .ensures)
+put-number-requires-2 c κs =
+    let start = c .before .before .before .before .before .before .before .before .before in
+    room-then (numberLine (ascii "refused=") (start .args .fault .number)) (numberLine (ascii "at=") (start .args .fault .place)) _ _ _ _ (room-same _ _ _ _ (refusal-text (start .args .fault)) (start .pre)) (c .before .before .before .before .put-number .ensures)
 
 same-length : tie.Need-same-length
 same-length c = search needs

@@ -37,7 +37,9 @@ part-put-line-end c = omega (arith, part-inside (c .before .before .before .befo
 
 put-line-requires : tie.Need-put-line-requires
 unfolding kinds
-put-line-requires c κs = (c .before .before .before .before .before .before .before .before .pre .0, room-same _ _ _ _ (row-line (c .before .before .before .before .before .before .before .before .args .octets .now) (c .before .before .before .before .before .before .before .before .args .i) (c .before .before .before .before .before .before .before .before .pre .0) _ (c .before .before .before .before .before .counted .ensures) _ _ (c .before .before .before .part .given .1)) (c .before .before .before .before .before .before .before .before .pre .1))
+put-line-requires c κs =
+    let start = c .before .before .before .before .before .before .before .before in
+    (start .pre .0, room-same _ _ _ _ (row-line (start .args .octets .now) (start .args .i) (start .pre .0) _ (c .before .before .before .before .before .counted .ensures) _ _ (c .before .before .before .part .given .1)) (start .pre .1))
 
 enum-told : tie.Need-enum-told
 enum-told c = search needs
@@ -47,11 +49,15 @@ same-length c = search needs
 
 returns : tie.Need-returns
 unfolding kinds
-returns c = put-same _ _ _ _ _ _ (row-line (c .before .before .before .before .before .before .before .before .before .before .before .args .octets .now) (c .before .before .before .before .before .before .before .before .before .before .before .args .i) (c .before .before .before .before .before .before .before .before .before .before .before .pre .0) _ (c .before .before .before .before .before .before .before .before .counted .ensures) _ _ (c .before .before .before .before .before .before .part .given .1)) (c .before .before .put-line .ensures)
+returns c =
+    let start = c .before .before .before .before .before .before .before .before .before .before .before in
+    put-same _ _ _ _ _ _ (row-line (start .args .octets .now) (start .args .i) (start .pre .0) _ (c .before .before .before .before .before .before .before .before .counted .ensures) _ _ (c .before .before .before .before .before .before .part .given .1)) (c .before .before .put-line .ensures)
 
 returns-2 : tie.Need-returns-2
 unfolding kinds
-returns-2 c = put-same _ _ _ _ _ _ (row-none (c .before .before .before .before .before .args .octets .now) (c .before .before .before .before .before .args .i) (c .before .before .before .before .before .pre .0) _ (c .before .before .counted .ensures) (c .enum-told .given .1)) (put-none _ _)
+returns-2 c =
+    let start = c .before .before .before .before .before in
+    put-same _ _ _ _ _ _ (row-none (start .args .octets .now) (start .args .i) (start .pre .0) _ (c .before .before .counted .ensures) (c .enum-told .given .1)) (put-none _ _)
 
 pub put-row-spec : {M : Type 1} → statement M
 put-row-spec =

@@ -34,10 +34,14 @@ copy-requires : tie.Need-copy-requires
 copy-requires c κs = simp (length-take, length-drop) (omega arith)
 
 same-length : tie.Need-same-length
-same-length c = same-len-mid (c .before .before .before .before .before .before .before .args .at) (length (c .before .before .before .before .before .before .before .args .area .now) - c .before .before .before .before .before .before .before .args .at) (c .before .before .before .before .before .before .before .args .area .now) (c .before .before .copy .last .1 .0) (c .before .before .copy .kept .1 .0)
+same-length c =
+    let start = c .before .before .before .before .before .before .before in
+    same-len-mid (start .args .at) (length (start .args .area .now) - start .args .at) (start .args .area .now) (c .before .before .copy .last .1 .0) (c .before .before .copy .kept .1 .0)
 
 returns : tie.Need-returns
-returns c = put-is (c .before .before .before .before .before .before .before .args .octets .now) (c .before .before .before .before .before .before .before .args .area .now) _ (c .before .before .before .before .before .before .before .args .start) (c .before .before .before .before .before .before .before .args .length) (c .before .before .before .before .before .before .before .args .at) (c .before .before .copy .ensures .1)
+returns c =
+    let start = c .before .before .before .before .before .before .before in
+    put-is (start .args .octets .now) (start .args .area .now) _ (start .args .start) (start .args .length) (start .args .at) (c .before .before .copy .ensures .1)
 
 pub lay-text-spec : {M : Type 1} → statement M
 lay-text-spec =

@@ -17,10 +17,14 @@ text-size-requires : tie.Need-text-size-requires
 text-size-requires c κs = search needs
 
 cast-place : tie.Need-cast-place
-cast-place c = omega (arith, size-small document01 (c .before .before .before .before .before .before .before .args .octets .now) (c .before .before .before .before .before .before .before .args .area .now) _ (c .before .before .before .before .judge .ensures) _ (c .before .before .verdict .given .1) _ (c .text-size .ensures), c .before .known-told .given)
+cast-place c =
+    let start = c .before .before .before .before .before .before .before in
+    omega (arith, size-small document01 (start .args .octets .now) (start .args .area .now) _ (c .before .before .before .before .judge .ensures) _ (c .before .before .verdict .given .1) _ (c .text-size .ensures), c .before .known-told .given)
 
 returns : tie.Need-returns
-returns c = let p = packs-short document01 (c .before .before .before .before .before .before .before .before .args .octets .now) (c .before .before .before .before .before .before .before .before .args .area .now) _ (c .before .before .before .before .before .judge .ensures) _ (c .before .before .before .verdict .given .1) _ (c .before .text-size .ensures) (c .if1 .taken) in (p .answer, p .area-is)
+returns c =
+    let start = c .before .before .before .before .before .before .before .before in
+    let p = packs-short document01 (start .args .octets .now) (start .args .area .now) _ (c .before .before .before .before .before .judge .ensures) _ (c .before .before .before .verdict .given .1) _ (c .before .text-size .ensures) (c .if1 .taken) in (p .answer, p .area-is)
 
 lay-texts-requires : tie.Need-lay-texts-requires
 lay-texts-requires c κs = search needs
@@ -32,7 +36,9 @@ same-length : tie.Need-same-length
 same-length c = search needs
 
 returns-2 : tie.Need-returns-2
-returns-2 c = let p = packs-whole document01 (c .before .before .before .before .before .before .before .before .before .before .before .before .args .octets .now) (c .before .before .before .before .before .before .before .before .before .before .before .before .args .area .now) _ (c .before .before .before .before .before .before .before .before .before .judge .ensures) _ (c .before .before .before .before .before .before .before .verdict .given .1) _ _ (c .before .before .before .before .before .text-size .ensures) (c .before .before .before .before .if1 .left) (c .before .before .lay-texts .ensures) in (p .answer, p .area-is)
+returns-2 c =
+    let start = c .before .before .before .before .before .before .before .before .before .before .before .before in
+    let p = packs-whole document01 (start .args .octets .now) (start .args .area .now) _ (c .before .before .before .before .before .before .before .before .before .judge .ensures) _ (c .before .before .before .before .before .before .before .verdict .given .1) _ _ (c .before .before .before .before .before .text-size .ensures) (c .before .before .before .before .if1 .left) (c .before .before .lay-texts .ensures) in (p .answer, p .area-is)
 
 returns-3 : tie.Need-returns-3
 returns-3 c = let p = packs-declined document01 (c .before .before .before .before .before .before .args .octets .now) (c .before .before .before .before .before .before .args .area .now) _ (c .before .before .before .judge .ensures) _ (c .before .verdict2 .given .1) in (p .answer, p .area-is)

@@ -34,7 +34,9 @@ same-length : tie.Need-same-length
 same-length c = search needs
 
 returns : tie.Need-returns
-returns c = headed (draftOf document01 (messageIn (c .before .before .before .before .before .before .before .before .before .before .before .args .octets .now))) _ _ _ (c .octet .ensures ∙ kind-of (c .before .before .before .before .before .before .before .before .before .before .before .args .octets .now)) (c .before .before .before .lay-entries .ensures .0) (c .before .before .before .lay-entries .ensures .1)
+returns c =
+    let start = c .before .before .before .before .before .before .before .before .before .before .before in
+    headed (draftOf document01 (messageIn (start .args .octets .now))) _ _ _ (c .octet .ensures ∙ kind-of (start .args .octets .now)) (c .before .before .before .lay-entries .ensures .0) (c .before .before .before .lay-entries .ensures .1)
 
 pub lay-draft-spec : {M : Type 1} → statement M
 lay-draft-spec =

@@ -56,7 +56,9 @@ loop-less : tie.Need-loop-less Inv-loop μ-loop
 loop-less c = search needs
 
 loop-again : tie.Need-loop-again Inv-loop μ-loop
-loop-again c = recorded-more _ _ _ _ _ (c .before .before .before .before .before .before .before .before .before .loop .inv) (c .before .before .before .before .before .before .before .before .loop-test .taken) _ _ _ (sym (c .before .before .before .before .before .taken .given .1) ∙ c .before .before .before .before .before .before .before .entry .ensures) _ (rest-laid _ _ _ (8 + 8 * c .before .before .before .before .before .before .before .before .before .loop .count) (c .before .before .lay-entry .ensures))
+loop-again c =
+    let start = c .before .before .before .before .before .before .before .before .before in
+    recorded-more _ _ _ _ _ (start .loop .inv) (c .before .before .before .before .before .before .before .before .loop-test .taken) _ _ _ (sym (c .before .before .before .before .before .taken .given .1) ∙ c .before .before .before .before .before .before .before .entry .ensures) _ (rest-laid _ _ _ (8 + 8 * start .loop .count) (c .before .before .lay-entry .ensures))
 
 enum-told : tie.Need-enum-told Inv-loop μ-loop
 enum-told c = search needs
