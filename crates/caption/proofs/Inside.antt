@@ -5,6 +5,7 @@ use mathlib.Core.Path.{_≡_, refl, sym, _∙_, ap, subst}
 use mathlib.Core.List.{List, [], _∷_}
 use native.Mathlib.Omega.{arith}
 use lib.ListN.{length, length-drop, take, drop}
+use Rattle.rules.specs.Laying.{part-is}
 use Rattle.rules.specs.Tests.{pick-case, picked-by, both, le-of, clash}
 use Rattle.rules.specs.Table.{Rules}
 use Rattle.rules.specs.declared.Fault.{Fault}
@@ -95,15 +96,11 @@ module _ (R : Rules) (o d : List ℕ) (r : Found) (f : r ≡ findOf R o d) where
 
   pub message-part : (start n : ℕ) → r ≡ InMessage start n → take (start + n - start) (drop start o) ≡ captionOf R o d
   unfolding textOf startOf lengthOf sliceOf
-  message-part start n e =
-      let z : start + n - start ≡ n = omega arith in
-      ap (λ (k : ℕ). take k (drop start o)) z ∙ sym (caption-is ∙ ap (λ (x : Found). textOf x o d) e)
+  message-part start n e = part-is o start n ∙ sym (caption-is ∙ ap (λ (x : Found). textOf x o d) e)
 
   pub directory-part : (start n : ℕ) → r ≡ InDirectory start n → take (start + n - start) (drop start d) ≡ captionOf R o d
   unfolding textOf startOf lengthOf sliceOf
-  directory-part start n e =
-      let z : start + n - start ≡ n = omega arith in
-      ap (λ (k : ℕ). take k (drop start d)) z ∙ sym (caption-is ∙ ap (λ (x : Found). textOf x o d) e)
+  directory-part start n e = part-is d start n ∙ sym (caption-is ∙ ap (λ (x : Found). textOf x o d) e)
 
   pub refused-part : (g : Fault) → r ≡ Refused g → [] ≡ captionOf R o d
   unfolding textOf startOf lengthOf sliceOf

@@ -8,6 +8,7 @@ use native.Mathlib.Omega.{arith}
 use lib.ListN.{length, take, drop, getD}
 use lib.Seq.{getD-take, length-take-le}
 use lib.Dec.{leb}
+use Rattle.rules.specs.Laying.{part-is}
 use Rattle.rules.specs.Message.{most}
 use Rattle.rules.specs.Tests.{_≤?_, le-of, of-le}
 use Rattle.rules.specs.Returns.{is-le, same-truth}
@@ -21,10 +22,7 @@ lies-is a m n h = is-le m (n - a) ∙ same-truth _ _ (λ t. of-le _ _ (omega (ar
 
 -- parts that are lent by start and end are those by start and length
 pub parts-of : (s t : List ℕ) (a m b n : ℕ) (r : Bool) → r ≡ sameOctets (take (a + m - a) (drop a s)) (take (b + n - b) (drop b t)) → r ≡ sameOctets (take m (drop a s)) (take n (drop b t))
-parts-of s t a m b n r e =
-    let x : a + m - a ≡ m = omega arith in
-    let y : b + n - b ≡ n = omega arith in
-    e ∙ ap₂ (λ (k l : ℕ). sameOctets (take k (drop a s)) (take l (drop b t))) x y
+parts-of s t a m b n r e = e ∙ ap₂ (λ (v w : List ℕ). sameOctets v w) (part-is s a m) (part-is t b n)
 
 -- ---- the entries that are used: the first n of 85
 -- those from i on decide

@@ -6,6 +6,7 @@ use mathlib.Core.List.{List, [], _∷_, _++_}
 use native.Mathlib.Omega.{arith}
 use lib.ListN.{length, length-append, length-drop, take, drop}
 use lib.Seq.{length-take-le, take-length, take-take}
+use Rattle.rules.specs.Laying.{part-is}
 use Rattle.rules.specs.Tests.{pick, picked-by, eq-of, clash}
 use Rattle.rules.specs.Table.{Rules}
 use Rattle.rules.specs.declared.Form.{Form}
@@ -185,8 +186,7 @@ module _ (R : Rules) (o : List ℕ) (at : ℕ) (f : Found) (e : f ≡ parameterA
     pub entry-found : (used : ℕ) (v : Value) (g : Form) → g ≡ kindOf R k → v ≡ packed used (meant g (take (start + l - start) (drop start o))) → taken.Next (record { kind = k; value = v }) n (start + l) ≡ entryAt R o at used
     unfolding entryAt entryFrom entryOf meaningIn
     entry-found used v g a d =
-        let b : start + l - start ≡ l = omega arith in
-        let z : v ≡ packed used (meant (kindOf R k) (take l (drop start o))) = d ∙ ap₂ (λ (x : Form) (y : ℕ). packed used (meant x (take y (drop start o)))) a b in
+        let z : v ≡ packed used (meant (kindOf R k) (take l (drop start o))) = d ∙ ap₂ (λ (x : Form) (y : List ℕ). packed used (meant x y)) a (part-is o start l) in
         (λ i. taken.Next (record { kind = k; value = z i }) (size i) (start + l)) ∙ ap (entryFrom R o used) (sym p ∙ e)
 
   pub text-ended : f ≡ found.Nothing → text.End ≡ textAt R o at

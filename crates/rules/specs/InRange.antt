@@ -1,12 +1,12 @@
 -- In range is closed under step, and a new state is in range: so no octets lead out of it (document 01, Listening, its last sentences).
 -- Assumes nothing.
-use Prim.Native.Nat.{ℕ, zero, suc, _+_, _-_, _≤_, _<_}
+use Prim.Native.Nat.{ℕ, suc, _+_, _-_, _≤_, _<_}
 use mathlib.Core.Path.{_≡_, refl}
 use mathlib.Core.List.{List, [], _∷_}
 use mathlib.Core.Logic.{_⊎_, inl, inr}
 use native.Mathlib.Omega.{arith}
 use lib.Dec.{T}
-use Rattle.rules.specs.Tests.{_=?_, both, join, either, left, right, le-of, of-le, eq-of, of-eq, pick-case}
+use Rattle.rules.specs.Tests.{_=?_, both, join, either, left, right, le-of, of-le, eq-of, of-eq, pick-case, not-zero}
 use Rattle.rules.specs.Octets.{Octets}
 use Rattle.rules.specs.Contents.{within}
 use Rattle.rules.specs.Table.{Rules, listed, typeFault, document01}
@@ -67,10 +67,6 @@ module _ (R : Rules) where
       (λ e. inside _ _ _ (omega arith) (omega arith))
       (λ e. join _ _ (of-le _ _ (omega (arith, e))) (inside _ _ _ (omega arith) (omega arith)))
 
-  some-room : (r : ℕ) → (T (r =? 0) → ⊥) → 1 ≤ r
-  some-room zero t = absurd (t (of-eq _ _ refl))
-  some-room (suc r) t = omega arith
-
   kept : (s : Stage) (q p : Spot) (x : ℕ) → x < 256 → p .place ≡ suc (q .place) → T (inRange R (Waiting s q)) → (T (final s) → ⊥) → T (fits R s x) → T (inRange R (Waiting (after R s x) p))
   unfolding inRange fits after final
   kept Kind q p x o e t n f = of-eq _ _ (omega (arith, eq-of _ _ t))
@@ -78,7 +74,7 @@ module _ (R : Rules) where
   kept (Header r) q p x o e t n f =
       let a = low _ _ _ t in
       let b = high _ _ _ t in
-      join _ _ (of-le _ _ (some-room r n)) (inside _ _ _ (omega arith) (omega arith))
+      join _ _ (of-le _ _ (not-zero r n)) (inside _ _ _ (omega arith) (omega arith))
   kept (Length c r) q p x o e t n f =
       let a = low _ _ _ (both _ _ t .1) in
       let b = high _ _ _ (both _ _ t .1) in

@@ -48,7 +48,12 @@ laid-then v w old =
     (sym (drop-drop (length w) (length v) (v ++ drop (length v) old)) ∙ ap (drop (length w)) (drop-append-seam v (drop (length v) old)) ∙ drop-drop (length w) (length v) old ∙ ap (λ (n : ℕ). drop n old) (sym (length-append v w)))
     ∙ sym (append-assoc v w (drop (length (v ++ w)) old))
 
--- ---- the rest of a slice
+-- ---- parts of a slice
+-- a part by its start and end is that by its start and length
+pub part-is : (s : List ℕ) (start n : ℕ) → take (start + n - start) (drop start s) ≡ take n (drop start s)
+part-is s start n = let z : start + n - start ≡ n = omega arith in ap (λ (k : ℕ). take k (drop start s)) z
+
+-- the rest
 pub rest-whole : (at : ℕ) (s : List ℕ) → take (length s - at) (drop at s) ≡ drop at s
 rest-whole at s = take-all (length s - at) (drop at s) (omega (arith, length-drop at s))
 

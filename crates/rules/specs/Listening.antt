@@ -9,7 +9,7 @@ use mathlib.Core.List.{List, [], _∷_, _++_, append-assoc, append-nil}
 use native.Mathlib.Nat.{zero-add, min-le-left, mod-add-mod, add-assoc, add-zero}
 use native.Mathlib.Omega.{arith}
 use lib.ListN.{length, length-append, length-take, take, drop, getD, take-append-drop}
-use lib.Seq.{take-append-seam, take-at, take-suc, length-take-le}
+use lib.Seq.{take-at, take-suc, length-take-le, take-length}
 use lib.Dec.{T}
 use Rattle.rules.specs.Tests.{_=?_, eq-of, of-eq, pick-case, clash}
 use Rattle.rules.specs.Octets.{Octets, total, checksum, checksum-octet, octets-right, octets-take}
@@ -326,10 +326,7 @@ module _ (M : Machine) (G : Grammar M) where
         inner (Message n) l e = absurd (d .none (subst (λ (z : List ℕ). Accepted z) (whole n l) (message-accepted H oH n e .1)))
           where
             whole : (n : ℕ) → n ≡ suc p → take n H ≡ H
-            whole n l = ap (λ (j : ℕ). take j H) (l ∙ sym lH) ∙ take-all H
-              where
-                take-all : (l : List ℕ) → take (length l) l ≡ l
-                take-all l = ap (take (length l)) (sym (append-nil l)) ∙ take-append-seam l []
+            whole n l = ap (λ (j : ℕ). take j H) (l ∙ sym lH) ∙ take-length H
         inner (Refused f) l e =
             (f, again (suc p) ∙ ap (λ (w : State). run M w (drop (suc p) h)) e ∙ refused-stays M f (drop (suc p) h), omega arith)
 

@@ -86,6 +86,9 @@ pub of-eq : (a b : ℕ) → a ≡ b → T (a =? b)
 unfolding _=?_
 of-eq a b e = subst (λ (k : ℕ). T (eqb a k)) e (eqb-refl a)
 
+pub not-zero : (n : ℕ) → (T (n =? 0) → ⊥) → 1 ≤ n
+not-zero n f = let g : n ≡ 0 → ⊥ = λ q. f (of-eq _ _ q) in omega arith
+
 pub decide : (b : Bool) → T b ⊎ (T b → ⊥)
 decide true = inl tt
 decide false = inr (λ t. t)

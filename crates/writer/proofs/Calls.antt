@@ -25,10 +25,6 @@ use Rattle.writer.proofs.Judging.{takes-none, takes-number, takes-text,
 use Rattle.writer.specs.declared.Written.{Written}
 use Rattle.writer.specs.declared.Measure.{Measure}
 
--- from a start to an end is as long as the length
-pub part-of : (a n : ℕ) → a + n - a ≡ n
-part-of a n = omega arith
-
 pub used-count : (d : Draft) → length (d .entries) ≡ most → d .count ≤ most → length (used d) ≡ d .count
 used-count d l h = length-take-le (d .count) (d .entries) (omega arith)
 

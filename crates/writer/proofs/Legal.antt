@@ -8,7 +8,7 @@ use native.Mathlib.Nat.{min-le-left}
 use native.Mathlib.Omega.{arith}
 use lib.ListN.{length, length-take}
 use lib.Dec.{T}
-use Rattle.rules.specs.Tests.{_≤?_, _=?_, _and_, pick, every, decide, both, join, le-of, of-le, eq-of, of-eq, pick-yes, pick-not, picked-by, clash}
+use Rattle.rules.specs.Tests.{_≤?_, _and_, pick, every, decide, both, join, le-of, of-le, eq-of, of-eq, pick-yes, pick-not, picked-by, clash, not-zero}
 use Rattle.rules.specs.Table.{Rules}
 use Rattle.rules.specs.ContentLaw.{SoundRules}
 use Rattle.rules.specs.Sizes.{three-each}
@@ -22,12 +22,9 @@ use Rattle.writer.specs.Reasons.{Makes, lengthOf}
 use Rattle.writer.specs.Writing.{legalEntry, legalBefore, sized, measuredOf, writeOf}
 use Rattle.writer.specs.declared.Written.the-variants.{Message}
 
--- tests that fail
+-- a test that fails
 pub at-most : (a b : ℕ) → (T (suc b ≤? a) → ⊥) → a ≤ b
 at-most a b f = let g : b < a → ⊥ = λ l. f (of-le _ _ l) in omega arith
-
-pub at-least-one : (n : ℕ) → (T (n =? 0) → ⊥) → 1 ≤ n
-at-least-one n f = let g : n ≡ 0 → ⊥ = λ q. f (of-eq _ _ q) in omega arith
 
 -- ---- entries that make legal parameters
 module _ (R : Rules) (texts : List ℕ) where
@@ -123,7 +120,7 @@ module _ (R : Rules) (d : Draft) (texts : List ℕ) (room : ℕ) where
       (λ h e.
       picked-by _ _ _ _ _ e (λ _ e. clash cc)
       (λ r e. (
-        record { kind = k; some = at-least-one _ s; few = at-most _ _ f; legal = at-most _ _ l; short = at-most _ _ h; fits = at-most _ _ r },
+        record { kind = k; some = not-zero _ s; few = at-most _ _ f; legal = at-most _ _ l; short = at-most _ _ h; fits = at-most _ _ r },
         cc,
       )))))))
       (λ _ e. clash cc)

@@ -12,7 +12,7 @@ use borrow.Rule.Slice.PartMut.{putMid, midOf, same-len-mid}
 use Rattle.rules.specs.Tests.{every, both, le-of}
 use Rattle.rules.specs.Octets.{total, total-append, checksum}
 use Rattle.rules.specs.Message.{body, front, octets, most}
-use Rattle.rules.specs.Laying.{laid, laidAt, laid-then, rest-laid, rest-copied}
+use Rattle.rules.specs.Laying.{laid, laidAt, laid-then, rest-laid, rest-copied, part-is}
 use Rattle.draft.specs.Draft.{inside, allInside, parameterOf, parametersOf, used, messageOf}
 use Rattle.draft.specs.Same.{flatOf}
 use Rattle.draft.proofs.Alike.{inside-flat}
@@ -56,15 +56,14 @@ spelled-put s v kind old new r e d = subst (λ (w : List ℕ). Laid kind (length
 
 module _ (texts : List ℕ) (start n : ℕ) (h : start + n ≤ length texts) where
   part-long : length (take (start + n - start) (drop start texts)) ≡ n
-  part-long = let k : start + n - start ≡ n = omega arith in ap (λ (k : ℕ). length (take k (drop start texts))) k ∙ length-take-le n (drop start texts) (omega (arith, length-drop start texts))
+  part-long = ap length (part-is texts start n) ∙ length-take-le n (drop start texts) (omega (arith, length-drop start texts))
 
   pub part-asked : (room : ℕ) → 2 + n ≤ room → n < 256 → (2 + length (take (start + n - start) (drop start texts)) ≤ room) × (length (take (start + n - start) (drop start texts)) < 256)
   part-asked room f l = (omega (arith, part-long), omega (arith, part-long))
 
   pub part-put : (kind : ℕ) (old new : List ℕ) (r : ℕ) → Laid kind (length (take (start + n - start) (drop start texts))) (take (start + n - start) (drop start texts)) old new r → Laid kind n (take n (drop start texts)) old new r
   part-put kind old new r d =
-      let k : start + n - start ≡ n = omega arith in
-      subst (λ (k : ℕ). Laid kind n (take k (drop start texts)) old new r) k (subst (λ (m : ℕ). Laid kind m (take (start + n - start) (drop start texts)) old new r) part-long d)
+      subst (λ (v : List ℕ). Laid kind n v old new r) (part-is texts start n) (subst (λ (m : ℕ). Laid kind m (take (start + n - start) (drop start texts)) old new r) part-long d)
 
 -- ---- the parameter of an entry, by its value laid flat
 module _ (texts : List ℕ) (e : Entry) (f : Flat) (q : f ≡ flatOf (e .value)) (room : ℕ) (p : Puttable e texts room) where

@@ -7,7 +7,7 @@ use mathlib.Core.List.{List, [], _∷_}
 use native.Mathlib.Omega.{arith}
 use lib.ListN.{take, getD}
 use lib.Dec.{T}
-use Rattle.rules.specs.Tests.{_=?_, pick, decide, both, le-of, of-le, eq-of, of-eq, pick-yes, pick-not, pick-case}
+use Rattle.rules.specs.Tests.{_=?_, pick, decide, both, le-of, of-le, eq-of, of-eq, pick-yes, pick-not, pick-case, not-zero}
 use Rattle.rules.specs.Table.{document01, rowIn, rowOf, classOf, formOf}
 use Rattle.rules.specs.Message.{messageKind}
 use Rattle.draft.specs.Meaning.{formNumber, formIs, kindOf}
@@ -15,7 +15,7 @@ use Rattle.draft.specs.Draft.{noEntry, meaningOf, used}
 use Rattle.draft.specs.declared.Entry.{Entry}
 use Rattle.draft.specs.declared.Draft.{Draft}
 use Rattle.writer.specs.Writing.{Answer, answerOf, declined, legalEntry, legalBefore, sized, measuredOf, writeOf}
-use Rattle.writer.proofs.Legal.{at-most, at-least-one, makes-iff}
+use Rattle.writer.proofs.Legal.{at-most, makes-iff}
 use Rattle.writer.specs.declared.Written.{Written}
 use Rattle.writer.specs.Reasons.{lengthOf, AllMake, FirstBad, Asked, Went, refusal, success, Answers, kind-is-none, no-entries, many-entries, bad-entry, too-long, too-tight, fits}
 
@@ -86,7 +86,7 @@ module _ (d : Draft) (texts : List ℕ) (room : ℕ) where
       (λ s.
       pick-case (Went d texts room) _ _ _ (λ m. many-entries k (le-of _ _ m))
       (λ f.
-      let a : Asked d = record { kind = k; some = at-least-one _ s; few = at-most _ _ f } in
+      let a : Asked d = record { kind = k; some = not-zero _ s; few = at-most _ _ f } in
       pick-case (Went d texts room) _ _ _ (λ l. bad-entry _ a (first-is d texts (le-of _ _ l)))
       (λ l.
       let m = all-make d texts (at-most _ _ l) in
