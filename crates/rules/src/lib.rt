@@ -1,5 +1,5 @@
 // What the judge of single octets is made of, and the tests that it needs: the class of a parameter type, the lengths of a class and the room
-// they fit, and the octets of contents (document 01, The message). Every function is total.
+// they fit, and the octets of contents (document 01, The message); and whether two texts are the same. Every function is total.
 ghost use mathlib.Core.Path.{_≡_};
 ghost use mathlib.Core.Bool.{true};
 ghost use mathlib.Core.List.{[], _∷_};
