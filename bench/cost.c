@@ -51,8 +51,10 @@ static unsigned ours(const char *what, const uint8_t *o, size_t n) {
 
 static unsigned second(const char *what, const uint8_t *o, size_t n) {
     static struct second_draft draft;
-    static struct second_desk desk = {SECOND_UNKNOWN, SECOND_UNKNOWN};
+    static struct second_desk desk;
+    static int made;
     unsigned last = 0;
+    if (!made) second_clear(&desk), made = 1;
     if (strcmp(what, "whole") == 0) return (unsigned)second_listen(o, n).size;
     if (strcmp(what, "octets") == 0) {
         for (size_t at = 1; at <= n; at++) last = (unsigned)second_listen(o, at).size;

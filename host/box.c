@@ -1,5 +1,5 @@
-/* A box's program, to copy from: hears octets from standard input as they come, shows who calls, the lamp and how many messages wait, settles notices on a
- * desk, and resets its listener after every answer. A modem's program stands before it in a pipe (host/sound plays one), in a box the modem's interrupt. */
+/* A box's program, to copy from: hears octets from standard input as they come, shows who calls, the lamp, how many messages wait and which are
+ * open, settles notices on a desk, and resets its listener after every answer. A modem's program stands before it in a pipe (host/sound plays one), in a box the modem's interrupt. */
 #define _POSIX_C_SOURCE 200809L
 #include <stdio.h>
 #include <string.h>
@@ -40,9 +40,12 @@ static void show_desk(const uint8_t *desk) {
     static const char *const lamps[] = {"unknown", "off", "on"};
     printf("lamp %s, ", lamps[anthercup_lamp(desk)]);
     if (anthercup_waiting(desk) < 0)
-        printf("waiting unknown\n");
+        printf("waiting unknown");
     else
-        printf("waiting %d\n", anthercup_waiting(desk));
+        printf("waiting %d", anthercup_waiting(desk));
+    for (unsigned i = 0; i < ANTHERCUP_PLACES; i++)
+        if (anthercup_open(desk, i) >= 0) printf(", open %d", (int)anthercup_open(desk, i));
+    printf("\n");
 }
 
 static void show_message(struct box *b) {
@@ -51,7 +54,8 @@ static void show_message(struct box *b) {
     if (anthercup_message_type(draft) == 0x80) {
         show_call(draft, texts);
     } else {
-        anthercup_settle(b->desk, sizeof b->desk, b->held, b->count);
+        uint64_t answer = anthercup_settle(b->desk, sizeof b->desk, b->held, b->count);
+        if (anthercup_number(answer) == ANTHERCUP_NO_PLACE) printf("no place for another open message: notice not settled\n");
         show_desk(b->desk);
     }
 }

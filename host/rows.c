@@ -148,6 +148,16 @@ static void notice_is(const char *octets, int waiting, unsigned lamp) {
     same(octets, anthercup_lamp(desk), lamp);
 }
 
+/* every place in range, and no reference twice */
+static int places_good(const uint8_t *desk) {
+    for (unsigned i = 0; i < ANTHERCUP_PLACES; i++) {
+        if (anthercup_open(desk, i) > 65535) return 0;
+        for (unsigned j = 0; j < i; j++)
+            if (anthercup_open(desk, i) >= 0 && anthercup_open(desk, i) == anthercup_open(desk, j)) return 0;
+    }
+    return 1;
+}
+
 /* records of every size around the right one; of desks every value of every octet beside a desk of which nothing is known, and beside one that is full */
 static void other_records(void) {
     uint8_t o[] = {0x82, 3, 0x13, 1, 2, 0x65}, record[ANTHERCUP_DRAFT + 16], before[sizeof record], texts[ANTHERCUP_TEXTS];
@@ -164,14 +174,75 @@ static void other_records(void) {
         for (size_t at = 0; at < ANTHERCUP_DESK; at++)
             for (unsigned v = 0; v < 256; v++) {
                 uint8_t desk[ANTHERCUP_DESK] = {(uint8_t)full, full ? 255 : 0, full ? 2 : 0, 0};
+                for (unsigned i = 0; i < ANTHERCUP_PLACES; i++) desk[4 + 3 * i] = (uint8_t)(full ? i + 2 : 0);
                 desk[at] = (uint8_t)v;
-                int good = desk[0] <= 1 && (desk[0] == 1 || desk[1] == 0) && desk[2] <= 2 && desk[3] == 0;
+                int good = desk[0] <= 1 && (desk[0] == 1 || desk[1] == 0) && desk[2] <= 2 && desk[3] == 0 && places_good(desk);
                 memcpy(before, desk, sizeof desk);
                 uint64_t answer = anthercup_settle(desk, sizeof desk, o, sizeof o);
                 same("a desk's codes", (unsigned long)answer, good ? 0 : ANTHERCUP_RECORD);
                 if (good) same("waiting", (unsigned long)anthercup_waiting(desk), 2);
                 else same("a desk that stays", (unsigned long)memcmp(before, desk, sizeof desk), 0);
             }
+}
+
+/* document 02, Q-6: a notice with a state and a reference, and the lamp on where it is asked for */
+static uint64_t about(uint8_t *desk, uint8_t state, unsigned reference, int lamp) {
+    uint8_t o[] = {0x82, 5, 0x0D, 3, state, (uint8_t)(reference >> 8), (uint8_t)reference, 0x0B, 1, 0xFF, 0}, sum = 0;
+    size_t n = lamp ? 10 : 7;
+    o[1] = (uint8_t)(n - 2);
+    for (size_t i = 0; i < n; i++) sum = (uint8_t)(sum + o[i]);
+    o[n] = (uint8_t)(0 - sum);
+    return anthercup_settle(desk, ANTHERCUP_DESK, o, n + 1);
+}
+
+static void holds(const uint8_t *desk, unsigned place, int32_t reference) { same("the reference in a place", (unsigned long)anthercup_open(desk, place), (unsigned long)reference); }
+
+/* added once, the lowest free place, the others stay, unset does nothing, a repeat after the removal adds again, clearing */
+static void references(void) {
+    uint8_t desk[ANTHERCUP_DESK], once[ANTHERCUP_DESK];
+    anthercup_new_desk(desk, sizeof desk);
+    for (unsigned i = 0; i < ANTHERCUP_PLACES; i++) holds(desk, i, -1);
+    same("added", (unsigned long)about(desk, 0xFF, 0x0102, 0), 0);
+    holds(desk, 0, 0x0102);
+    memcpy(once, desk, sizeof once);
+    same("added again", (unsigned long)about(desk, 0xFF, 0x0102, 0), 0);
+    same("once", (unsigned long)memcmp(once, desk, sizeof once), 0);
+    about(desk, 0xFF, 0, 0);
+    about(desk, 0xFF, 65535, 0);
+    holds(desk, 1, 0), holds(desk, 2, 65535), holds(desk, 3, -1);
+    about(desk, 0x55, 7, 0), about(desk, 0x00, 7, 0);
+    holds(desk, 0, 0x0102), holds(desk, 1, 0), holds(desk, 2, 65535), holds(desk, 3, -1);
+    about(desk, 0x00, 0, 0);
+    holds(desk, 0, 0x0102), holds(desk, 1, -1), holds(desk, 2, 65535);
+    for (size_t i = 7; i < 10; i++) same("a freed place is as new", desk[i], 0);
+    about(desk, 0xFF, 9, 0);
+    holds(desk, 0, 0x0102), holds(desk, 1, 9), holds(desk, 2, 65535), holds(desk, 3, -1);
+    about(desk, 0xFF, 0, 0);
+    holds(desk, 3, 0);
+    same("cleared", (unsigned long)anthercup_new_desk(desk, sizeof desk), 0);
+    for (size_t i = 0; i < sizeof desk; i++) same("as new", desk[i], 0);
+}
+
+/* sixteen places: all but one taken, all taken, by others or by the reference itself */
+static void places(void) {
+    uint8_t desk[ANTHERCUP_DESK], full[ANTHERCUP_DESK];
+    anthercup_new_desk(desk, sizeof desk);
+    for (unsigned i = 0; i < ANTHERCUP_PLACES; i++) {
+        same("a place is free", (unsigned long)about(desk, 0xFF, 100 + i, 0), 0);
+        holds(desk, i, (int32_t)(100 + i));
+    }
+    memcpy(full, desk, sizeof full);
+    same("no place", (unsigned long)about(desk, 0xFF, 116, 1), ANTHERCUP_NO_PLACE);
+    same("no place, and no lamp", (unsigned long)memcmp(full, desk, sizeof full), 0);
+    same("unset", (unsigned long)about(desk, 0x55, 116, 0), 0);
+    same("not there", (unsigned long)about(desk, 0x00, 116, 0), 0);
+    same("all stay", (unsigned long)memcmp(full, desk, sizeof full), 0);
+    same("it is there", (unsigned long)about(desk, 0xFF, 115, 1), 0);
+    same("and the lamp", anthercup_lamp(desk), ANTHERCUP_LAMP_ON);
+    same("taken out", (unsigned long)about(desk, 0x00, 107, 0), 0);
+    same("a place again", (unsigned long)about(desk, 0xFF, 116, 0), 0);
+    holds(desk, 6, 106), holds(desk, 7, 116), holds(desk, 8, 108);
+    same("and none again", (unsigned long)about(desk, 0xFF, 107, 0), ANTHERCUP_NO_PLACE);
 }
 
 int main(void) {
@@ -186,6 +257,8 @@ int main(void) {
     notice_is("820613010213010549", 2, ANTHERCUP_LAMP_UNKNOWN);
     notice_is("8006040150020137EB", -1, ANTHERCUP_LAMP_UNKNOWN);
     other_records();
-    printf("rows: %lu answers as document 01 has them\n", compared);
+    references();
+    places();
+    printf("rows: %lu answers as documents 01 and 02 have them\n", compared);
     return 0;
 }

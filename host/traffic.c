@@ -1,7 +1,8 @@
 /* Traffic through the archive and the second reader in one process: each message is heard whole, octet by octet and in runs of random cuts, and every
  * answer, place, size and count of octets taken is held to what the second reader says of the octets offered so far. Records are handed back after every
  * call, and records of random octets are refused with 17 as they were, or are stepped. Each is read whole, with areas on both sides of what its texts need
- * and records of other sizes: every entry, every text and all that must stay. Each is settled on a desk, twice. Says how many answers it compared; a difference ends it with status 1. */
+ * and records of other sizes: every entry, every text and all that must stay. Each is settled on a desk, twice, and so is a history of messages about a few
+ * references, of which the last word on each is kept here too. Says how many answers it compared; a difference ends it with status 1. */
 #include <stdio.h>
 #include <stdlib.h>
 #include <string.h>
@@ -142,33 +143,87 @@ static struct second_desk desk_of(const uint8_t *desk) {
     struct second_desk s;
     s.waiting = anthercup_waiting(desk);
     s.lamp = (int)anthercup_lamp(desk) - 1;
+    for (unsigned i = 0; i < SECOND_PLACES; i++) s.open[i] = anthercup_open(desk, i);
     return s;
 }
 
-/* the same desk through both, and settled twice; then any record at all */
-static void settles(struct traffic *t, const uint8_t *o, size_t n, uint8_t *desk) {
+static int same_desk(struct second_desk a, struct second_desk b) {
+    return a.waiting == b.waiting && a.lamp == b.lamp && memcmp(a.open, b.open, sizeof a.open) == 0;
+}
+
+/* the same desk through both, and settled twice */
+static uint64_t settles(const uint8_t *o, size_t n, uint8_t *desk) {
     struct second_desk s = desk_of(desk), before = s;
-    uint8_t once[ANTHERCUP_DESK], any[8], was[8];
+    uint8_t once[ANTHERCUP_DESK];
     struct second_verdict v = second_settle(&s, o, n);
     uint64_t answer = anthercup_settle(desk, ANTHERCUP_DESK, o, n);
     same("settle: number", o, n, anthercup_number(answer), v.number);
     same("settle: place", o, n, anthercup_place(answer), v.place);
     same("settle: other fields", o, n, (unsigned long)(answer >> 24), 0);
-    same("settle: waiting", o, n, (unsigned long)desk_of(desk).waiting, (unsigned long)s.waiting);
-    same("settle: lamp", o, n, (unsigned long)desk_of(desk).lamp, (unsigned long)s.lamp);
-    if (v.number) same("settle: desk of a refusal", o, n, (unsigned long)(s.waiting != before.waiting || s.lamp != before.lamp), 0);
+    same("settle: desk", o, n, (unsigned long)same_desk(desk_of(desk), s), 1);
+    if (v.number) same("settle: desk of a refusal", o, n, (unsigned long)same_desk(s, before), 1);
     memcpy(once, desk, sizeof once);
     same("settle: twice", o, n, (unsigned long)(anthercup_settle(desk, ANTHERCUP_DESK, o, n) != answer || memcmp(once, desk, sizeof once)), 0);
+    return answer;
+}
 
+/* any record at all: 17 exactly where size, codes, places or a reference twice make it none */
+static void any_desk(struct traffic *t, const uint8_t *o, size_t n) {
+    static const uint32_t ends[] = {1, 2, 3, 65535, 65536, 65537, 16777215};
+    uint8_t any[ANTHERCUP_DESK + 4] = {0}, was[sizeof any];
     size_t size = traffic_number(t, 4) ? ANTHERCUP_DESK : traffic_number(t, sizeof any);
-    for (size_t i = 0; i < sizeof any; i++) any[i] = (uint8_t)(traffic_number(t, 3) ? traffic_number(t, 4) : traffic_number(t, 256));
-    if (traffic_number(t, 2)) any[3] = 0;
+    for (size_t i = 0; i < 3; i++) any[i] = (uint8_t)(traffic_number(t, 3) ? traffic_number(t, 3) : traffic_number(t, 256));
+    if (traffic_number(t, 8) == 0) any[3] = (uint8_t)traffic_number(t, 4);
+    for (uint32_t k = traffic_number(t, 4); k > 0; k--) {
+        uint32_t held = ends[traffic_number(t, sizeof ends / sizeof ends[0])], at = 4 + 3 * traffic_number(t, SECOND_PLACES);
+        for (unsigned i = 0; i < 3; i++) any[at + i] = (uint8_t)(held >> 8 * i);
+    }
     memcpy(was, any, sizeof any);
-    int good = size == ANTHERCUP_DESK && any[0] <= 1 && (any[0] || !any[1]) && any[2] <= 2 && !any[3];
-    answer = anthercup_settle(any, size, o, n);
-    same("settle: 17", was, size, anthercup_number(answer) == ANTHERCUP_RECORD, !good);
-    if (!good || v.number) same("settle: a record that stays", was, size, (unsigned long)memcmp(any, was, sizeof any), 0);
+    struct second_desk s = desk_of(any);
+    if (any[0] > 1 || (any[0] == 0 && any[1] != 0) || any[3] != 0) s.waiting = SECOND_UNKNOWN - 1;
+    if (any[2] > 2) s.lamp = 2;
+    struct second_verdict v = second_settle(&s, o, n);
+    if (size != ANTHERCUP_DESK) v.number = 17, v.place = 0;
+    uint64_t answer = anthercup_settle(any, size, o, n);
+    same("any desk: number", was, size, anthercup_number(answer), v.number);
+    same("any desk: place", was, size, anthercup_place(answer), v.place);
+    if (v.number) same("any desk: stays", was, size, (unsigned long)memcmp(any, was, sizeof any), 0);
+    else same("any desk: settled", was, size, (unsigned long)same_desk(desk_of(any), s), 1);
     same("new desk", was, size, (unsigned long)anthercup_new_desk(any, size), size == ANTHERCUP_DESK ? 0 : ANTHERCUP_RECORD);
+}
+
+/* messages about a few references on one desk, cleared now and then: after each, a reference is open exactly as the last notice said that was done and added or
+ * removed it */
+static void history(struct traffic *t, long messages) {
+    static uint8_t last[65536];
+    uint8_t o[TRAFFIC_OCTETS], desk[ANTHERCUP_DESK];
+    unsigned long full = 0;
+    unsigned open = 0;
+    anthercup_new_desk(desk, sizeof desk);
+    for (long i = 0; i < messages; i++) {
+        size_t n = traffic_about(t, o), start, length;
+        uint64_t answer = settles(o, n, desk);
+        full += anthercup_number(answer) == ANTHERCUP_NO_PLACE;
+        if (anthercup_number(answer) == 0 && o[0] == 0x82 && second_counted(o, n, 0x0D, &start, &length) && o[start] != 0x55) {
+            uint8_t *word = &last[o[start + 1] * 256 + o[start + 2]];
+            open = open - *word + (o[start] == 0xFF);
+            *word = o[start] == 0xFF;
+        }
+        if (traffic_number(t, 500) == 0) {
+            anthercup_new_desk(desk, sizeof desk);
+            memset(last, 0, sizeof last);
+            open = 0;
+        }
+        unsigned held = 0;
+        for (unsigned p = 0; p < ANTHERCUP_PLACES; p++)
+            if (anthercup_open(desk, p) >= 0) {
+                same("history: held is open", o, n, last[anthercup_open(desk, p)], 1);
+                held++;
+            }
+        same("history: open is held", o, n, held, open);
+    }
+    if (full == 0) differ("history: no message without a place", o, 0, 0, 1);
+    printf("history: %ld messages about references, %lu of them without a place\n", messages, full);
 }
 
 int main(int argc, char **argv) {
@@ -185,8 +240,11 @@ int main(int argc, char **argv) {
         if (i % 8 == 0) in_runs(&t, o, n, whole, 1);
         any_record(&t);
         reads(&t, o, n);
-        settles(&t, o, n, desk);
+        settles(o, n, desk);
+        any_desk(&t, o, n);
+        if (i % 64 == 0) anthercup_new_desk(desk, sizeof desk);
     }
+    history(&t, messages / 4);
     printf("traffic: %ld messages, %lu answers as the second reader has them\n", messages, compared);
     return 0;
 }

@@ -1,4 +1,5 @@
-/* Anthercup for the boxes' firmware: the listener, the reader and the desk (document 01, Listening, Drafts and The desk).
+/* Anthercup for the boxes' firmware: the listener, the reader and the desk (document 01, Listening, Drafts and The desk; document
+ * 02, Q-6).
  *
  * Every function takes octets as a pointer and a length. A pointer is never null, also where the length is 0, and what is lent for writing overlaps
  * nothing else. Anything may be handed in: a record of another size, or one that holds a code or number out of range, gets number 17 and stays as
@@ -59,8 +60,10 @@ enum anthercup_kinds { ANTHERCUP_CODE = 0, ANTHERCUP_DATE = 1, ANTHERCUP_STATE =
  *    0       1 where the waiting number is known, else 0
  *    1       the waiting number, 0 where it is not known
  *    2       the lamp: 0 unknown, 1 off, 2 on
- *    3       0, kept */
-enum { ANTHERCUP_DESK = 4 };
+ *    3       0, kept
+ *    4 to 51 sixteen places for the references of open messages, three octets each, low octet first: 0 where the place is free, else one more than the
+ *            reference that it holds; no reference stands twice */
+enum { ANTHERCUP_DESK = 52, ANTHERCUP_PLACES = 16 };
 
 enum anthercup_lamps { ANTHERCUP_LAMP_UNKNOWN = 0, ANTHERCUP_LAMP_OFF = 1, ANTHERCUP_LAMP_ON = 2 };
 
@@ -75,7 +78,8 @@ enum anthercup_numbers {
     ANTHERCUP_FOLLOWED = 7,     /* whole read: octets follow the message; place: the first of them */
     ANTHERCUP_EARLY = 8,        /* whole read: ends early, nothing wrong yet; place: the number of octets */
     ANTHERCUP_AREA = 9,         /* whole read: text area too short; place: text octets needed */
-    ANTHERCUP_RECORD = 17       /* a record of a wrong size, or with a code or number out of range */
+    ANTHERCUP_RECORD = 17,      /* a record of a wrong size, or with a code or number out of range, or a desk's with a reference twice */
+    ANTHERCUP_NO_PLACE = 21     /* a notice adds a reference, and all sixteen places of the desk hold others */
 };
 
 /* Makes the record that of a new listener, whatever it holds. Number 0, or 17 where listener_len is not ANTHERCUP_LISTENER. */
@@ -90,11 +94,14 @@ uint64_t anthercup_listen(uint8_t *listener, size_t listener_len, const uint8_t 
  * area then hold what they held. */
 uint64_t anthercup_read(const uint8_t *octets, size_t octets_len, uint8_t *draft, size_t draft_len, uint8_t *texts, size_t texts_len);
 
-/* Makes the record that of a new desk, whatever it holds: number and lamp unknown. Number 0, or 17 where desk_len is not ANTHERCUP_DESK. */
+/* Clears a desk: makes the record that of a new one, whatever it holds: number and lamp unknown, all places free. Number 0, or 17 where desk_len is not
+ * ANTHERCUP_DESK. */
 uint64_t anthercup_new_desk(uint8_t *desk, size_t desk_len);
 
-/* Settles one whole message on a desk: a notice sets the waiting number and the lamp where it says them, to what it says; a call message changes nothing.
- * Number 0; or 17 for a record that is no desk's, then 1 to 8: the record then stays as it was. The same message settled twice leaves what once left. */
+/* Settles one whole message on a desk: a notice sets the waiting number and the lamp where it says them, to what it says; where it says a message's state, on
+ * adds its reference to the lowest free place, unless it is there, off takes it out, unset does nothing. A call message changes nothing. Number 0; or 17 for
+ * a record that is no desk's, then 1 to 8, then 21: nothing at all is settled then, and the record stays as it was. The same message settled twice running
+ * leaves what once left. */
 uint64_t anthercup_settle(uint8_t *desk, size_t desk_len, const uint8_t *octets, size_t octets_len);
 
 static inline unsigned anthercup_number(uint64_t answer) { return (unsigned)(answer & 0xff); }
@@ -130,9 +137,13 @@ static inline const uint8_t *anthercup_entry_text(const uint8_t *draft, unsigned
     return texts + anthercup_entry_start(draft, i);
 }
 
-/* The fields of a desk's record: the waiting number, or -1 where it is not known; and the lamp. */
+/* The fields of a desk's record: the waiting number, or -1 where it is not known; the lamp; and the reference in a place, 0 to 15, or -1 where it is free. */
 static inline int anthercup_waiting(const uint8_t *desk) { return desk[0] ? desk[1] : -1; }
 static inline unsigned anthercup_lamp(const uint8_t *desk) { return desk[2]; }
+static inline int32_t anthercup_open(const uint8_t *desk, unsigned place) {
+    const uint8_t *p = desk + 4 + 3 * (size_t)place;
+    return (int32_t)p[0] + 256 * (int32_t)p[1] + 65536 * (int32_t)p[2] - 1;
+}
 
 #ifdef __cplusplus
 }

@@ -447,18 +447,74 @@ struct second_verdict second_read(const uint8_t *o, size_t n, size_t area_len,
 
 /* ---- "The desk" ---- */
 
+void second_clear(struct second_desk *desk)
+{
+    desk->waiting = SECOND_UNKNOWN;
+    desk->lamp = SECOND_UNKNOWN;
+    for (int i = 0; i < SECOND_PLACES; i++)
+        desk->open[i] = SECOND_FREE;
+}
+
+/* How many places hold this. */
+static int places_with(const struct second_desk *desk, long what)
+{
+    int n = 0;
+
+    for (int i = 0; i < SECOND_PLACES; i++)
+        n += desk->open[i] == what;
+    return n;
+}
+
+static int out_of_range(const struct second_desk *desk)
+{
+    if (desk->waiting < SECOND_UNKNOWN || desk->waiting > 255
+        || desk->lamp < SECOND_UNKNOWN || desk->lamp > 1)
+        return 1;
+    for (int i = 0; i < SECOND_PLACES; i++) {
+        long held = desk->open[i];
+        if (held < SECOND_FREE || held > 65535)
+            return 1;
+        if (held != SECOND_FREE && places_with(desk, held) > 1)
+            return 1;
+    }
+    return 0;
+}
+
+/* Puts `to` into the lowest place that holds `from`. */
+static void replace(struct second_desk *desk, long from, long to)
+{
+    int i = 0;
+
+    while (i < SECOND_PLACES && desk->open[i] != from)
+        i++;
+    if (i < SECOND_PLACES)
+        desk->open[i] = to;
+}
+
 struct second_verdict second_settle(struct second_desk *desk,
                                     const uint8_t *o, size_t n)
 {
     struct second_verdict v = {17, 0};
     struct parameter q;
 
-    if (desk->waiting < SECOND_UNKNOWN || desk->waiting > 255
-        || desk->lamp < SECOND_UNKNOWN || desk->lamp > 1)
+    if (out_of_range(desk))
         return v;
     v = judge(o, n);
     if (v.number != 0 || o[0] != 0x82)
         return v;
+    if (counts(o, 0x0D, &q)) {
+        long reference = o[q.start + 1] * 256L + o[q.start + 2];
+        int there = places_with(desk, reference) == 1;
+        if (o[q.start] == 0xFF && !there) {
+            if (places_with(desk, SECOND_FREE) == 0) {
+                v.number = 21;
+                return v;
+            }
+            replace(desk, SECOND_FREE, reference);
+        }
+        if (o[q.start] == 0x00 && there)
+            replace(desk, reference, SECOND_FREE);
+    }
     if (counts(o, 0x13, &q))
         desk->waiting = o[q.start];
     if (counts(o, 0x0B, &q))

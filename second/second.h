@@ -73,16 +73,23 @@ struct second_draft {
 struct second_verdict second_read(const uint8_t *o, size_t n, size_t area_len,
                                   struct second_draft *draft);
 
-/* ---- "The desk" ---- */
+/* ---- "The desk", and Q-6 of 02 ---- */
 
 #define SECOND_UNKNOWN (-1)
+
+#define SECOND_FREE (-1)
+#define SECOND_PLACES 16
 
 struct second_desk {
     int waiting; /* SECOND_UNKNOWN or 0 to 255 */
     int lamp;    /* SECOND_UNKNOWN, 0 off, 1 on */
+    long open[SECOND_PLACES]; /* SECOND_FREE or a reference, 0 to 65,535 (02, Q-6) */
 };
 
-/* Settles a notice: 0, or 17 for a desk out of range, or 1 to 8. */
+void second_clear(struct second_desk *desk);
+
+/* Settles a notice: 0, or 17 for a desk out of range or with a reference
+ * twice, or 1 to 8, or 21 for a reference without a place. */
 struct second_verdict second_settle(struct second_desk *desk,
                                     const uint8_t *o, size_t n);
 

@@ -469,3 +469,50 @@ size_t traffic_next(struct traffic *t, uint8_t out[TRAFFIC_OCTETS])
         last = build(t, out, choose_room(t));
     return damage(t, out, out[1] + 3u, last);
 }
+
+/* State and reference, few enough of them to meet again. */
+static size_t put_reference(struct traffic *t, uint8_t *out, size_t n)
+{
+    static const uint8_t states[] = {0xFF, 0xFF, 0xFF, 0x00, 0x00, 0x55};
+    static const uint16_t ends[] = {0, 1, 255, 256, 65535};
+    uint32_t which = traffic_number(t, 24);
+    unsigned reference = which < 5 ? ends[which] : 0x1000u + which;
+
+    out[n++] = 0x0D;
+    out[n++] = 3;
+    out[n++] = states[traffic_number(t, sizeof states)];
+    out[n++] = (uint8_t)(reference >> 8);
+    out[n++] = (uint8_t)reference;
+    return n;
+}
+
+size_t traffic_about(struct traffic *t, uint8_t out[TRAFFIC_OCTETS])
+{
+    size_t n = 2;
+    uint8_t sum = 0;
+
+    t->sort = TRAFFIC_VALID;
+    out[0] = traffic_number(t, 16) == 0 ? 0x80 : 0x82;
+    if (traffic_number(t, 2) == 0) {
+        out[n++] = 0x0B;
+        out[n++] = 1;
+        out[n++] = traffic_number(t, 2) == 0 ? 0x00 : 0xFF;
+    }
+    n = put_reference(t, out, n);
+    if (traffic_number(t, 8) == 0)
+        n = put_reference(t, out, n);
+    if (traffic_number(t, 2) == 0) {
+        out[n++] = 0x13;
+        out[n++] = 1;
+        out[n++] = (uint8_t)traffic_number(t, 256);
+    }
+    out[1] = (uint8_t)(n - 2);
+    for (size_t i = 0; i < n; i++)
+        sum = (uint8_t)(sum + out[i]);
+    out[n++] = (uint8_t)(0 - sum);
+    if (traffic_number(t, 32) == 0) {
+        t->sort = TRAFFIC_WRONG_SUM;
+        change(t, &out[n - 1]);
+    }
+    return n;
+}

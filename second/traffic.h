@@ -44,4 +44,9 @@ uint32_t traffic_number(struct traffic *t, uint32_t below);
 /* Writes the next message and gives its number of octets, 0 to 300. */
 size_t traffic_next(struct traffic *t, uint8_t out[TRAFFIC_OCTETS]);
 
+/* Likewise a message about one of some 24 references (02, Q-6): mostly a
+ * notice that adds it, removes it or leaves it unset, often with a lamp and a
+ * number; now and then a second reference, a call message, or a wrong sum. */
+size_t traffic_about(struct traffic *t, uint8_t out[TRAFFIC_OCTETS]);
+
 #endif

@@ -1,3 +1,9 @@
 -- The root of the proofs.
+pub mod Holding
+pub mod Changes
+pub mod Counted
+pub mod Noticing
+pub mod Settles
+pub mod History
 pub mod Settled
 pub mod Settling

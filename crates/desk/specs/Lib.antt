@@ -1,5 +1,7 @@
 -- The root of what the desk promises.
+pub mod Open
 pub mod Settle
-pub mod Counted
+pub mod Holding
 pub mod Settles
+pub mod History
 pub mod Rows

@@ -1,8 +1,9 @@
--- Document 01's rows on a desk, computed: settled notices, repeats, a call message, and refusals.
+-- Document 01's rows on a desk, computed: settled notices, a call message, and refusals; then document 02's Q-6: references added, removed and refused.
 -- Assumes nothing.
 use Prim.Native.Nat.{ℕ}
 use mathlib.Core.Path.{_≡_, refl}
-use mathlib.Core.List.{[], _∷_}
+use mathlib.Core.List.{List, [], _∷_}
+use lib.ListN.{replicate}
 use Rattle.rules.specs.Tests.{_≤?_, _=?_, _and_, _or_, pick}
 use Rattle.rules.specs.Octets.{checksum}
 use Rattle.rules.specs.Contents.{within, inSet, lengths, lengthFits, digit}
@@ -20,16 +21,30 @@ use Rattle.desk.specs.declared.Lamp.the-variants as lamp
 use Rattle.desk.specs.declared.Desk.{Desk}
 use Rattle.desk.specs.declared.Answer.the-variants.{Done, Refused}
 use Rattle.desk.specs.declared.Outcome.{Outcome}
-use Rattle.desk.specs.Settle.{newDesk, waitingAfter, lampAfter, noticed, countedIn, deskAfter, settledUnder, settleOf}
+use Rattle.desk.specs.Open.{free, held, firstOf, absent, mayStand, placesFit, changeBy, isFull, placesAfter}
+use Rattle.desk.specs.Settle.{newDesk, waitingAfter, lampAfter, changeIn, changeOf, noticed, countedIn, settledNotice, settledMessage, settledUnder, refusedWith, settleOf}
+
+abbrev with-places : Waiting → Lamp → List ℕ → Desk
+with-places w l ps = record { waiting = w; lamp = l; places = ps }
 
 abbrev desk : Waiting → Lamp → Desk
-desk w l = record { waiting = w; lamp = l }
+desk w l = with-places w l (replicate 16 free)
+
+abbrev holding : List ℕ → Desk
+holding ps = with-places waiting.Unknown lamp.Unknown ps
+
+abbrev settled : Desk → Outcome
+settled d = record { desk = d; answer = Done }
 
 abbrev done : Waiting → Lamp → Outcome
-done w l = record { desk = desk w l; answer = Done }
+done w l = settled (desk w l)
 
 abbrev refused : ℕ → ℕ → Desk → Outcome
 refused k p d = record { desk = d; answer = Refused (record { number = k; place = p }) }
+
+-- the references 101H to 110H
+abbrev sixteen : List ℕ
+sixteen = held 0x101 ∷ held 0x102 ∷ held 0x103 ∷ held 0x104 ∷ held 0x105 ∷ held 0x106 ∷ held 0x107 ∷ held 0x108 ∷ held 0x109 ∷ held 0x10A ∷ held 0x10B ∷ held 0x10C ∷ held 0x10D ∷ held 0x10E ∷ held 0x10F ∷ held 0x110 ∷ []
 
 pub record Claim : Type 0 where
   pub lamp-on : settleOf document01 newDesk (0x82 ∷ 0x03 ∷ 0x0B ∷ 0x01 ∷ 0xFF ∷ 0x70 ∷ []) ≡ done waiting.Unknown lamp.On
@@ -41,9 +56,20 @@ pub record Claim : Type 0 where
   pub wrong-kind : settleOf document01 newDesk (0x81 ∷ []) ≡ refused 1 0 newDesk
   pub wrong-sum : settleOf document01 newDesk (0x82 ∷ 0x03 ∷ 0x0B ∷ 0x01 ∷ 0xFF ∷ 0x71 ∷ []) ≡ refused 6 5 newDesk
   pub followed : settleOf document01 newDesk (0x82 ∷ 0x03 ∷ 0x0B ∷ 0x01 ∷ 0xFF ∷ 0x70 ∷ 0x00 ∷ []) ≡ refused 7 6 newDesk
+  pub reference-added : settleOf document01 newDesk (0x82 ∷ 0x05 ∷ 0x0D ∷ 0x03 ∷ 0xFF ∷ 0x01 ∷ 0x02 ∷ 0x67 ∷ []) ≡ settled (holding (held 0x102 ∷ replicate 15 free))
+  pub reference-there : settleOf document01 (holding (held 0x102 ∷ replicate 15 free)) (0x82 ∷ 0x05 ∷ 0x0D ∷ 0x03 ∷ 0xFF ∷ 0x01 ∷ 0x02 ∷ 0x67 ∷ []) ≡ settled (holding (held 0x102 ∷ replicate 15 free))
+  pub lowest-free : settleOf document01 (holding (held 0x102 ∷ free ∷ held 0x103 ∷ replicate 13 free)) (0x82 ∷ 0x05 ∷ 0x0D ∷ 0x03 ∷ 0xFF ∷ 0x00 ∷ 0x00 ∷ 0x6A ∷ []) ≡ settled (holding (held 0x102 ∷ held 0 ∷ held 0x103 ∷ replicate 13 free))
+  pub reference-removed : settleOf document01 (holding (held 0x102 ∷ held 0 ∷ held 0x103 ∷ replicate 13 free)) (0x82 ∷ 0x05 ∷ 0x0D ∷ 0x03 ∷ 0x00 ∷ 0x00 ∷ 0x00 ∷ 0x69 ∷ []) ≡ settled (holding (held 0x102 ∷ free ∷ held 0x103 ∷ replicate 13 free))
+  pub removed-elsewhere : settleOf document01 (holding (held 0x102 ∷ replicate 15 free)) (0x82 ∷ 0x05 ∷ 0x0D ∷ 0x03 ∷ 0x00 ∷ 0x01 ∷ 0x03 ∷ 0x65 ∷ []) ≡ settled (holding (held 0x102 ∷ replicate 15 free))
+  pub reference-unset : settleOf document01 (holding sixteen) (0x82 ∷ 0x05 ∷ 0x0D ∷ 0x03 ∷ 0x55 ∷ 0x02 ∷ 0x00 ∷ 0x12 ∷ []) ≡ settled (holding sixteen)
+  pub no-place : settleOf document01 (holding sixteen) (0x82 ∷ 0x08 ∷ 0x0B ∷ 0x01 ∷ 0xFF ∷ 0x0D ∷ 0x03 ∷ 0xFF ∷ 0x02 ∷ 0x00 ∷ 0x5A ∷ []) ≡ refused 21 0 (holding sixteen)
+  pub full-and-there : settleOf document01 (holding sixteen) (0x82 ∷ 0x08 ∷ 0x0B ∷ 0x01 ∷ 0xFF ∷ 0x0D ∷ 0x03 ∷ 0xFF ∷ 0x01 ∷ 0x10 ∷ 0x4B ∷ []) ≡ settled (with-places waiting.Unknown lamp.On sixteen)
+  pub held-twice : settleOf document01 (holding (held 7 ∷ free ∷ held 7 ∷ replicate 13 free)) [] ≡ refused 17 0 (holding (held 7 ∷ free ∷ held 7 ∷ replicate 13 free))
+  pub out-of-range : settleOf document01 (holding (65537 ∷ replicate 15 free)) [] ≡ refused 17 0 (holding (65537 ∷ replicate 15 free))
+  pub last-reference : settleOf document01 (holding (65536 ∷ replicate 15 free)) (0x82 ∷ 0x05 ∷ 0x0D ∷ 0x03 ∷ 0x00 ∷ 0xFF ∷ 0xFF ∷ 0x6B ∷ []) ≡ settled newDesk
 
 pub rows : Claim
-unfolding _≤?_ _=?_ _and_ _or_ pick checksum within inSet lengths lengthFits digit rowIn rowOf listedIn listed classOf shapeOf rivalOf typeFault shape01 document01 messageKind opens tensFit onesFit pairAt columnAt okAt remember step run roomFits rangePossible somePossible possible final fits contents after fault machine judged verdictOf parameterAt matched searchFrom countedAt partOf waitingAfter lampAfter noticed countedIn deskAfter settledUnder settleOf
+unfolding _≤?_ _=?_ _and_ _or_ pick checksum within inSet lengths lengthFits digit rowIn rowOf listedIn listed classOf shapeOf rivalOf typeFault shape01 document01 messageKind opens tensFit onesFit pairAt columnAt okAt remember step run roomFits rangePossible somePossible possible final fits contents after fault machine judged verdictOf parameterAt matched searchFrom countedAt partOf waitingAfter lampAfter changeIn changeOf noticed countedIn settledNotice settledMessage settledUnder refusedWith settleOf firstOf absent mayStand placesFit changeBy isFull placesAfter
 rows = record {
   lamp-on = refl;
   lamp-off = refl;
@@ -54,4 +80,15 @@ rows = record {
   wrong-kind = refl;
   wrong-sum = refl;
   followed = refl;
+  reference-added = refl;
+  reference-there = refl;
+  lowest-free = refl;
+  reference-removed = refl;
+  removed-elsewhere = refl;
+  reference-unset = refl;
+  no-place = refl;
+  full-and-there = refl;
+  held-twice = refl;
+  out-of-range = refl;
+  last-reference = refl;
 }

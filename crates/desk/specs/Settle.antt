@@ -1,11 +1,12 @@
--- What settling does to a desk (document 01, The desk).
+-- What settling does to a desk (document 01, The desk; document 02, Q-6).
 -- Assumes nothing.
 use Prim.Native.Nat.{ℕ}
 use mathlib.Core.List.{List}
 use mathlib.Core.Option.{Option, none, some}
-use lib.ListN.{getD}
+use lib.ListN.{getD, replicate}
 use Rattle.rules.specs.Tests.{_=?_, pick}
 use Rattle.rules.specs.Table.{Rules}
+use Rattle.rules.specs.declared.Fault.{Fault}
 use Rattle.message.specs.Walking.{countedAt, partOf}
 use Rattle.message.specs.Verdict.{verdictOf}
 use Rattle.message.specs.declared.Verdict.{Verdict}
@@ -14,14 +15,17 @@ use Rattle.desk.specs.declared.Waiting.{Waiting}
 use Rattle.desk.specs.declared.Waiting.the-variants as waiting
 use Rattle.desk.specs.declared.Lamp.{Lamp}
 use Rattle.desk.specs.declared.Lamp.the-variants as lamp
+use Rattle.desk.specs.declared.Change.{Change}
+use Rattle.desk.specs.declared.Change.the-variants.{Nothing}
 use Rattle.desk.specs.declared.Desk.{Desk}
 use Rattle.desk.specs.declared.Answer.{Answer}
 use Rattle.desk.specs.declared.Answer.the-variants.{Done, Refused}
 use Rattle.desk.specs.declared.Outcome.{Outcome}
+use Rattle.desk.specs.Open.{placeCount, free, placesFit, changeBy, isFull, placesAfter}
 
--- both unknown at first
+-- number and lamp unknown, all sixteen places free
 abbrev pub newDesk : Desk
-newDesk = record { waiting = waiting.Unknown; lamp = lamp.Unknown }
+newDesk = record { waiting = waiting.Unknown; lamp = lamp.Unknown; places = replicate placeCount free }
 
 -- the waiting number, given the contents of 13H that count: set to their octet, else as it was
 unfoldable pub waitingAfter : Option (List ℕ) → Waiting → Waiting
@@ -33,26 +37,53 @@ unfoldable pub lampAfter : Option (List ℕ) → Lamp → Lamp
 lampAfter none l = l
 lampAfter (some v) l = pick (getD v 0 0 =? 0x00) lamp.Off lamp.On
 
--- what a notice does to a desk, given the contents of each type that count
+-- what is done to a reference, given the contents of 0DH that count
+unfoldable pub changeIn : List ℕ → Change
+changeIn v = changeBy (getD v 0 0) (getD v 1 0) (getD v 2 0)
+
+unfoldable pub changeOf : Option (List ℕ) → Change
+changeOf none = Nothing
+changeOf (some v) = changeIn v
+
+-- the work is done, and the desk is d; or a refusal, and the desk stays
+abbrev pub done : Desk → Outcome
+done d = record { desk = d; answer = Done }
+
+abbrev pub refused : Fault → Desk → Outcome
+refused f d = record { desk = d; answer = Refused f }
+
+-- a refusal that is no octet's stands at 0
+unfoldable pub refusedWith : ℕ → Desk → Outcome
+refusedWith n d = refused (record { number = n; place = 0 }) d
+
+-- what a notice sets, given the contents of each type that count
 unfoldable pub noticed : (ℕ → Option (List ℕ)) → Desk → Desk
-noticed counts d = record { waiting = waitingAfter (counts 0x13) (d .waiting); lamp = lampAfter (counts 0x0B) (d .lamp) }
+noticed counts d = record {
+  waiting = waitingAfter (counts 0x13) (d .waiting);
+  lamp = lampAfter (counts 0x0B) (d .lamp);
+  places = placesAfter (changeOf (counts 0x0D)) (d .places);
+}
+
+-- nothing of a notice is settled where the reference that it adds has no place
+unfoldable pub settledNotice : (ℕ → Option (List ℕ)) → Desk → Outcome
+settledNotice counts d = pick (isFull (changeOf (counts 0x0D)) (d .places)) (refusedWith 21 d) (done (noticed counts d))
 
 -- the contents of a type that count in the octets of a message
 unfoldable pub countedIn : List ℕ → ℕ → Option (List ℕ)
 countedIn o t = partOf o (countedAt o t)
 
 -- a notice is settled; a call message changes nothing
-unfoldable pub deskAfter : List ℕ → Desk → Desk
-deskAfter o d = pick (getD o 0 0 =? 0x82) (noticed (countedIn o) d) d
+unfoldable pub settledMessage : List ℕ → Desk → Outcome
+settledMessage o d = pick (getD o 0 0 =? 0x82) (settledNotice (countedIn o) d) (done d)
 
 -- octets that the whole read declines get its number and place, and leave the desk as it was
 unfoldable pub settledUnder : Verdict → List ℕ → Desk → Outcome
-settledUnder (Accepted n) o d = record { desk = deskAfter o d; answer = Done }
-settledUnder (Declined f) o d = record { desk = d; answer = Refused f }
+settledUnder (Accepted n) o d = settledMessage o d
+settledUnder (Declined f) o d = refused f d
 
--- the outcome of settling octets on a desk, by the whole read's verdict on them
+-- the outcome of settling octets on a desk: 17 for one with a place out of range or a reference twice, else by the whole read's verdict on the octets
 unfoldable pub settleOf : Rules → Desk → List ℕ → Outcome
-settleOf R d o = settledUnder (verdictOf R o) o d
+settleOf R d o = pick (placesFit (d .places)) (settledUnder (verdictOf R o) o d) (refusedWith 17 d)
 
 -- ---- this paper's number and place for each answer (0 where there is none)
 unfoldable pub numberOf : Answer → ℕ

@@ -1,11 +1,22 @@
-// The desk on which notices are settled (document 01, The desk). It goes in by value and comes back by value.
+// The desk on which notices are settled (document 01, The desk; document 02, Q-6). It goes in by value and comes back by value.
 use message::Part;
 use message::Verdict;
 use rules::Fault;
 ghost use mathlib.Core.Path.{_≡_};
+ghost use Prim.Native.Nat.{suc, _+_, _≤_, _<_};
+ghost use lib.ListN as list;
 ghost use Rattle.rules.specs.Table.{document01};
 ghost use Rattle.rules.specs.Message.{Accepts};
-ghost use Rattle.desk.specs.Settle.{newDesk, countedIn, waitingAfter, lampAfter, deskAfter, settleOf};
+ghost use Rattle.desk.specs.Open as places-of;
+ghost use Rattle.desk.specs.Open.{placeCount, firstOf, absent, mayStand, placesFit, changeBy, isFull, placesAfter};
+ghost use Rattle.desk.specs.Settle.{newDesk, countedIn, waitingAfter, lampAfter, changeIn, changeOf, settledNotice, settledMessage, refusedWith, settleOf};
+
+// The places for references (document 02, Q-6); one that holds none, and the one that holds the last.
+pub const PLACES: usize = 16;
+
+const FREE: u32 = 0;
+
+const LAST: u32 = 65536;
 
 pub enum Waiting {
     Unknown,
@@ -18,9 +29,11 @@ pub enum Lamp {
     On,
 }
 
+// In a place 0 is free; else it is one more than the reference that it holds.
 pub struct Desk {
     pub waiting: Waiting,
     pub lamp: Lamp,
+    pub places: [u32; PLACES],
 }
 
 pub enum Answer {
@@ -34,12 +47,166 @@ pub struct Outcome {
     pub answer: Answer,
 }
 
+// What a notice does to a reference.
+enum Change {
+    Nothing,
+    Adds(u16),
+    Removes(u16),
+}
+
 pub fn new_desk() -> Desk
     ensures { λ r. ⌜ r ≡ newDesk ⌝ }
 {
+    let places = [FREE; PLACES];
     Desk {
         waiting: Waiting::Unknown,
         lamp: Lamp::Unknown,
+        places,
+    }
+}
+
+// The first place from one on that is the one sought; their number where there is none.
+fn first_from(places: [u32; PLACES], from: usize, sought: u32) -> usize
+    requires { ⌜ from ≤ placeCount ⌝ }
+    ensures { λ r. ⌜ r ≡ from + firstOf sought (list.drop from places) ⌝ }
+{
+    let mut i = from;
+    while i < PLACES {
+        if places[i] == sought {
+            return i;
+        }
+        i += 1;
+    }
+    i
+}
+
+fn is_absent(places: [u32; PLACES], sought: u32) -> bool
+    ensures { λ r. ⌜ r ≡ absent sought places ⌝ }
+{
+    first_from(places, 0, sought) == PLACES
+}
+
+// Is a place free, or does it hold a reference that no later one holds?
+fn may_stand(places: [u32; PLACES], at: usize) -> bool
+    requires { ⌜ at < placeCount ⌝ }
+    ensures { λ r. ⌜ r ≡ mayStand (list.getD places at 0) (list.drop (suc at) places) ⌝ }
+{
+    let place = places[at];
+    if place == FREE {
+        true
+    } else if place <= LAST {
+        first_from(places, at + 1, place) == PLACES
+    } else {
+        false
+    }
+}
+
+fn places_fit(places: [u32; PLACES]) -> bool
+    ensures { λ r. ⌜ r ≡ placesFit places ⌝ }
+{
+    let mut i = 0;
+    while i < PLACES {
+        if may_stand(places, i) {
+            i += 1;
+        } else {
+            return false;
+        }
+    }
+    true
+}
+
+fn held(reference: u16) -> u32
+    ensures { λ r. ⌜ r ≡ places-of.held reference ⌝ }
+{
+    reference as u32 + 1
+}
+
+// Is a reference to be added where all places hold others?
+fn is_full(places: [u32; PLACES], change: Change) -> bool
+    ensures { λ r. ⌜ r ≡ isFull change places ⌝ }
+{
+    match change {
+        Change::Nothing => false,
+        Change::Adds(reference) => {
+            let place = held(reference);
+            if is_absent(places, place) {
+                is_absent(places, FREE)
+            } else {
+                false
+            }
+        }
+        Change::Removes(_) => false,
+    }
+}
+
+fn put(places: [u32; PLACES], at: usize, place: u32) -> [u32; PLACES]
+    ensures { λ r. ⌜ r ≡ list.set places at place ⌝ }
+{
+    let mut after = places;
+    if at < PLACES {
+        after[at] = place;
+    }
+    after
+}
+
+// A reference that is new takes the lowest free place; the place of one that is taken out is free again.
+fn places_after(places: [u32; PLACES], change: Change) -> [u32; PLACES]
+    ensures { λ r. ⌜ r ≡ placesAfter change places ⌝ }
+{
+    match change {
+        Change::Nothing => places,
+        Change::Adds(reference) => {
+            let place = held(reference);
+            if is_absent(places, place) {
+                let at = first_from(places, 0, FREE);
+                put(places, at, place)
+            } else {
+                places
+            }
+        }
+        Change::Removes(reference) => {
+            let place = held(reference);
+            let at = first_from(places, 0, place);
+            put(places, at, FREE)
+        }
+    }
+}
+
+// FFH adds the reference, 00H takes it out, 55H does nothing.
+fn change_by(state: u8, high: u8, low: u8) -> Change
+    ensures { λ r. ⌜ r ≡ changeBy state high low ⌝ }
+{
+    let reference = 256 * (high as u16) + low as u16;
+    if state == 0xFF {
+        Change::Adds(reference)
+    } else if state == 0x00 {
+        Change::Removes(reference)
+    } else {
+        Change::Nothing
+    }
+}
+
+fn change_in(contents: &[u8]) -> Change
+    ensures { λ r. ⌜ r ≡ changeIn (now (contents .entry)) ⌝ }
+{
+    let state = message::octet(contents, 0);
+    let high = message::octet(contents, 1);
+    let low = message::octet(contents, 2);
+    change_by(state, high, low)
+}
+
+// What a message does to a reference: as 0DH says where it counts.
+fn change_of(octets: &[u8]) -> Change
+    requires { ⌜ Accepts document01 (now octets) ⌝ }
+    ensures { λ r. ⌜ r ≡ changeOf (countedIn (now (octets .entry)) 0x0D) ⌝ }
+{
+    let part = message::counted(octets, 0x0D);
+    match part {
+        Part::At { start, length } => {
+            let end = start + length as usize;
+            change_in(&octets[start..end])
+        }
+        Part::Nowhere => Change::Nothing,
     }
 }
 
@@ -76,38 +243,72 @@ fn lamp_after(old: Lamp, octets: &[u8]) -> Lamp
     }
 }
 
-// The desk after a message: a notice sets what counts, a call message changes nothing.
-fn desk_after(desk: Desk, octets: &[u8]) -> Desk
-    requires { ⌜ Accepts document01 (now octets) ⌝ }
-    ensures { λ r. ⌜ r ≡ deskAfter (now (octets .entry)) desk ⌝ }
+fn refused_with(number: u8, desk: Desk) -> Outcome
+    ensures { λ r. ⌜ r ≡ refusedWith number desk ⌝ }
 {
-    if octets[0] == 0x82 {
+    Outcome {
+        desk,
+        answer: Answer::Refused(Fault { number, place: 0 }),
+    }
+}
+
+// A notice sets what counts; nothing of it where the reference that it adds has no place.
+fn settle_notice(desk: Desk, octets: &[u8]) -> Outcome
+    requires { ⌜ Accepts document01 (now octets) ⌝ }
+    ensures { λ r. ⌜ r ≡ settledNotice (countedIn (now (octets .entry))) desk ⌝ }
+{
+    let old = desk.places;
+    let change = change_of(octets);
+    if is_full(old, change) {
+        refused_with(21, desk)
+    } else {
         let number = desk.waiting;
         let light = desk.lamp;
         let waiting = waiting_after(number, octets);
         let lamp = lamp_after(light, octets);
-        Desk { waiting, lamp }
-    } else {
-        desk
+        let places = places_after(old, change);
+        Outcome {
+            desk: Desk {
+                waiting,
+                lamp,
+                places,
+            },
+            answer: Answer::Done,
+        }
     }
 }
 
-// Octets that the whole read declines with 1 to 8 get that number, and the desk comes back as it was.
+// A call message changes nothing.
+fn settle_message(desk: Desk, octets: &[u8]) -> Outcome
+    requires { ⌜ Accepts document01 (now octets) ⌝ }
+    ensures { λ r. ⌜ r ≡ settledMessage (now (octets .entry)) desk ⌝ }
+{
+    if octets[0] == 0x82 {
+        settle_notice(desk, octets)
+    } else {
+        Outcome {
+            desk,
+            answer: Answer::Done,
+        }
+    }
+}
+
+// A desk with a place out of range or a reference twice is 17; octets that the whole read declines with 1 to 8 get that number; 21 where a reference has no
+// place. With each the desk comes back as it was.
 pub fn settle(desk: Desk, octets: &[u8]) -> Outcome
     ensures { λ r. ⌜ r ≡ settleOf document01 desk (now (octets .entry)) ⌝ }
 {
-    let verdict = message::judge(octets);
-    match verdict {
-        Verdict::Accepted { size } => {
-            let desk = desk_after(desk, octets);
-            Outcome {
+    let places = desk.places;
+    if places_fit(places) {
+        let verdict = message::judge(octets);
+        match verdict {
+            Verdict::Accepted { size } => settle_message(desk, octets),
+            Verdict::Declined { fault } => Outcome {
                 desk,
-                answer: Answer::Done,
-            }
+                answer: Answer::Refused(fault),
+            },
         }
-        Verdict::Declined { fault } => Outcome {
-            desk,
-            answer: Answer::Refused(fault),
-        },
+    } else {
+        refused_with(17, desk)
     }
 }

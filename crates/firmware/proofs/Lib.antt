@@ -6,6 +6,9 @@ pub mod Settled
 pub mod Hearing
 pub mod Readings
 pub mod Settlings
+pub mod DeskRecord
+pub mod RecordSettles
 pub mod RecordHears
 pub mod RecordReads
 pub mod DraftRecord
+pub mod Coding

@@ -27,7 +27,7 @@ use Rattle.firmware.specs.declared.Decoded.the-variants.{Known, Unknown}
 use Rattle.firmware.specs.Record.{decodeOf, recordOf}
 use Rattle.firmware.specs.Word.{packed, wordNumber, wordTaken, Unpacked, unpacked}
 use Rattle.firmware.specs.Exports.{badRecord, resetAnswer, resetRecord, wordOf, answered, recorded, listenAnswer, listenRecord}
-use Rattle.firmware.specs.Coding.{decode-encode, encode-decode}
+use Rattle.firmware.proofs.Coding.{decode-encode, encode-decode}
 use Rattle.firmware.specs.RecordHears.{RecordHears, RecordStands, Sound, Seventeen, Again, SameEnd}
 
 -- the word of an answer is read back field by field

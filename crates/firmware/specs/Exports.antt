@@ -17,10 +17,7 @@ use Rattle.reader.specs.Reads as reads
 use Rattle.desk.specs.declared.Answer as desk
 use Rattle.desk.specs.Settle as settle
 use Rattle.desk.specs.Settle.{newDesk, settleOf}
-use Rattle.firmware.specs.declared.desks.Standing.{Standing}
-use Rattle.firmware.specs.declared.desks.Standing.the-variants as standing
-use Rattle.firmware.specs.DeskRecord as deskrecord
-use Rattle.firmware.specs.DeskRecord.{deskRecord}
+use Rattle.firmware.specs.DeskRecord.{isRecord, deskIn, deskRecord}
 use Rattle.firmware.specs.DraftRecord.{draftRecord}
 use Rattle.firmware.specs.declared.Outcome.{Outcome}
 use Rattle.firmware.specs.declared.Decoded.{Decoded}
@@ -79,25 +76,18 @@ readTexts o c t = pick (length c =? 688) (areaAfter document01 o t) t
 
 -- ---- the desk
 unfoldable pub newDeskAnswer : List ℕ → ℕ
-newDeskAnswer c = pick (length c =? 4) (packed 0 0 0 0) badRecord
+newDeskAnswer c = pick (length c =? 52) (packed 0 0 0 0) badRecord
 
 unfoldable pub newDeskRecord : List ℕ → List ℕ
-newDeskRecord c = pick (length c =? 4) (deskRecord newDesk) c
+newDeskRecord c = pick (length c =? 52) (deskRecord newDesk) c
 
 -- number and place of an answer as a word
 unfoldable pub deskWord : desk.Answer → ℕ
 deskWord a = packed (settle.numberOf a) (settle.placeOf a) 0 0
 
-unfoldable pub settledAnswer : Standing → List ℕ → ℕ
-settledAnswer (standing.Known d) o = deskWord (settleOf document01 d o .answer)
-settledAnswer standing.Unknown o = badRecord
-
-unfoldable pub settledRecord : Standing → List ℕ → List ℕ → List ℕ
-settledRecord (standing.Known d) c o = deskRecord (settleOf document01 d o .desk)
-settledRecord standing.Unknown c o = c
-
+-- a record that is a desk's: word and record of that desk's settling; any other is 17 and stays
 unfoldable pub settleAnswer : List ℕ → List ℕ → ℕ
-settleAnswer c o = settledAnswer (deskrecord.decodeOf c) o
+settleAnswer c o = pick (isRecord c) (deskWord (settleOf document01 (deskIn c) o .answer)) badRecord
 
 unfoldable pub settleRecord : List ℕ → List ℕ → List ℕ
-settleRecord c o = settledRecord (deskrecord.decodeOf c) c o
+settleRecord c o = pick (isRecord c) (deskRecord (settleOf document01 (deskIn c) o .desk)) c

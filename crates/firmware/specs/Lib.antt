@@ -4,7 +4,6 @@ pub mod Word
 pub mod DeskRecord
 pub mod DraftRecord
 pub mod Exports
-pub mod Coding
 pub mod RecordHears
 pub mod RecordReads
 pub mod RecordSettles

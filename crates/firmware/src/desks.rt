@@ -1,18 +1,18 @@
-// The desk's record (document 01, The desk): four octets, judged before anything else and written whole.
+// The desk's record (document 01, The desk; document 02, Q-6): 52 octets, judged before anything else and written whole.
 use desk::Desk;
 use desk::Lamp;
+use desk::PLACES;
 use desk::Waiting;
 ghost use mathlib.Core.Path.{_≡_};
-ghost use lib.ListN.{length};
+ghost use mathlib.Core.List.{_++_};
+ghost use Prim.Native.Nat.{_≤_};
+ghost use lib.ListN.{length, take, drop};
+ghost use Rattle.rules.specs.Laying.{laid};
+ghost use Rattle.desk.specs.Open.{placeCount};
 ghost use Rattle.firmware.specs.DeskRecord as record-of;
 
 // The octets of a desk's record.
-pub(crate) const DESK: usize = 4;
-
-pub(crate) enum Standing {
-    Known(Desk),
-    Unknown,
-}
+pub(crate) const DESK: usize = 52;
 
 // 0 unknown, and then no number; 1 known.
 fn is_waiting(code: u8, number: u8) -> bool
@@ -54,25 +54,52 @@ fn is_desk(code: u8, number: u8, lamp: u8, spare: u8) -> bool
     }
 }
 
-fn stands(code: u8, number: u8, lamp: u8, spare: u8) -> Standing
-    ensures { λ r. ⌜ r ≡ record-of.standingOf code number lamp spare ⌝ }
+// Size and codes; what the places hold is for the desk to judge.
+pub(crate) fn is_record(cells: &[u8]) -> bool
+    ensures { λ r. ⌜ r ≡ record-of.isRecord (now (cells .entry)) ⌝ }
 {
-    if is_desk(code, number, lamp, spare) {
-        let waiting = waiting_of(code, number);
-        let lamp = lamp_of(lamp);
-        Standing::Known(Desk { waiting, lamp })
+    if cells.len() == DESK {
+        is_desk(cells[0], cells[1], cells[2], cells[3])
     } else {
-        Standing::Unknown
+        false
     }
 }
 
-pub(crate) fn decode(cells: &[u8]) -> Standing
-    ensures { λ r. ⌜ r ≡ record-of.decodeOf (now (cells .entry)) ⌝ }
+// A place: three octets, the low one first.
+fn place_in(cells: &[u8]) -> u32
+    ensures { λ r. ⌜ r ≡ record-of.placeIn (now (cells .entry)) ⌝ }
 {
-    if cells.len() == DESK {
-        stands(cells[0], cells[1], cells[2], cells[3])
-    } else {
-        Standing::Unknown
+    let low = message::octet(cells, 0);
+    let middle = message::octet(cells, 1);
+    let high = message::octet(cells, 2);
+    low as u32 + 256 * (middle as u32) + 65536 * (high as u32)
+}
+
+fn places_in(cells: &[u8]) -> [u32; PLACES]
+    requires { ⌜ length (now cells) ≡ 52 ⌝ }
+    ensures { λ r. ⌜ r ≡ record-of.placesIn placeCount (drop 4 (now (cells .entry))) ⌝ }
+{
+    let mut places: [u32; PLACES] = [0; PLACES];
+    let mut i = 0;
+    while i < PLACES {
+        let place = place_in(&cells[4 + 3 * i..]);
+        places[i] = place;
+        i += 1;
+    }
+    places
+}
+
+pub(crate) fn decode(cells: &[u8]) -> Desk
+    requires { ⌜ length (now cells) ≡ 52 ⌝ }
+    ensures { λ r. ⌜ r ≡ record-of.deskIn (now (cells .entry)) ⌝ }
+{
+    let waiting = waiting_of(cells[0], cells[1]);
+    let lamp = lamp_of(cells[2]);
+    let places = places_in(cells);
+    Desk {
+        waiting,
+        lamp,
+        places,
     }
 }
 
@@ -104,12 +131,36 @@ fn lamp_code(l: Lamp) -> u8
     }
 }
 
+// The three octets of a place, over the beginning of what is lent.
+fn lay_place(cells: &mut [u8], place: u32)
+    requires { ⌜ 3 ≤ length (now cells) ⌝ }
+    ensures { λ _. ⌜ now (cells .exit) ≡ laid (record-of.placeCells place) (now (cells .entry)) ⌝ }
+{
+    cells[0] = (place % 256) as u8;
+    cells[1] = (place / 256 % 256) as u8;
+    cells[2] = (place / 65536 % 256) as u8;
+}
+
+// Each place where it stands, behind the first four octets.
+fn lay_places(cells: &mut [u8], places: [u32; PLACES])
+    requires { ⌜ length (now cells) ≡ 52 ⌝ }
+    ensures { λ _. ⌜ now (cells .exit) ≡ take 4 (now (cells .entry)) ++ record-of.placesCells places ⌝ }
+{
+    let mut i = 0;
+    while i < PLACES {
+        let place = places[i];
+        lay_place(&mut cells[4 + 3 * i..], place);
+        i += 1;
+    }
+}
+
 pub(crate) fn encode(cells: &mut [u8], d: Desk)
-    requires { ⌜ length (now cells) ≡ 4 ⌝ }
+    requires { ⌜ length (now cells) ≡ 52 ⌝ }
     ensures { λ _. ⌜ now (cells .exit) ≡ record-of.deskRecord d ⌝ }
 {
     let waiting = d.waiting;
     let lamp = d.lamp;
+    let places = d.places;
     let code = waiting_code(waiting);
     let number = waiting_number(waiting);
     let light = lamp_code(lamp);
@@ -117,4 +168,5 @@ pub(crate) fn encode(cells: &mut [u8], d: Desk)
     cells[1] = number;
     cells[2] = light;
     cells[3] = 0;
+    lay_places(cells, places);
 }

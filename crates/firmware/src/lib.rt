@@ -3,7 +3,6 @@ mod desks;
 mod drafts;
 
 use desks::DESK;
-use desks::Standing;
 use listener::Answer;
 use listener::Listener;
 use reader::Packed;
@@ -422,7 +421,7 @@ pub extern "C" fn anthercup_read(octets: &[u8], cells: &mut [u8], texts: &mut [u
     }
 }
 
-// Makes the record that of a new desk, whatever it holds; another size than 4 is 17.
+// Clears a desk: makes the record that of a new one, whatever it holds; another size than 52 is 17.
 #[no_mangle]
 pub extern "C" fn anthercup_new_desk(cells: &mut [u8]) -> u64
     ensures { λ r. ⌜ (r ≡ exports.newDeskAnswer (now (cells .entry))) × (now (cells .exit) ≡ exports.newDeskRecord (now (cells .entry))) ⌝ }
@@ -435,20 +434,20 @@ pub extern "C" fn anthercup_new_desk(cells: &mut [u8]) -> u64
     }
 }
 
-// Settles a whole message on a desk. A record of another size, or with a code or number out of range, is 17; with it and with 1 to 8 the record stays.
+// Settles a whole message on a desk. A record of another size, with a code or number out of range or with a reference twice is 17; with it, with 1 to 8 and
+// with 21, where a reference has no place, the record stays.
 #[no_mangle]
 pub extern "C" fn anthercup_settle(cells: &mut [u8], octets: &[u8]) -> u64
     ensures { λ r. ⌜ (r ≡ exports.settleAnswer (now (cells .entry)) (now (octets .entry))) × (now (cells .exit) ≡ exports.settleRecord (now (cells .entry)) (now (octets .entry))) ⌝ }
 {
-    let got = desks::decode(cells);
-    match got {
-        Standing::Known(d) => {
-            let done = desk::settle(d, octets);
-            let after = done.desk;
-            let answer = done.answer;
-            desks::encode(cells, after);
-            desk_word(answer)
-        }
-        Standing::Unknown => packed(17, 0, 0, 0),
+    if desks::is_record(cells) {
+        let found = desks::decode(cells);
+        let done = desk::settle(found, octets);
+        let after = done.desk;
+        let answer = done.answer;
+        desks::encode(cells, after);
+        desk_word(answer)
+    } else {
+        packed(17, 0, 0, 0)
     }
 }

@@ -71,9 +71,9 @@ write-refuses κs a r s p f e = (go r (answer-iff _ _ _ r .0 (p .0)) e, refusal-
     go w (too-tight b m l g) q = (omega (arith, fault-of _ _ q), omega (arith, fault-of _ _ q))
     go w (fits b m l g) q = clash cc
 
--- the desk: 1 to 8; it comes back as it was
-pub settle-refuses : (κs : _) (a : _) (r : _) (s : _) → settle.Post κs a r s → Octets (a .1 .0 .now) → (f : Fault) → r .answer ≡ settled.Refused f → From 1 8 (f .number) × (r .desk ≡ a .0)
-settle-refuses κs a r s p o f e = let x = settling κs a r s p o in (x .judged .numbers f (x .refused f .0 e), x .refusal-stays f e)
+-- the desk: 1 to 8, 17 or 21; it comes back as it was
+pub settle-refuses : (κs : _) (a : _) (r : _) (s : _) → settle.Post κs a r s → Octets (a .1 .0 .now) → (f : Fault) → r .answer ≡ settled.Refused f → (From 1 8 (f .number) ⊎ ((f .number ≡ 17) ⊎ (f .number ≡ 21))) × (r .desk ≡ a .0)
+settle-refuses κs a r s p o f e = let x = settling κs a r s p o in (x .numbers f e, x .refusal-stays f e)
 
 -- the verdict, the caption and the walker: 1 to 8; nothing is lent for writing
 pub judge-refuses : (κs : _) (a : _) (r : _) (s : _) → judge.Post κs a r s → Octets (a .0 .now) → (f : Fault) → r ≡ Judged f → From 1 8 (f .number)

@@ -5,7 +5,7 @@ use Prim.Native.Nat.{ℕ}
 use mathlib.Core.Path.{_≡_, refl, _∙_, ap}
 use mathlib.Core.List.{List, [], _∷_}
 use mathlib.Core.Option.{Option, none, some}
-use lib.ListN.{length}
+use lib.ListN.{length, replicate}
 use Rattle.rules.specs.Tests.{_≤?_, _=?_, _and_, _or_, pick}
 use Rattle.rules.specs.Octets.{checksum}
 use Rattle.rules.specs.Contents.{within, inSet, lengths, lengthFits, digit}
@@ -31,7 +31,8 @@ use Rattle.desk.specs.declared.Desk.{Desk}
 use Rattle.desk.specs.declared.Answer.the-variants as settled
 use Rattle.desk.specs.declared.Waiting.the-variants as waiting
 use Rattle.desk.specs.declared.Lamp.the-variants as lamp
-use Rattle.desk.specs.Settle.{newDesk, waitingAfter, lampAfter, noticed, countedIn, deskAfter, settledUnder, settleOf}
+use Rattle.desk.specs.Open.{firstOf, absent, mayStand, placesFit, changeBy, isFull, placesAfter}
+use Rattle.desk.specs.Settle.{newDesk, waitingAfter, lampAfter, changeIn, changeOf, noticed, countedIn, settledNotice, settledMessage, settledUnder, refusedWith, settleOf}
 use Rattle.desk.proofs.settle.Reads as settle
 
 -- ---- what a row claims, of every outcome that a promise allows
@@ -85,18 +86,18 @@ pub record Claim : Type 0 where
   pub lamp-80 : Heard-as (0x82 ∷ 0x03 ∷ 0x0B ∷ 0x01 ∷ 0x80 ∷ []) (refused 5 4)
   pub lamp-80-read : Read-as (0x82 ∷ 0x03 ∷ 0x0B ∷ 0x01 ∷ 0x80 ∷ []) 5 4
   pub lamp-on : Heard-as (0x82 ∷ 0x03 ∷ 0x0B ∷ 0x01 ∷ 0xFF ∷ 0x70 ∷ []) (answer.Message 6)
-  pub lamp-on-settled : Settled-as (0x82 ∷ 0x03 ∷ 0x0B ∷ 0x01 ∷ 0xFF ∷ 0x70 ∷ []) (record { waiting = waiting.Unknown; lamp = lamp.On })
+  pub lamp-on-settled : Settled-as (0x82 ∷ 0x03 ∷ 0x0B ∷ 0x01 ∷ 0xFF ∷ 0x70 ∷ []) (record { waiting = waiting.Unknown; lamp = lamp.On; places = replicate 16 0 })
   pub wrong-sum : Heard-as (0x82 ∷ 0x03 ∷ 0x0B ∷ 0x01 ∷ 0xFF ∷ 0x71 ∷ []) (refused 6 5)
   pub wrong-sum-read : Read-as (0x82 ∷ 0x03 ∷ 0x0B ∷ 0x01 ∷ 0xFF ∷ 0x71 ∷ []) 6 5
   pub followed : Heard-as (0x82 ∷ 0x03 ∷ 0x0B ∷ 0x01 ∷ 0xFF ∷ 0x70 ∷ 0x00 ∷ []) (answer.Message 6)
   pub followed-read : Read-as (0x82 ∷ 0x03 ∷ 0x0B ∷ 0x01 ∷ 0xFF ∷ 0x70 ∷ 0x00 ∷ []) 7 6
   pub first-waiting : Counted-as (0x82 ∷ 0x06 ∷ 0x13 ∷ 0x01 ∷ 0x02 ∷ 0x13 ∷ 0x01 ∷ 0x05 ∷ 0x49 ∷ []) 0x13 (some (2 ∷ []))
-  pub first-waiting-settled : Settled-as (0x82 ∷ 0x06 ∷ 0x13 ∷ 0x01 ∷ 0x02 ∷ 0x13 ∷ 0x01 ∷ 0x05 ∷ 0x49 ∷ []) (record { waiting = waiting.Number 2; lamp = lamp.Unknown })
+  pub first-waiting-settled : Settled-as (0x82 ∷ 0x06 ∷ 0x13 ∷ 0x01 ∷ 0x02 ∷ 0x13 ∷ 0x01 ∷ 0x05 ∷ 0x49 ∷ []) (record { waiting = waiting.Number 2; lamp = lamp.Unknown; places = replicate 16 0 })
   pub absent : Counted-as (0x80 ∷ 0x06 ∷ 0x04 ∷ 0x01 ∷ 0x50 ∷ 0x02 ∷ 0x01 ∷ 0x37 ∷ 0xEB ∷ []) 0x04 (some (0x50 ∷ []))
   pub no-caller : Counted-as (0x80 ∷ 0x06 ∷ 0x04 ∷ 0x01 ∷ 0x50 ∷ 0x02 ∷ 0x01 ∷ 0x37 ∷ 0xEB ∷ []) 0x02 none
 
 pub rows : Claim
-unfolding _≤?_ _=?_ _and_ _or_ pick checksum within inSet lengths lengthFits digit rowIn rowOf listedIn listed classOf shapeOf rivalOf typeFault shape01 document01 messageKind opens tensFit onesFit pairAt columnAt okAt remember step run roomFits rangePossible somePossible possible final fits contents after fault machine inRange newListener heardOf answerOf taken stopped judged verdictOf parameterAt matched searchFrom countedAt partOf waitingAfter lampAfter noticed countedIn deskAfter settledUnder settleOf
+unfolding _≤?_ _=?_ _and_ _or_ pick checksum within inSet lengths lengthFits digit rowIn rowOf listedIn listed classOf shapeOf rivalOf typeFault shape01 document01 messageKind opens tensFit onesFit pairAt columnAt okAt remember step run roomFits rangePossible somePossible possible final fits contents after fault machine inRange newListener heardOf answerOf taken stopped judged verdictOf parameterAt matched searchFrom countedAt partOf waitingAfter lampAfter changeIn changeOf noticed countedIn settledNotice settledMessage settledUnder refusedWith settleOf firstOf absent mayStand placesFit changeBy isFull placesAfter
 rows = record {
   none-waits = hears _ _ refl;
   none-read = reads _ _ _ refl;

@@ -4,7 +4,7 @@ use Prim.Native.Nat.{ℕ, zero, suc, _+_, _-_, _%_, _<_}
 use mathlib.Core.Path.{_≡_}
 use mathlib.Core.List.{List, [], _∷_, _++_}
 use native.Mathlib.Omega.{arith}
-use lib.ListN.{take, getD}
+use lib.ListN.{take, drop, getD}
 
 -- each is below 256
 abbrev pub Octets : List ℕ → Type 0
@@ -49,3 +49,13 @@ octets-take (suc n) (x ∷ h) o = (o .0, octets-take n h (o .1))
 pub octets-at : (h : List ℕ) → ((i : ℕ) → getD h i 0 < 256) → Octets h
 octets-at [] f = tt
 octets-at (x ∷ h) f = (f 0, octets-at h (λ i. f (suc i)))
+
+pub octets-drop : (n : ℕ) (h : List ℕ) → Octets h → Octets (drop n h)
+octets-drop zero h o = o
+octets-drop (suc n) [] o = tt
+octets-drop (suc n) (x ∷ h) o = octets-drop n h (o .1)
+
+pub octet-at : (h : List ℕ) → Octets h → (i : ℕ) → getD h i 0 < 256
+octet-at [] o i = omega arith
+octet-at (x ∷ h) o zero = o .0
+octet-at (x ∷ h) o (suc i) = octet-at h (o .1) i

@@ -40,7 +40,7 @@ enum Measure {
 }
 
 // The most octets that contents have: L is at most 255, and a parameter has a type and a length beside them (document 01, The message).
-const MOST: usize = 253;
+const LONGEST: usize = 253;
 
 // From this number on the kinds of value have a text (`draft::form_of`).
 const TEXT: u8 = 3;
@@ -131,7 +131,7 @@ fn octets_fit(class: Class, part: &[u8], n: u8) -> bool
 fn fitting_length(class: Class, part: &[u8]) -> u8
     ensures { λ r. ⌜ r ≡ fitting class (now (part .entry)) ⌝ }
 {
-    if MOST < part.len() {
+    if LONGEST < part.len() {
         return 0;
     }
     let n = part.len() as u8;

@@ -3,7 +3,7 @@
 use mathlib.Core.Path.{refl, sym, _∙_}
 use Rattle.rules.specs.Returns.{pick-t, pick-f, yes-eq, no-eq}
 use Rattle.desk.specs.Settle.{lampAfter}
-use Rattle.desk.specs.Counted.{start-inside, first-octet, counts-none, counts-some}
+use Rattle.desk.proofs.Counted.{start-inside, first-octet, counts-none, counts-some}
 use borrow.Author.Needs.{needs}
 use Rattle.desk.proofs.lamp_after.Statement.{statement}
 use Rattle.desk.proofs.lamp_after.Tie as tie

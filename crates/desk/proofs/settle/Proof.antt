@@ -1,15 +1,17 @@
--- `desk::settle` meets its contract: as the verdict on the octets goes.
+-- `desk::settle` meets its contract: the desk first, then as the verdict on the octets goes.
 -- Assumes nothing.
-use mathlib.Core.Path.{refl, sym, _∙_, ap}
+use mathlib.Core.Path.{refl, sym, _∙_}
 use native.Mathlib.Omega.{arith}
 use Rattle.rules.specs.Octets.{octets-at}
+use Rattle.rules.specs.Returns.{pick-t, pick-f, via}
 use Rattle.message.specs.Judges.{judges}
-use Rattle.desk.specs.declared.Desk.{Desk}
-use Rattle.desk.specs.declared.Answer.the-variants.{Done}
 use Rattle.desk.specs.Settle.{settledUnder, settleOf}
 use borrow.Author.Needs.{needs}
 use Rattle.desk.proofs.settle.Statement.{statement}
 use Rattle.desk.proofs.settle.Tie as tie
+
+places-fit-requires : tie.Need-places-fit-requires
+places-fit-requires c κs = search needs
 
 judge-requires : tie.Need-judge-requires
 judge-requires c κs = search needs
@@ -17,31 +19,43 @@ judge-requires c κs = search needs
 enum-known-verdict : tie.Need-enum-known-verdict
 enum-known-verdict c = search needs
 
-desk-after-requires : tie.Need-desk-after-requires
-desk-after-requires c κs =
-    let o = octets-at (c .before .before .before .before .before .args .octets .now) (λ i. omega (arith, c .before .before .before .before .shared-slice-known .given i)) in
+settle-message-requires : tie.Need-settle-message-requires
+settle-message-requires c κs =
+    let o = octets-at (c .before .before .before .before .before .before .before .before .args .octets .now) (λ i. omega (arith, c .before .before .before .before .before .before .before .shared-slice-known .given i)) in
     judges _ o .accepted _ .0 (sym (c .before .before .before .judge .ensures) ∙ c .before .verdict .given .1) .1
 
 enum-known-verdict-2 : tie.Need-enum-known-verdict-2
 enum-known-verdict-2 c = search needs
 
+refused-with-requires : tie.Need-refused-with-requires
+refused-with-requires c κs = search needs
+
 returns : tie.Need-returns
 unfolding settleOf settledUnder
 returns c =
-    rw (sym (c .before .before .before .before .judge .ensures) ∙ c .before .before .verdict .given .1)
-    (ap (λ (d : Desk). record { desk = d; answer = Done }) (c .desk-after .ensures))
+    pick-t _ _ _ _ (via _ _ _ (c .before .before .before .before .before .before .places-fit .ensures) (c .before .before .before .before .before .if1 .taken))
+    (rw (sym (c .before .before .before .before .judge .ensures) ∙ c .before .before .verdict .given .1) (c .settle-message .ensures))
 
 returns-2 : tie.Need-returns-2
 unfolding settleOf settledUnder
-returns-2 c = rw (sym (c .before .before .before .judge .ensures) ∙ c .before .verdict2 .given .1) refl
+returns-2 c =
+    pick-t _ _ _ _ (via _ _ _ (c .before .before .before .before .before .places-fit .ensures) (c .before .before .before .before .if1 .taken))
+    (rw (sym (c .before .before .before .judge .ensures) ∙ c .before .verdict2 .given .1) refl)
+
+returns-3 : tie.Need-returns-3
+unfolding settleOf
+returns-3 c = pick-f _ _ _ _ (via _ _ _ (c .before .before .places-fit .ensures) (c .before .if1 .left)) (c .refused-with .ensures)
 
 pub settle-spec : {M : Type 1} → statement M
 settle-spec =
     tie.close
     (tie.spec
+    places-fit-requires
     judge-requires
     enum-known-verdict
-    desk-after-requires
+    settle-message-requires
     enum-known-verdict-2
+    refused-with-requires
     returns
-    returns-2)
+    returns-2
+    returns-3)

@@ -3,7 +3,7 @@
 use mathlib.Core.Path.{refl, sym, _∙_, ap}
 use Rattle.desk.specs.declared.Waiting.the-variants.{Number}
 use Rattle.desk.specs.Settle.{waitingAfter}
-use Rattle.desk.specs.Counted.{start-inside, first-octet, counts-none, counts-some}
+use Rattle.desk.proofs.Counted.{start-inside, first-octet, counts-none, counts-some}
 use borrow.Author.Needs.{needs}
 use Rattle.desk.proofs.waiting_after.Statement.{statement}
 use Rattle.desk.proofs.waiting_after.Tie as tie

@@ -1,7 +1,7 @@
 -- `firmware::anthercup_listen` meets its contract: a record that stands for a listener is heard and written anew; any other is 17.
 -- Assumes nothing.
 use mathlib.Core.Path.{sym, _∙_}
-use Rattle.firmware.specs.Coding.{known-size}
+use Rattle.firmware.proofs.Coding.{known-size}
 use Rattle.firmware.proofs.Decoding.{known-answers, unknown-answers}
 use borrow.Author.Needs.{needs}
 use Rattle.firmware.proofs.anthercup_listen.Statement.{statement}

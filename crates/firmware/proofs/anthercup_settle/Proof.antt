@@ -1,29 +1,28 @@
 -- `firmware::anthercup_settle` meets its contract: the record first, then the settling.
 -- Assumes nothing.
-use mathlib.Core.Path.{sym, _∙_}
-use Rattle.firmware.specs.DeskRecord.{known-size}
+use mathlib.Core.Path.{_≡_, sym, _∙_}
+use lib.ListN.{length}
+use Rattle.rules.specs.Returns.{T-of, via}
+use Rattle.firmware.proofs.DeskRecord.{record-size}
 use Rattle.firmware.proofs.Desking.{settles-known, settles-unknown}
 use borrow.Author.Needs.{needs}
 use Rattle.firmware.proofs.anthercup_settle.Statement.{statement}
 use Rattle.firmware.proofs.anthercup_settle.Tie as tie
 
-decode-requires : tie.Need-decode-requires
-decode-requires c κs = search needs
+is-record-requires : tie.Need-is-record-requires
+is-record-requires c κs = search needs
 
-enum-known-got : tie.Need-enum-known-got
-enum-known-got c = search needs
+decode-requires : tie.Need-decode-requires
+decode-requires c κs = record-size _ (T-of _ (via _ _ _ (c .before .before .is-record .ensures) (c .before .if1 .taken)))
 
 settle-requires : tie.Need-settle-requires
 settle-requires c κs = search needs
 
 encode-requires : tie.Need-encode-requires
-encode-requires c κs = known-size _ _ (sym (c .before .before .before .before .before .before .decode .ensures) ∙ c .before .before .before .before .got .given .1)
+encode-requires c κs = record-size _ (T-of _ (via _ _ _ (c .before .before .before .before .before .before .is-record .ensures) (c .before .before .before .before .before .if1 .taken)))
 
 desk-word-requires : tie.Need-desk-word-requires
 desk-word-requires c κs = search needs
-
-enum-told : tie.Need-enum-told
-enum-told c = search needs
 
 packed-requires : tie.Need-packed-requires
 packed-requires c κs = search needs
@@ -32,24 +31,23 @@ same-length : tie.Need-same-length
 same-length c = search needs
 
 returns : tie.Need-returns
-returns c = settles-known _ _ _ (c .before .before .before .before .before .before .before .before .before .before .decode .ensures) _ _ _ _ (c .before .before .before .before .before .before .before .before .got .given .1) (c .before .before .before .before .before .before .settle .ensures) (c .desk-word .ensures) (c .before .before .before .encode .ensures)
+returns c = settles-known _ _ _ (c .before .before .before .before .before .before .before .before .before .before .is-record .ensures) (c .before .before .before .before .before .before .before .before .before .if1 .taken) _ _ _ _ (c .before .before .before .before .before .before .before .decode .ensures) (c .before .before .before .before .before .before .settle .ensures) (c .desk-word .ensures) (c .before .before .before .encode .ensures)
 
 same-length-2 : tie.Need-same-length-2
 same-length-2 c = search needs
 
 returns-2 : tie.Need-returns-2
-returns-2 c = settles-unknown _ _ _ (c .before .before .before .decode .ensures) _ (c .before .enum-told .given .1) (c .packed .ensures)
+returns-2 c = settles-unknown _ _ _ (c .before .before .is-record .ensures) (c .before .if1 .left) _ (c .packed .ensures)
 
 pub anthercup-settle-spec : {M : Type 1} → statement M
 anthercup-settle-spec =
     tie.close
     (tie.spec
+    is-record-requires
     decode-requires
-    enum-known-got
     settle-requires
     encode-requires
     desk-word-requires
-    enum-told
     packed-requires
     same-length
     returns

@@ -1,11 +1,11 @@
--- `firmware::encode` meets its contract: all four octets are stored.
+-- `firmware::encode` meets its contract: the first four octets are stored, then the places.
 -- Assumes nothing.
 use mathlib.Core.Path.{_∙_}
-use mathlib.Core.List.{[], _∷_}
+use mathlib.Core.List.{_∷_, _++_, []}
 use native.Mathlib.Omega.{arith}
 use lib.ListN.{length-set}
-use Rattle.firmware.specs.DeskRecord.{deskRecord}
-use Rattle.firmware.proofs.Decoding.{stored}
+use Rattle.firmware.specs.DeskRecord.{placesCells, deskRecord}
+use Rattle.firmware.proofs.Desking.{first-four}
 use borrow.Author.Needs.{needs}
 use Rattle.firmware.proofs.desks.encode.Statement.{statement}
 use Rattle.firmware.proofs.desks.encode.Tie as tie
@@ -31,12 +31,18 @@ slice-write-cells-3 c = search needs
 slice-write-cells-4 : tie.Need-slice-write-cells-4
 slice-write-cells-4 c = search needs
 
+lay-places-requires : tie.Need-lay-places-requires
+lay-places-requires c κs = search needs
+
 same-length : tie.Need-same-length
-same-length c = search needs
+same-length c = simp length-set at (c .before .cells .given)
 
 returns : tie.Need-returns
 unfolding deskRecord
-returns c = stored (c .before .before .waiting-code .result ∷ c .before .waiting-number .result ∷ c .lamp-code .result ∷ 0 ∷ []) (c .before .before .before .before .args .cells .now) (c .before .before .before .before .pre) ∙ (λ i. c .before .before .waiting-code .ensures i ∷ c .before .waiting-number .ensures i ∷ c .lamp-code .ensures i ∷ 0 ∷ [])
+returns c =
+    c .before .before .lay-places .ensures
+    ∙ (λ i. first-four (c .before .before .before .before .before .before .before .before .before .args .cells .now) (omega (arith, c .before .before .before .before .before .before .before .before .before .pre)) (c .before .before .before .before .before .before .waiting-code .result) (c .before .before .before .before .before .waiting-number .result) (c .before .before .before .before .lamp-code .result) 0 i ++ placesCells (c .before .before .before .before .before .before .before .before .before .args .d .places))
+    ∙ (λ i. c .before .before .before .before .before .before .waiting-code .ensures i ∷ c .before .before .before .before .before .waiting-number .ensures i ∷ c .before .before .before .before .lamp-code .ensures i ∷ 0 ∷ placesCells (c .before .before .before .before .before .before .before .before .before .args .d .places))
 
 pub encode-spec : {M : Type 1} → statement M
 encode-spec =
@@ -49,5 +55,6 @@ encode-spec =
     slice-write-cells-2
     slice-write-cells-3
     slice-write-cells-4
+    lay-places-requires
     same-length
     returns)

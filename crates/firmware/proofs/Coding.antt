@@ -6,7 +6,7 @@ use Prim.Native.Nat.{ℕ, zero, suc, _+_, _*_, _/_, _%_, _≤_, _<_}
 use native.Mathlib.Omega.{arith}
 use lib.Dec.{T}
 use lib.ListN.{length, getD}
-use Rattle.rules.specs.Tests.{_≤?_, _=?_, pick, picked-by, pick-yes, of-eq, eq-of, of-le, le-of}
+use Rattle.rules.specs.Tests.{clash, _≤?_, _=?_, pick, picked-by, pick-yes, of-eq, eq-of, of-le, le-of}
 use Rattle.rules.specs.Octets.{Octets}
 use Rattle.rules.specs.Codes.{classCode, classCoded, coded-code, code-coded, code-small}
 use Rattle.rules.specs.declared.Class.{Class}
@@ -22,7 +22,7 @@ use Rattle.firmware.specs.declared.Decoded.the-variants.{Known, Unknown}
 use Rattle.firmware.specs.Record.{fieldsOf, fieldsWaiting, fieldsAt, fieldsEnded, fieldsFor, laidFields, recordOf, known, spotOf, openingOf, parameterOf, endedOf, stateOf, decodeOf}
 
 unknown-not : (l : Listener) → Unknown ≡ Known l → ⊥
-unknown-not l e = let z : _≡_ {A = ℕ} 0 1 = cc in omega arith
+unknown-not l e = clash cc
 
 -- ---- a record that decodes has 16 octets
 pub known-size : (c : List ℕ) (l : Listener) → decodeOf c ≡ Known l → length c ≡ 16

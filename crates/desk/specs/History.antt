@@ -1,0 +1,59 @@
+-- Which references are open after a history of calls (document 02, Q-6): as the last notice says that was done and added or removed them.
+-- Assumes nothing.
+use Prim.Native.Nat.{ℕ}
+use mathlib.Core.Path.{_≡_}
+use mathlib.Core.Bool.{Bool, true, false}
+use mathlib.Core.Logic.{_↔_}
+use mathlib.Core.List.{List, [], _∷_}
+use mathlib.Core.Option.{Option, none, some}
+use lib.ListN.{getD}
+use Rattle.rules.specs.Tests.{_=?_, pick}
+use Rattle.rules.specs.Table.{document01}
+use Rattle.desk.specs.declared.Change.{Change}
+use Rattle.desk.specs.declared.Change.the-variants.{Nothing, Adds, Removes}
+use Rattle.desk.specs.declared.Desk.{Desk}
+use Rattle.desk.specs.declared.Answer.{Answer}
+use Rattle.desk.specs.declared.Answer.the-variants.{Done, Refused}
+use Rattle.desk.specs.declared.Outcome.{Outcome}
+use Rattle.desk.specs.Holding.{Open}
+use Rattle.desk.specs.Settle.{changeOf, countedIn, settleOf}
+
+-- what a change says of the reference r: that it is open, that it is not, or nothing
+unfoldable pub saidBy : ℕ → Change → Option Bool
+saidBy r Nothing = none
+saidBy r (Adds s) = pick (s =? r) (some true) none
+saidBy r (Removes s) = pick (s =? r) (some false) none
+
+-- one call: the octets settled, and what came back
+pub record Call : Type 0 where
+  pub octets : List ℕ
+  pub outcome : Outcome
+
+-- what a call says of r: a notice that is done, what its 0DH says; a refusal and a call message, nothing
+unfoldable pub saidUnder : ℕ → List ℕ → Answer → Option Bool
+saidUnder r o Done = pick (getD o 0 0 =? 0x82) (saidBy r (changeOf (countedIn o 0x0D))) none
+saidUnder r o (Refused f) = none
+
+unfoldable pub said : ℕ → Call → Option Bool
+said r c = saidUnder r (c .octets) (c .outcome .answer)
+
+-- the later word, or the one before it
+unfoldable pub later : Option Bool → Option Bool → Option Bool
+later none b = b
+later (some a) b = some a
+
+-- the last word of some calls on r, after the word b
+unfoldable pub lastSaid : ℕ → List Call → Option Bool → Option Bool
+lastSaid r [] b = b
+lastSaid r (c ∷ cs) b = lastSaid r cs (later (said r c) b)
+
+-- calls one after the other, from the desk d to the desk e: each on the desk that the one before left
+abbrev pub History : Desk → List Call → Desk → Type 0
+History d [] e = d ≡ e
+History d (c ∷ cs) e = (c .outcome ≡ settleOf document01 d (c .octets)) × History (c .outcome .desk) cs e
+
+-- how r stands in the places qs, after the word b since they were ps
+abbrev pub Stands : ℕ → List ℕ → Option Bool → List ℕ → Type 0
+Stands r ps (some true) qs = Open r qs
+Stands r ps (some false) qs = Open r qs → ⊥
+Stands r ps none qs = Open r ps ↔ Open r qs

@@ -1,0 +1,232 @@
+-- A desk's record is settled on as promised: the desk that it holds is settled, and the record of what that leaves is written.
+-- Assumes nothing.
+use Prim.Native.Nat.{ℕ, _≤_}
+use mathlib.Core.Path.{_≡_, refl, sym, _∙_, ap, subst}
+use mathlib.Core.Logic.{_⊎_, inl, inr, _↔_}
+use mathlib.Core.Bool.{Bool}
+use mathlib.Core.List.{List, [], _∷_}
+use mathlib.Core.Option.{Option, none}
+use native.Mathlib.Omega.{arith}
+use lib.ListN.{length}
+use lib.Dec.{T}
+use Rattle.rules.specs.Tests.{_=?_, pick-yes, pick-not, decide, of-eq, eq-of}
+use Rattle.rules.specs.Octets.{Octets}
+use Rattle.rules.specs.Table.{document01}
+use Rattle.rules.specs.declared.Fault.{Fault}
+use Rattle.desk.specs.declared.Desk.{Desk}
+use Rattle.desk.specs.declared.Answer.{Answer}
+use Rattle.desk.specs.declared.Answer.the-variants.{Done, Refused}
+use Rattle.desk.specs.declared.Outcome.{Outcome}
+use Rattle.desk.proofs.Holding.{all-free}
+use Rattle.desk.specs.Settle.{newDesk, settleOf, numberOf, placeOf}
+use Rattle.desk.specs.History.{saidUnder, said, later, lastSaid, Call, History, Stands}
+use Rattle.desk.proofs.History.{open-by-last}
+use Rattle.desk.proofs.Settles as settles
+use Rattle.desk.specs.Settles.{Settles}
+use Rattle.desk.specs.Open.{placeCount}
+use Rattle.firmware.specs.DeskRecord.{isRecord, deskIn, deskRecord}
+use Rattle.firmware.proofs.DeskRecord.{Small, small-in, record-is, decode-encode, encode-decode}
+use Rattle.firmware.specs.Word.{wordNumber, Unpacked, unpacked}
+use Rattle.firmware.specs.Exports.{badRecord, deskWord, newDeskAnswer, newDeskRecord, settleAnswer, settleRecord}
+use Rattle.firmware.specs.RecordSettles.{RecordSettles, Seventeen, IsDesk, RecordCall, saidIn, lastSaidIn}
+
+-- ---- numbers and places are small: a word has room for them
+fault-of : (f : Fault) (n : ℕ) → f .number ≡ n → f ≡ (record { number = n; place = f .place })
+fault-of f n e = λ i. record { number = e i; place = f .place }
+
+module _ (d : Desk) (o : List ℕ) (x : Outcome) (s : Settles d o x) where
+  number-small : (a : Answer) → x .answer ≡ a → numberOf a ≤ 21
+  unfolding numberOf
+  number-small Done e = omega arith
+  number-small (Refused f) e = go (s .numbers f e)
+    where
+      go : ((1 ≤ f .number) × (f .number ≤ 8)) ⊎ ((f .number ≡ 17) ⊎ (f .number ≡ 21)) → f .number ≤ 21
+      go (inl h) = omega (arith, h .1)
+      go (inr (inl h)) = omega (arith, h)
+      go (inr (inr h)) = omega (arith, h)
+
+  near : (a : Answer) → x .answer ≡ a → placeOf a ≤ 258
+  unfolding placeOf
+  near Done e = omega arith
+  near (Refused f) e = go (s .numbers f e)
+    where
+      go : ((1 ≤ f .number) × (f .number ≤ 8)) ⊎ ((f .number ≡ 17) ⊎ (f .number ≡ 21)) → f .place ≤ 258
+      go (inl h) = s .judged .near f (s .refused f (h .1) .0 e .1)
+      go (inr (inl h)) = omega (arith, s .seventeen (f .place) .0 (e ∙ ap Refused (fault-of f 17 h)) .0)
+      go (inr (inr h)) = omega (arith, s .full (f .place) .0 (e ∙ ap Refused (fault-of f 21 h)) .0)
+
+module _ (c o : List ℕ) (w : ℕ) (c' : List ℕ) (a : w ≡ settleAnswer c o) (b : c' ≡ settleRecord c o) where
+  pub seventeen : (T (isRecord c) → ⊥) → Seventeen c w c'
+  unfolding settleAnswer settleRecord
+  seventeen n = record {
+    word = subst (Unpacked 17 0 0 0) (sym (a ∙ pick-not _ _ _ n)) (unpacked 17 0 0 0 (omega arith) (omega arith) (omega arith) (omega arith));
+    cells = b ∙ pick-not _ _ _ n;
+  }
+
+  settled-word : Octets o → T (isRecord c) → Unpacked (numberOf (settleOf document01 (deskIn c) o .answer)) (placeOf (settleOf document01 (deskIn c) o .answer)) 0 0 w
+  unfolding settleAnswer deskWord
+  settled-word q t =
+      let x = settleOf document01 (deskIn c) o in
+      let s = settles.settles (deskIn c) o q in
+      subst (Unpacked (numberOf (x .answer)) (placeOf (x .answer)) 0 0) (sym (a ∙ pick-yes _ _ _ t))
+      (unpacked (numberOf (x .answer)) (placeOf (x .answer)) 0 0 (omega (arith, number-small (deskIn c) o x s (x .answer) refl)) (omega (arith, near (deskIn c) o x s (x .answer) refl)) (omega arith) (omega arith))
+
+  pub record-settles : Octets o → T (isRecord c) → RecordSettles (deskIn c) o w c'
+  unfolding settleRecord
+  record-settles q t = record {
+    outcome = settleOf document01 (deskIn c) o;
+    settles = settles.settles (deskIn c) o q;
+    word = settled-word q t;
+    cells = b ∙ pick-yes _ _ _ t;
+  }
+
+  module _ (q : Octets o) where
+    -- what the word's number says of the answer
+    number-of : (t : T (isRecord c)) (y : RecordSettles (deskIn c) o w c') (k : Answer) → y .outcome .answer ≡ k → wordNumber w ≡ numberOf k
+    number-of t y k e = y .word .number ∙ ap numberOf e
+
+    -- 17 exactly for a record of another size, with a code or number out of range, or with a reference twice
+    pub seventeen-iff : (wordNumber w ≡ 17) ↔ (IsDesk c → ⊥)
+    unfolding numberOf
+    seventeen-iff = go (decide (isRecord c))
+      where
+        desk : (t : T (isRecord c)) (y : RecordSettles (deskIn c) o w c') (k : Answer) → y .outcome .answer ≡ k → (wordNumber w ≡ 17) ↔ (IsDesk c → ⊥)
+        desk t y Done e = (
+          λ x. absurd (omega (arith, x, number-of t y Done e)),
+          λ n. absurd (n (record { codes = t; places = y .settles .done .0 e .0 })),
+        )
+        desk t y (Refused f) e = (
+          λ x i. y .settles .seventeen (f .place) .0 (e ∙ ap Refused (fault-of f 17 (sym (number-of t y (Refused f) e) ∙ x))) .1 (i .places),
+          λ n. number-of t y (Refused (record { number = 17; place = 0 })) (y .settles .seventeen 0 .1 (refl, λ i. n (record { codes = t; places = i }))),
+        )
+
+        go : T (isRecord c) ⊎ (T (isRecord c) → ⊥) → (wordNumber w ≡ 17) ↔ (IsDesk c → ⊥)
+        go (inl t) = let y = record-settles q t in desk t y (y .outcome .answer) refl
+        go (inr n) = (λ _ i. n (i .codes), λ _. seventeen n .word .number)
+
+    -- no number but 0, 1 to 8, 17 and 21
+    pub numbers : (wordNumber w ≤ 8) ⊎ ((wordNumber w ≡ 17) ⊎ (wordNumber w ≡ 21))
+    unfolding numberOf
+    numbers = go (decide (isRecord c))
+      where
+        of-fault : (n : ℕ) (f : Fault) → n ≡ f .number → ((1 ≤ f .number) × (f .number ≤ 8)) ⊎ ((f .number ≡ 17) ⊎ (f .number ≡ 21)) → (n ≤ 8) ⊎ ((n ≡ 17) ⊎ (n ≡ 21))
+        of-fault n f e (inl h) = inl (omega (arith, e, h .1))
+        of-fault n f e (inr (inl h)) = inr (inl (e ∙ h))
+        of-fault n f e (inr (inr h)) = inr (inr (e ∙ h))
+
+        desk : (t : T (isRecord c)) (y : RecordSettles (deskIn c) o w c') (k : Answer) → y .outcome .answer ≡ k → (wordNumber w ≤ 8) ⊎ ((wordNumber w ≡ 17) ⊎ (wordNumber w ≡ 21))
+        desk t y Done e = inl (omega (arith, number-of t y Done e))
+        desk t y (Refused f) e = of-fault (wordNumber w) f (number-of t y (Refused f) e) (y .settles .numbers f e)
+
+        go : T (isRecord c) ⊎ (T (isRecord c) → ⊥) → (wordNumber w ≤ 8) ⊎ ((wordNumber w ≡ 17) ⊎ (wordNumber w ≡ 21))
+        go (inl t) = let y = record-settles q t in desk t y (y .outcome .answer) refl
+        go (inr n) = inr (inl (seventeen n .word .number))
+
+    -- a refusal leaves the record as it was
+    pub stays : Octets c → 1 ≤ wordNumber w → c' ≡ c
+    unfolding numberOf
+    stays k n = go (decide (isRecord c))
+      where
+        refused : (t : T (isRecord c)) (y : RecordSettles (deskIn c) o w c') (x : Answer) → y .outcome .answer ≡ x → c' ≡ c
+        refused t y Done e = absurd (omega (arith, number-of t y Done e))
+        refused t y (Refused f) e = y .cells ∙ ap deskRecord (y .settles .refusal-stays f e) ∙ encode-decode c k t
+
+        go : T (isRecord c) ⊎ (T (isRecord c) → ⊥) → c' ≡ c
+        go (inl t) = let y = record-settles q t in refused t y (y .outcome .answer) refl
+        go (inr m) = seventeen m .cells
+
+-- ---- settled twice running
+-- the desk that settling leaves has places that a record holds
+small-after : (d : Desk) (o : List ℕ) (x : Outcome) → Settles d o x → Small (d .places) → Small (x .desk .places)
+small-after d o x s w = go (x .answer) refl
+  where
+    go : (a : Answer) → x .answer ≡ a → Small (x .desk .places)
+    go Done e = record { long = s .as-many ∙ w .long; below = λ i. omega (arith, s .fits (s .done .0 e .0) .range i) }
+    go (Refused f) e = subst (λ (y : Desk). Small (y .places)) (sym (s .refusal-stays f e)) w
+
+pub again : (c o : List ℕ) → Octets c → Octets o → (w : ℕ) (c₁ : List ℕ) (w₂ : ℕ) (c₂ : List ℕ) → w ≡ settleAnswer c o → c₁ ≡ settleRecord c o → w₂ ≡ settleAnswer c₁ o → c₂ ≡ settleRecord c₁ o → (w₂ ≡ w) × (c₂ ≡ c₁)
+unfolding settleAnswer settleRecord
+again c o k q w c₁ w₂ c₂ a b e f = go (decide (isRecord c))
+  where
+    go : T (isRecord c) ⊎ (T (isRecord c) → ⊥) → (w₂ ≡ w) × (c₂ ≡ c₁)
+    go (inl t) =
+        let x = settleOf document01 (deskIn c) o in
+        let z = small-after (deskIn c) o x (settles.settles (deskIn c) o q) (small-in c k) in
+        let i : c₁ ≡ deskRecord (x .desk) = b ∙ pick-yes _ _ _ t in
+        let r : T (isRecord c₁) = subst (λ (y : List ℕ). T (isRecord y)) (sym i) (record-is (x .desk) z) in
+        let j : settleOf document01 (deskIn c₁) o ≡ x = ap (λ (y : Desk). settleOf document01 y o) (ap deskIn i ∙ decode-encode (x .desk) z) ∙ settles.settled-twice document01 (deskIn c) o q in (
+          e ∙ pick-yes _ _ _ r ∙ ap (λ (y : Outcome). deskWord (y .answer)) j ∙ sym (a ∙ pick-yes _ _ _ t),
+          f ∙ pick-yes _ _ _ r ∙ ap (λ (y : Outcome). deskRecord (y .desk)) j ∙ sym i,
+        )
+    go (inr n) =
+        let i : c₁ ≡ c = b ∙ pick-not _ _ _ n in
+        (e ∙ ap (λ (y : List ℕ). settleAnswer y o) i ∙ sym a, f ∙ ap (λ (y : List ℕ). settleRecord y o) i ∙ sym b)
+
+-- a record made new is that of a desk of which nothing is known and which holds no reference
+pub new : (c : List ℕ) (w : ℕ) (c' : List ℕ) → w ≡ newDeskAnswer c → c' ≡ newDeskRecord c → length c ≡ 52 → Unpacked 0 0 0 0 w × T (isRecord c') × (deskIn c' ≡ newDesk)
+unfolding newDeskAnswer newDeskRecord
+new c w c' a b n =
+    let z : Small (newDesk .places) = record { long = refl; below = λ i. omega (arith, all-free placeCount i) } in
+    let e : c' ≡ deskRecord newDesk = b ∙ pick-yes (length c =? 52) _ c (of-eq _ _ n) in (
+      subst (Unpacked 0 0 0 0) (sym (a ∙ pick-yes (length c =? 52) _ badRecord (of-eq _ _ n))) (unpacked 0 0 0 0 (omega arith) (omega arith) (omega arith) (omega arith)),
+      subst (λ (y : List ℕ). T (isRecord y)) (sym e) (record-is newDesk z),
+      ap deskIn e ∙ decode-encode newDesk z,
+    )
+
+-- ---- call after call
+-- calls one after the other, from the record c to the record c': each on the record that the one before left
+abbrev pub RecordHistory : List ℕ → List RecordCall → List ℕ → Type 0
+RecordHistory c [] c' = c ≡ c'
+RecordHistory c (x ∷ xs) c' = Octets (x .octets) × (x .word ≡ settleAnswer c (x .octets)) × (x .cells ≡ settleRecord c (x .octets)) × RecordHistory (x .cells) xs c'
+
+-- on a record that is one, a call says what the same call says on its desk
+module _ (c : List ℕ) (t : T (isRecord c)) (w : Small (deskIn c .places)) (x : RecordCall) (q : Octets (x .octets)) (a : x .word ≡ settleAnswer c (x .octets)) (b : x .cells ≡ settleRecord c (x .octets)) where
+  abbrev as-call : Call
+  as-call = record { octets = x .octets; outcome = settleOf document01 (deskIn c) (x .octets) }
+
+  same-word : (r : ℕ) → saidIn r x ≡ said r as-call
+  unfolding saidIn said saidUnder numberOf
+  same-word r = go (as-call .outcome .answer) refl
+    where
+      number-is : wordNumber (x .word) ≡ numberOf (as-call .outcome .answer)
+      number-is = settled-word c (x .octets) (x .word) (x .cells) a b q t .number
+
+      go : (k : Answer) → as-call .outcome .answer ≡ k → saidIn r x ≡ saidUnder r (x .octets) (as-call .outcome .answer)
+      go Done e = pick-yes _ _ _ (of-eq _ _ (number-is ∙ ap numberOf e)) ∙ ap (saidUnder r (x .octets)) (sym e)
+      go (Refused f) e =
+          pick-not _ _ _ (λ z. no-number f (settles.settles (deskIn c) (x .octets) q .numbers f e) (sym (ap numberOf e) ∙ sym number-is ∙ eq-of _ _ z)) ∙ ap (saidUnder r (x .octets)) (sym e)
+        where
+          no-number : (f : Fault) → ((1 ≤ f .number) × (f .number ≤ 8)) ⊎ ((f .number ≡ 17) ⊎ (f .number ≡ 21)) → f .number ≡ 0 → ⊥
+          no-number f (inl h) z = omega (arith, h .0, z)
+          no-number f (inr (inl h)) z = omega (arith, h, z)
+          no-number f (inr (inr h)) z = omega (arith, h, z)
+
+  after-is : x .cells ≡ deskRecord (as-call .outcome .desk)
+  unfolding settleRecord
+  after-is = b ∙ pick-yes _ _ _ t
+
+  after-small : Small (as-call .outcome .desk .places)
+  after-small = small-after (deskIn c) (x .octets) (as-call .outcome) (settles.settles (deskIn c) (x .octets) q) w
+
+  after-desk : deskIn (x .cells) ≡ as-call .outcome .desk
+  after-desk = ap deskIn after-is ∙ decode-encode (as-call .outcome .desk) after-small
+
+  after-record : T (isRecord (x .cells))
+  after-record = subst (λ (y : List ℕ). T (isRecord y)) (sym after-is) (record-is (as-call .outcome .desk) after-small)
+
+goes-on : (r : ℕ) (c : List ℕ) → T (isRecord c) → Small (deskIn c .places) → (xs : List RecordCall) (c' : List ℕ) → RecordHistory c xs c' → (cs : List Call) × History (deskIn c) cs (deskIn c') × ((b : Option Bool) → lastSaidIn r xs b ≡ lastSaid r cs b)
+unfolding lastSaidIn lastSaid
+goes-on r c t w [] c' h = ([], ap deskIn h, λ b. refl)
+goes-on r c t w (x ∷ xs) c' h =
+    let e = after-desk c t w x (h .0) (h .1) (h .2) in
+    let k = goes-on r (x .cells) (after-record c t w x (h .0) (h .1) (h .2)) (subst (λ (y : Desk). Small (y .places)) (sym e) (after-small c t w x (h .0) (h .1) (h .2))) xs c' (h .3) in (
+      as-call c t w x (h .0) (h .1) (h .2) ∷ k .0,
+      (refl, subst (λ (y : Desk). History y (k .0) (deskIn c')) e (k .1)),
+      λ b. k .2 (later (saidIn r x) b) ∙ ap (λ (y : Option Bool). lastSaid r (k .0) (later y b)) (same-word c t w x (h .0) (h .1) (h .2) r),
+    )
+
+-- a reference stands in the places of the last record as the last word on it says
+pub record-open-by-last : (r : ℕ) (c : List ℕ) → Octets c → T (isRecord c) → (xs : List RecordCall) (c' : List ℕ) → RecordHistory c xs c' → Stands r (deskIn c .places) (lastSaidIn r xs none) (deskIn c' .places)
+record-open-by-last r c k t xs c' h =
+    let g = goes-on r c t (small-in c k) xs c' h in
+    subst (λ (b : Option Bool). Stands r (deskIn c .places) b (deskIn c' .places)) (sym (g .2 none)) (open-by-last r (deskIn c) (g .0) (deskIn c') (g .1))
