@@ -3,12 +3,12 @@
 -- they allow; the only hypothesis is that octets are below 256, which every slice of octets meets.
 -- Assumes nothing.
 use Prim.Native.Nat.{ℕ, _≤_}
-use mathlib.Core.Path.{_≡_, ap}
+use mathlib.Core.Path.{_≡_, refl, _∙_, ap}
 use mathlib.Core.Logic.{_⊎_, inl, inr}
 use native.Mathlib.Omega.{arith}
 use lib.ListN.{length}
 use lib.Dec.{T}
-use Rattle.rules.specs.Tests.{clash}
+use Rattle.rules.specs.Tests.{_=?_, clash, decide, eq-of, of-eq}
 use Rattle.rules.specs.Octets.{Octets}
 use Rattle.rules.specs.Contents.{within}
 use Rattle.rules.specs.InRange.{low, high}
@@ -20,7 +20,9 @@ use Rattle.message.specs.declared.Verdict.the-variants.{Declined as Judged}
 use Rattle.message.proofs.Judging.{verdicts}
 use Rattle.message.proofs.judge.Reads as judge
 use Rattle.draft.specs.Draft.{emptyOf}
+use Rattle.reader.specs.declared.Packed.{Packed}
 use Rattle.reader.specs.declared.Packed.the-variants as packed
+use Rattle.reader.specs.Reads.{numberOf}
 use Rattle.reader.proofs.Readings.{reads}
 use Rattle.reader.proofs.read.Reads as read
 use Rattle.writer.specs.declared.Written.{Written}
@@ -38,6 +40,15 @@ use Rattle.caption.proofs.find.Reads as find
 use Rattle.walker.specs.declared.Step.the-variants as step
 use Rattle.walker.proofs.Stepping.{stepping}
 use Rattle.walker.proofs.step_at.Reads as step-at
+use Rattle.firmware.specs.Word.{wordNumber}
+use Rattle.firmware.specs.RecordHears.{Sound, Seventeen}
+use Rattle.firmware.specs.RecordReads.{RecordReads}
+use Rattle.firmware.proofs.Hearing as records
+use Rattle.firmware.proofs.Readings.{seventeen, record-read}
+use Rattle.firmware.proofs.Settlings as settlings
+use Rattle.firmware.proofs.anthercup_listen.Reads as anthercup-listen
+use Rattle.firmware.proofs.anthercup_read.Reads as anthercup-read
+use Rattle.firmware.proofs.anthercup_settle.Reads as anthercup-settle
 
 -- a number from the first to the second
 abbrev pub From : ℕ → ℕ → ℕ → Type 0
@@ -84,3 +95,36 @@ find-refuses κs a r s p o f e = let x = finding κs a r s p o in x .judged .num
 
 pub step-refuses : (κs : _) (a : _) (r : _) (s : _) → step-at.Post κs a r s → Octets (a .0 .now) → (f : Fault) → r ≡ step.Refused f → From 1 8 (f .number)
 step-refuses κs a r s p o f e = let x = stepping κs a r s p o in x .judged .numbers f (x .refused f .0 e)
+
+-- ---- the exports, on any record at all
+-- listening: a sound record gets 0 or 1 to 6; any other 17, and stays
+pub anthercup-listen-refuses : (κs : _) (a : _) (r : _) (s : _) → anthercup-listen.Post κs a r s → Octets (a .0 .now) → Octets (a .1 .0 .now) → (wordNumber r ≤ 6) ⊎ Seventeen (a .0 .now) r (s .0 .now)
+anthercup-listen-refuses κs a r s p q o = go (records.sound-or-seventeen κs a r s p q)
+  where
+    go : Sound (a .0 .now) ⊎ Seventeen (a .0 .now) r (s .0 .now) → (wordNumber r ≤ 6) ⊎ Seventeen (a .0 .now) r (s .0 .now)
+    go (inl d) = inl (records.numbers κs a r s p d o)
+    go (inr x) = inr x
+
+-- reading: 17 for a record of another size, else 0 or 1 to 9; with a number record and texts stay
+pub anthercup-read-refuses : (κs : _) (a : _) (r : _) (s : _) → anthercup-read.Post κs a r s → Octets (a .0 .now) →
+    ((wordNumber r ≤ 9) ⊎ (wordNumber r ≡ 17)) × (1 ≤ wordNumber r → (s .1 .0 .now ≡ a .1 .0 .now) × (s .1 .1 .0 .now ≡ a .1 .1 .0 .now))
+unfolding numberOf
+anthercup-read-refuses κs a r s p o = go (decide (length (a .1 .0 .now) =? 688))
+  where
+    read-so : (y : RecordReads (a .0 .now) (a .1 .0 .now) (a .1 .1 .0 .now) r (s .1 .0 .now) (s .1 .1 .0 .now)) (x : Packed) → y .reading .answer ≡ x →
+        ((wordNumber r ≤ 9) ⊎ (wordNumber r ≡ 17)) × (1 ≤ wordNumber r → (s .1 .0 .now ≡ a .1 .0 .now) × (s .1 .1 .0 .now ≡ a .1 .1 .0 .now))
+    read-so y (packed.Texts n) e = let z = y .word .number ∙ ap numberOf e in (inl (omega (arith, z)), λ h. absurd (omega (arith, z)))
+    read-so y (packed.Refused f) e =
+        let z = y .word .number ∙ ap numberOf e in
+        let k = y .reads .refused f e in
+        (inl (omega (arith, z, k .3)), λ h. (y .refused f e, k .0))
+
+    go : T (length (a .1 .0 .now) =? 688) ⊎ (T (length (a .1 .0 .now) =? 688) → ⊥) →
+        ((wordNumber r ≤ 9) ⊎ (wordNumber r ≡ 17)) × (1 ≤ wordNumber r → (s .1 .0 .now ≡ a .1 .0 .now) × (s .1 .1 .0 .now ≡ a .1 .1 .0 .now))
+    go (inl t) = let y = record-read κs a r s p o (eq-of _ _ t) in read-so y (y .reading .answer) refl
+    go (inr n) = let y = seventeen κs a r s p (λ e. n (of-eq _ _ e)) in (inr (y .word .number), λ h. (y .cells, y .texts))
+
+-- settling: 17, 1 to 8 or 21; with a number the record stays
+pub anthercup-settle-refuses : (κs : _) (a : _) (r : _) (s : _) → anthercup-settle.Post κs a r s → Octets (a .0 .now) → Octets (a .1 .0 .now) →
+    ((wordNumber r ≤ 8) ⊎ ((wordNumber r ≡ 17) ⊎ (wordNumber r ≡ 21))) × (1 ≤ wordNumber r → s .0 .now ≡ a .0 .now)
+anthercup-settle-refuses κs a r s p q o = (settlings.numbers κs a r s p o, settlings.refusal-stays κs a r s p q o)

@@ -1,5 +1,5 @@
--- Demand 3: the listener gives up at the very octet that spoils the message, and not before. Over the promises of `reset` and `listen`, call after call,
--- whatever outcomes they allow; and a whole read of the same octets says the same.
+-- Demand 3: the listener gives up at the very octet that spoils the message, and not before. Over the promises of `reset` and `listen` and of the exports, call
+-- after call, whatever outcomes they allow; and a whole read of the same octets says the same.
 -- Assumes nothing.
 use Prim.Native.Nat.{ℕ, _+_, _≤_}
 use mathlib.Core.Path.{_≡_, refl, sym, subst}
@@ -21,11 +21,18 @@ use Rattle.reader.specs.declared.Packed.{Packed}
 use Rattle.reader.specs.declared.Packed.the-variants as packed
 use Rattle.reader.proofs.Readings as reading
 use Rattle.reader.proofs.read.Reads as read
+use Rattle.firmware.specs.RecordHears.{RecordHears}
+use Rattle.firmware.proofs.Hearing as records
+use Rattle.firmware.proofs.anthercup_listen.Reads as anthercup-listen
 
 -- the listener heard h since its reset, in whatever runs, and then one more: it waits, has a message or refuses exactly as the written rules say of all
 -- these octets (`Hears`: waits, has-message, refuses, and the octets taken)
 pub waits-or-answers : (κs : _) (a : _) (r : _) (s : _) {h : List ℕ} → listen.Post κs a r s → hearing.Heard (a .0) h → Octets (a .1 .0 .now) → Hears h (a .1 .0 .now) r
 waits-or-answers κs a r s p d o = hearing.demand3 κs a r s p d o
+
+-- the export, on a record that heard h since it was reset: the same, read off the word
+pub anthercup-waits-or-answers : (κs : _) (a : _) (r : _) (s : _) {h : List ℕ} → anthercup-listen.Post κs a r s → records.Heard (a .0 .now) h → Octets (a .1 .0 .now) → RecordHears h (a .1 .0 .now) r
+anthercup-waits-or-answers κs a r s p d o = records.demand3 κs a r s p d o
 
 -- any cutting ends as one run does: c is the call on the whole run, a and b those on its parts
 pub cut-anywhere : (κs₀ : _) (c : _) (r : _) (s₀ : _) → listen.Post κs₀ c r s₀ → (κs₁ : _) (a : _) (r₁ : _) (s₁ : _) → listen.Post κs₁ a r₁ s₁ → (κs₂ : _) (b : _) (r₂ : _) (s₂ : _) → listen.Post κs₂ b r₂ s₂ → c .0 ≡ a .0 → b .0 ≡ r₁ .listener → c .1 .0 .now ≡ a .1 .0 .now ++ b .1 .0 .now → Octets (a .1 .0 .now) → (r .listener ≡ r₂ .listener) × (r .answer ≡ r₂ .answer) × (r .taken ≡ r₁ .taken + r₂ .taken)

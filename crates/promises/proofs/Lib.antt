@@ -1,5 +1,5 @@
 -- The root of the theorems over several crates.
 pub mod Demand1
-pub mod RoundTrips
+pub mod Demand2
 pub mod Demand3
 pub mod Rows

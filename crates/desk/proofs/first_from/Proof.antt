@@ -28,8 +28,9 @@ array-read-if1 c = search needs
 
 returns : tie.Need-returns Inv-loop μ-loop
 returns c =
-    let l : length (c .before .before .before .args .t1) ≡ placeCount = search needs in
-    sym (first-here _ (c .before .before .before .args .t1) _ (omega (arith, l, c .before .loop-test .taken)) (c .if1 .taken)) ∙ c .before .before .loop .inv .1
+    let places = c .before .before .before .args .t1 in
+    let l : length places ≡ placeCount = search needs in
+    sym (first-here _ places _ (omega (arith, l, c .before .loop-test .taken)) (c .if1 .taken)) ∙ c .before .before .loop .inv .1
 
 add-i : tie.Need-add-i Inv-loop μ-loop
 add-i c = search needs
@@ -39,8 +40,9 @@ loop-less c = search needs
 
 loop-again : tie.Need-loop-again Inv-loop μ-loop
 loop-again c =
-    let l : length (c .before .before .before .args .t1) ≡ placeCount = search needs in
-    (omega (arith, c .before .loop-test .taken), sym (first-next _ (c .before .before .before .args .t1) _ (omega (arith, l, c .before .loop-test .taken)) (c .if1 .left)) ∙ c .before .before .loop .inv .1)
+    let places = c .before .before .before .args .t1 in
+    let l : length places ≡ placeCount = search needs in
+    (omega (arith, c .before .loop-test .taken), sym (first-next _ places _ (omega (arith, l, c .before .loop-test .taken)) (c .if1 .left)) ∙ c .before .before .loop .inv .1)
 
 returns-2 : tie.Need-returns-2 Inv-loop μ-loop
 returns-2 c =

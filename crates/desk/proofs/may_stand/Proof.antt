@@ -31,10 +31,11 @@ returns c = pick-t _ _ _ _ (yes-eq _ _ (c .if1 .taken)) refl
 returns-2 : tie.Need-returns-2
 unfolding mayStand
 returns-2 c =
-    let l : length (c .before .before .before .args .t1) ≡ placeCount = search needs in
+    let places = c .before .before .before .args .t1 in
+    let l : length places ≡ placeCount = search needs in
     pick-f _ _ _ _ (no-eq _ _ (c .before .before .if1 .left))
     (and-t _ _ _ (yes-le _ _ (c .before .if2 .taken))
-    (ap (λ (k : ℕ). eqb k placeCount) (c .first-from .ensures) ∙ ap (eqb _) (sym l) ∙ absent-behind (c .before .before .before .args .t1) _ _ (omega (arith, l, c .before .before .before .pre))))
+    (ap (λ (k : ℕ). eqb k placeCount) (c .first-from .ensures) ∙ ap (eqb _) (sym l) ∙ absent-behind places _ _ (omega (arith, l, c .before .before .before .pre))))
 
 returns-3 : tie.Need-returns-3
 unfolding mayStand

@@ -47,9 +47,11 @@ returns c = rw (c .enum-told .given .1) refl
 returns-2 : tie.Need-returns-2
 unfolding placesAfter
 returns-2 c =
+    let places = c .before .before .before .before .before .before .before .before .args .places in
+    let is-held = c .before .before .before .before .held .ensures in
     rw (c .before .before .before .before .before .before .change .given .1)
-    (pick-t _ _ _ _ (via _ _ _ (c .before .before .before .is-absent .ensures ∙ ap (λ (p : ℕ). absent p (c .before .before .before .before .before .before .before .before .args .places)) (c .before .before .before .before .held .ensures)) (c .before .before .if1 .taken))
-    (c .put .ensures ∙ (λ i. set (c .before .before .before .before .before .before .before .before .args .places) ((c .before .first-from .ensures ∙ zero-add (firstOf free (c .before .before .before .before .before .before .before .before .args .places))) i) (c .before .before .before .before .held .ensures i))))
+    (pick-t _ _ _ _ (via _ _ _ (c .before .before .before .is-absent .ensures ∙ ap (λ (p : ℕ). absent p places) is-held) (c .before .before .if1 .taken))
+    (c .put .ensures ∙ (λ i. set places ((c .before .first-from .ensures ∙ zero-add (firstOf free places)) i) (is-held i))))
 
 returns-3 : tie.Need-returns-3
 unfolding placesAfter
@@ -60,8 +62,9 @@ returns-3 c =
 returns-4 : tie.Need-returns-4
 unfolding placesAfter
 returns-4 c =
+    let places = c .before .before .before .before .before .before .args .places in
     rw (c .before .before .before .before .change2 .given .1)
-    (c .put2 .ensures ∙ (λ i. set (c .before .before .before .before .before .before .args .places) ((c .before .first-from2 .ensures ∙ zero-add (firstOf _ (c .before .before .before .before .before .before .args .places)) ∙ ap (λ (p : ℕ). firstOf p (c .before .before .before .before .before .before .args .places)) (c .before .before .held2 .ensures)) i) free))
+    (c .put2 .ensures ∙ (λ i. set places ((c .before .first-from2 .ensures ∙ zero-add (firstOf _ places) ∙ ap (λ (p : ℕ). firstOf p places) (c .before .before .held2 .ensures)) i) free))
 
 pub places-after-spec : {M : Type 1} → statement M
 places-after-spec =

@@ -31,14 +31,16 @@ loop-less c = search needs
 
 loop-again : tie.Need-loop-again Inv-loop μ-loop
 loop-again c =
-    let l : length (c .before .before .before .before .args .places) ≡ placeCount = search needs in
+    let places = c .before .before .before .before .args .places in
+    let l : length places ≡ placeCount = search needs in
     let h = c .before .before .loop-test .taken in
-    (omega (arith, h), fit-more (c .before .before .before .before .args .places) (c .before .before .before .loop .i) (c .before .before .before .loop .inv .1) (omega (arith, l, h)) (via _ _ _ (c .before .may-stand .ensures) (c .if1 .taken)))
+    (omega (arith, h), fit-more places (c .before .before .before .loop .i) (c .before .before .before .loop .inv .1) (omega (arith, l, h)) (via _ _ _ (c .before .may-stand .ensures) (c .if1 .taken)))
 
 returns : tie.Need-returns Inv-loop μ-loop
 returns c =
-    let l : length (c .before .before .before .before .args .places) ≡ placeCount = search needs in
-    fit-fails (c .before .before .before .before .args .places) (c .before .before .before .loop .i) (c .before .before .before .loop .inv .1) (omega (arith, l, c .before .before .loop-test .taken)) (via _ _ _ (c .before .may-stand .ensures) (c .if1 .left))
+    let places = c .before .before .before .before .args .places in
+    let l : length places ≡ placeCount = search needs in
+    fit-fails places (c .before .before .before .loop .i) (c .before .before .before .loop .inv .1) (omega (arith, l, c .before .before .loop-test .taken)) (via _ _ _ (c .before .may-stand .ensures) (c .if1 .left))
 
 returns-2 : tie.Need-returns-2 Inv-loop μ-loop
 returns-2 c =

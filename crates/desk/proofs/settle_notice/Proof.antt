@@ -43,8 +43,9 @@ returns c = pick-t _ _ _ _ (via _ _ _ (c .before .before .is-full .ensures ∙ a
 returns-2 : tie.Need-returns-2
 unfolding settledNotice noticed
 returns-2 c =
-    pick-f _ _ _ _ (via _ _ _ (c .before .before .before .before .is-full .ensures ∙ ap (λ (k : Change). isFull k (c .before .before .before .before .before .before .before .before .args .desk .places)) (c .before .before .before .before .before .change-of .ensures)) (c .before .before .before .if1 .left))
-    (set-all _ _ _ _ _ _ (c .before .before .waiting-after .ensures) (c .before .lamp-after .ensures) (c .places-after .ensures ∙ ap (λ (k : Change). placesAfter k (c .before .before .before .before .before .before .before .before .args .desk .places)) (c .before .before .before .before .before .change-of .ensures)))
+    let places = c .before .before .before .before .before .before .before .before .args .desk .places in
+    pick-f _ _ _ _ (via _ _ _ (c .before .before .before .before .is-full .ensures ∙ ap (λ (k : Change). isFull k places) (c .before .before .before .before .before .change-of .ensures)) (c .before .before .before .if1 .left))
+    (set-all _ _ _ _ _ _ (c .before .before .waiting-after .ensures) (c .before .lamp-after .ensures) (c .places-after .ensures ∙ ap (λ (k : Change). placesAfter k places) (c .before .before .before .before .before .change-of .ensures)))
 
 pub settle-notice-spec : {M : Type 1} → statement M
 settle-notice-spec =

@@ -40,9 +40,10 @@ same-length c = simp length-set at (c .before .cells .given)
 returns : tie.Need-returns
 unfolding deskRecord
 returns c =
+    let places = c .before .before .before .before .before .before .before .before .before .args .d .places in
     c .before .before .lay-places .ensures
-    ∙ (λ i. first-four (c .before .before .before .before .before .before .before .before .before .args .cells .now) (omega (arith, c .before .before .before .before .before .before .before .before .before .pre)) (c .before .before .before .before .before .before .waiting-code .result) (c .before .before .before .before .before .waiting-number .result) (c .before .before .before .before .lamp-code .result) 0 i ++ placesCells (c .before .before .before .before .before .before .before .before .before .args .d .places))
-    ∙ (λ i. c .before .before .before .before .before .before .waiting-code .ensures i ∷ c .before .before .before .before .before .waiting-number .ensures i ∷ c .before .before .before .before .lamp-code .ensures i ∷ 0 ∷ placesCells (c .before .before .before .before .before .before .before .before .before .args .d .places))
+    ∙ (λ i. first-four (c .before .before .before .before .before .before .before .before .before .args .cells .now) (omega (arith, c .before .before .before .before .before .before .before .before .before .pre)) (c .before .before .before .before .before .before .waiting-code .result) (c .before .before .before .before .before .waiting-number .result) (c .before .before .before .before .lamp-code .result) 0 i ++ placesCells places)
+    ∙ (λ i. c .before .before .before .before .before .before .waiting-code .ensures i ∷ c .before .before .before .before .before .waiting-number .ensures i ∷ c .before .before .before .before .lamp-code .ensures i ∷ 0 ∷ placesCells places)
 
 pub encode-spec : {M : Type 1} → statement M
 encode-spec =
