@@ -16,6 +16,9 @@ use Rattle.rules.specs.declared.State.the-variants.{Waiting}
 pub place-small : (s : Stage) (q : Spot) → T (inRange document01 (Waiting s q)) → q .place < 65535
 place-small s q t = omega (arith, near document01 s q t)
 
-pub index-small : (c : Class) (n i m r : ℕ) (q : Spot) → T (inRange document01 (Waiting (Content c n i m r) q)) → n < 256 → i < 255
+pub index-below : (c : Class) (n i m r : ℕ) (q : Spot) → T (inRange document01 (Waiting (Content c n i m r) q)) → i < n
 unfolding inRange
-index-small c n i m r q t h = omega (arith, le-of _ _ (both _ _ t .0))
+index-below c n i m r q t = le-of _ _ (both _ _ t .0)
+
+pub index-small : (c : Class) (n i m r : ℕ) (q : Spot) → T (inRange document01 (Waiting (Content c n i m r) q)) → n < 256 → i < 255
+index-small c n i m r q t h = omega (arith, index-below c n i m r q t)

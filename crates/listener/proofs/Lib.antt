@@ -4,3 +4,4 @@ pub mod Settled
 pub mod Hearing
 pub mod Runs
 pub mod Hears
+pub mod Going

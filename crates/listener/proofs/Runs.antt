@@ -15,11 +15,7 @@ use Rattle.rules.specs.Listening.{place, stepped, placed, message-stays, refuse
 use Rattle.rules.specs.declared.State.{State}
 use Rattle.rules.specs.declared.State.the-variants.{Waiting, Message, Refused}
 use Rattle.listener.specs.declared.Ran.{Ran}
-use Rattle.listener.specs.Heard.{stopped, taken, runOf}
-
--- the run from here on, where i octets are taken already
-unfoldable pub runFrom : ℕ → Machine → State → List ℕ → Ran
-runFrom i M w h = record { state = run M w h; taken = i + taken M w h }
+use Rattle.listener.specs.Heard.{stopped, taken, runOf, runFrom}
 
 module _ (M : Machine) where
   pub run-stopped : (w : State) (h : List ℕ) → stopped w ≡ true → run M w h ≡ w

@@ -1,8 +1,11 @@
 -- What a call of the listener gives (document 01, Listening): the state after the octets, the answer, the octets taken; 17 for a listener out of range.
 -- Assumes nothing.
-use Prim.Native.Nat.{ℕ, suc}
+use Prim.Native.Nat.{ℕ, suc, _+_, _≤_, _<_}
+use mathlib.Core.Path.{_≡_}
 use mathlib.Core.Bool.{Bool, true, false}
 use mathlib.Core.List.{List, [], _∷_}
+use lib.ListN.{length, drop}
+use lib.Dec.{T}
 use Rattle.rules.specs.Tests.{pick}
 use Rattle.rules.specs.Table.{Rules, document01}
 use Rattle.rules.specs.Machine.{Machine, step, run, start}
@@ -49,6 +52,17 @@ sizeOf (Refused f) = 0
 
 unfoldable pub runOf : Machine → State → List ℕ → Ran
 runOf M w h = record { state = run M w h; taken = taken M w h }
+
+-- the run from here on, where i octets are taken already
+unfoldable pub runFrom : ℕ → Machine → State → List ℕ → Ran
+runFrom i M w h = record { state = run M w h; taken = i + taken M w h }
+
+-- the run of o that stands at octet i in the state w stands further on, at r's octet in r's state, which is in range
+pub record Onward (w : State) (o : List ℕ) (i : ℕ) (r : Ran) : Type 0 where
+  pub further : i < r .taken
+  pub inside : r .taken ≤ length o
+  pub in-range : T (inRange document01 (r .state))
+  pub same : runFrom (r .taken) (machine document01) (r .state) (drop (r .taken) o) ≡ runFrom i (machine document01) w (drop i o)
 
 -- out of range: number 17, nothing taken, and the listener as it was
 abbrev pub outOfRange : Listener → Heard

@@ -8,6 +8,7 @@ use rules::State;
 ghost use mathlib.Core.Path.{_≡_};
 ghost use Prim.Native.Nat.{_<_};
 ghost use lib.Dec.{T};
+ghost use lib.ListN as list;
 ghost use Rattle.rules.specs.Contents.{within};
 ghost use Rattle.rules.specs.Table.{document01};
 ghost use Rattle.rules.specs.Machine as machine;
@@ -15,7 +16,7 @@ ghost use Rattle.rules.specs.Judge.{given, inRange};
 ghost use Rattle.rules.specs.Judge as judge;
 ghost use Rattle.rules.specs.declared.State.the-variants as state;
 ghost use Rattle.rules.specs.declared.Stage.the-variants as stage;
-ghost use Rattle.listener.specs.Heard.{stopped, answerOf, runOf, heardOf, newListener};
+ghost use Rattle.listener.specs.Heard.{answerOf, runOf, Onward, heardOf, newListener};
 
 pub struct Listener {
     pub state: State,
@@ -141,53 +142,94 @@ fn at_length(class: Class, room: u8, q: Spot, x: u8) -> State
     }
 }
 
-fn at_content(class: Class, length: u8, index: u8, memory: u8, room: u8, q: Spot, x: u8) -> State
-    requires { ⌜ (q .place < 65535) × (index < 255) ⌝ }
-    ensures { λ r. ⌜ r ≡ machine.step (judge.machine document01) (state.Waiting (stage.Content class length index memory room) q) x ⌝ }
+// Contents as far as they go: to their end, to the octet that spoils them, or to the end of the run. Class, length and room stay; index, memory and spot move.
+fn along(
+    class: Class,
+    length: u8,
+    first: u8,
+    kept: u8,
+    room: u8,
+    spot: Spot,
+    octets: &[u8],
+    from: usize,
+) -> Ran
+    requires { ⌜ T (inRange document01 (state.Waiting (stage.Content class length first kept room) spot)) × (from < list.length (now octets)) ⌝ }
+    ensures { λ r. ⌜ Onward (state.Waiting (stage.Content class length first kept room) spot) (now (octets .entry)) from r ⌝ }
 {
-    let here = Stage::Content {
+    let mut index = first;
+    let mut memory = kept;
+    let mut q = spot;
+    let mut i = from;
+    while i < octets.len() {
+        let x = octets[i];
+        let here = Stage::Content {
+            class,
+            length,
+            index,
+            memory,
+            room,
+        };
+        i += 1;
+        if rules::content_ok(class, length, index, memory, x) {
+            memory = rules::remember(class, length, index, memory, x);
+            index += 1;
+            q = moved(here, q, x);
+            if index == length {
+                return Ran {
+                    state: State::Waiting(Stage::Header { room }, q),
+                    taken: i,
+                };
+            }
+        } else {
+            return Ran {
+                state: declined(here, 5, q),
+                taken: i,
+            };
+        }
+    }
+    let there = Stage::Content {
         class,
         length,
         index,
         memory,
         room,
     };
-    if rules::content_ok(class, length, index, memory, x) {
-        let kept = rules::remember(class, length, index, memory, x);
-        let next = contents(class, length, index + 1, kept, room);
-        State::Waiting(next, moved(here, q, x))
-    } else {
-        declined(here, 5, q)
+    Ran {
+        state: State::Waiting(there, q),
+        taken: i,
     }
 }
 
-fn judged(stage: Stage, q: Spot, x: u8) -> State
-    requires { ⌜ T (inRange document01 (state.Waiting stage q)) ⌝ }
-    ensures { λ r. ⌜ r ≡ machine.step (judge.machine document01) (state.Waiting stage q) x ⌝ }
+// One octet further, or contents as far as they go.
+fn onward(stage: Stage, q: Spot, octets: &[u8], i: usize) -> Ran
+    requires { ⌜ T (inRange document01 (state.Waiting stage q)) × (i < list.length (now octets)) ⌝ }
+    ensures { λ r. ⌜ Onward (state.Waiting stage q) (now (octets .entry)) i r ⌝ }
 {
+    let x = octets[i];
     match stage {
-        Stage::Kind => at_kind(q, x),
-        Stage::Size => at_size(q, x),
-        Stage::Header { room } => at_header(room, q, x),
-        Stage::Length { class, room } => at_length(class, room, q, x),
+        Stage::Kind => Ran {
+            state: at_kind(q, x),
+            taken: i + 1,
+        },
+        Stage::Size => Ran {
+            state: at_size(q, x),
+            taken: i + 1,
+        },
+        Stage::Header { room } => Ran {
+            state: at_header(room, q, x),
+            taken: i + 1,
+        },
+        Stage::Length { class, room } => Ran {
+            state: at_length(class, room, q, x),
+            taken: i + 1,
+        },
         Stage::Content {
             class,
             length,
             index,
             memory,
             room,
-        } => at_content(class, length, index, memory, room, q, x),
-    }
-}
-
-fn step(s: State, x: u8) -> State
-    requires { ⌜ T (inRange document01 s) ⌝ }
-    ensures { λ r. ⌜ r ≡ machine.step (judge.machine document01) s x ⌝ }
-{
-    match s {
-        State::Waiting(stage, q) => judged(stage, q, x),
-        State::Message(_) => s,
-        State::Refused(_) => s,
+        } => along(class, length, index, memory, room, q, octets, i),
     }
 }
 
@@ -255,16 +297,6 @@ fn in_range(s: State) -> bool
     }
 }
 
-fn is_stopped(s: State) -> bool
-    ensures { λ r. ⌜ r ≡ stopped s ⌝ }
-{
-    match s {
-        State::Waiting(_, _) => false,
-        State::Message(_) => true,
-        State::Refused(_) => true,
-    }
-}
-
 fn run(s: State, octets: &[u8]) -> Ran
     requires { ⌜ T (inRange document01 s) ⌝ }
     ensures { λ r. ⌜ r ≡ runOf (judge.machine document01) s (now (octets .entry)) ⌝ }
@@ -272,14 +304,25 @@ fn run(s: State, octets: &[u8]) -> Ran
     let mut cur = s;
     let mut i = 0;
     while i < octets.len() {
-        if is_stopped(cur) {
-            return Ran {
-                state: cur,
-                taken: i,
-            };
+        match cur {
+            State::Waiting(stage, q) => {
+                let next = onward(stage, q, octets, i);
+                cur = next.state;
+                i = next.taken;
+            }
+            State::Message(_) => {
+                return Ran {
+                    state: cur,
+                    taken: i,
+                };
+            }
+            State::Refused(_) => {
+                return Ran {
+                    state: cur,
+                    taken: i,
+                };
+            }
         }
-        cur = step(cur, octets[i]);
-        i += 1;
     }
     Ran {
         state: cur,

@@ -1,16 +1,16 @@
--- `listener::run` meets its contract. The loop's invariant: the state is in range, and the run from here on gives what the whole run gives.
--- The measure is what is left of the run. Assumes nothing.
-use mathlib.Core.Path.{_≡_, sym, _∙_}
+-- `listener::run` meets its contract. The loop's invariant: the state is in range, and the run from here on gives what the whole run gives. The measure is what
+-- is left of the run.
+-- Assumes nothing.
+use mathlib.Core.Path.{_≡_, refl, sym, _∙_, ap, subst}
 use Prim.Native.Nat.{_≤_, _-_}
 use native.Mathlib.Omega.{arith}
 use lib.ListN.{length, drop}
 use lib.Dec.{T}
 use Rattle.rules.specs.Table.{document01}
 use Rattle.rules.specs.Judge.{machine, inRange}
-use Rattle.rules.specs.InRange.{in-range-closed}
-use Rattle.rules.specs.Returns.{via}
-use Rattle.listener.specs.Heard.{runOf}
-use Rattle.listener.proofs.Runs.{runFrom, run-zero, ran-stopped, ran-out, run-more}
+use Rattle.rules.specs.declared.State.{State}
+use Rattle.listener.specs.Heard.{stopped, runFrom, runOf}
+use Rattle.listener.proofs.Runs.{run-zero, ran-stopped, ran-out}
 use borrow.Author.Needs.{needs}
 use Rattle.listener.proofs.run.Statement.{statement}
 use Rattle.listener.proofs.run.Tie as tie
@@ -24,34 +24,37 @@ abbrev μ-loop : tie.MeasureT-loop
 loop-holds : tie.Need-loop-holds Inv-loop μ-loop
 loop-holds c = (search needs, c .before .pre, run-zero _ _ _)
 
-is-stopped-requires : tie.Need-is-stopped-requires Inv-loop μ-loop
-is-stopped-requires c κs = search needs
+enum-known-cur : tie.Need-enum-known-cur Inv-loop μ-loop
+enum-known-cur c = search needs
 
-returns : tie.Need-returns Inv-loop μ-loop
-returns c = sym (ran-stopped _ _ _ _ (via _ _ _ (c .before .is-stopped .ensures) (c .if1 .taken))) ∙ c .before .before .before .loop .inv .2
-
-shared-slice-read-step : tie.Need-shared-slice-read-step Inv-loop μ-loop
-shared-slice-read-step c = search needs
-
-step-requires : tie.Need-step-requires Inv-loop μ-loop
-step-requires c κs = c .before .before .before .before .loop .inv .1
-
-add-i : tie.Need-add-i Inv-loop μ-loop
-add-i c = omega arith
+onward-requires : tie.Need-onward-requires Inv-loop μ-loop
+onward-requires c κs = (subst (λ (w : State). T (inRange document01 w)) (c .before .cur .given .1) (c .before .before .before .before .loop .inv .1), c .before .before .before .loop-test .taken)
 
 loop-less : tie.Need-loop-less Inv-loop μ-loop
-loop-less c = omega arith
+loop-less c = omega (arith, c .onward .ensures .further, c .onward .ensures .inside)
 
 loop-again : tie.Need-loop-again Inv-loop μ-loop
 loop-again c =
-    let at = c .before .before .before .before .before .loop in (
-      search needs,
-      rw (c .step .ensures) (in-range-closed document01 _ _ (omega (arith, c .before .shared-slice-known2 .given (at .i))) (at .inv .1)),
-      run-more (machine document01) _ _ _ _ (c .step .ensures) (c .before .before .before .before .loop-test .taken) (via _ _ _ (c .before .before .before .is-stopped .ensures) (c .before .before .if1 .left)) ∙ at .inv .2,
-    )
+    let on = c .onward .ensures in
+    let at = c .before .before .before .before .before .loop in
+    (on .inside, on .in-range, on .same ∙ ap (λ (w : State). runFrom (at .i) (machine document01) w (drop (at .i) (c .before .before .before .before .before .before .before .args .octets .now))) (sym (c .before .before .cur .given .1)) ∙ at .inv .2)
+
+enum-told : tie.Need-enum-told Inv-loop μ-loop
+enum-told c = search needs
+
+returns : tie.Need-returns Inv-loop μ-loop
+unfolding stopped
+returns c = sym (ran-stopped _ _ _ _ (rw (c .enum-told .given .1) refl)) ∙ c .before .before .before .loop .inv .2
+
+enum-told-2 : tie.Need-enum-told-2 Inv-loop μ-loop
+enum-told-2 c = search needs
 
 returns-2 : tie.Need-returns-2 Inv-loop μ-loop
-returns-2 c = sym (ran-out _ _ _ _ (c .loop-test .left)) ∙ c .before .loop .inv .2
+unfolding stopped
+returns-2 c = sym (ran-stopped _ _ _ _ (rw (c .enum-told2 .given .1) refl)) ∙ c .before .before .before .loop .inv .2
+
+returns-3 : tie.Need-returns-3 Inv-loop μ-loop
+returns-3 c = sym (ran-out _ _ _ _ (c .loop-test .left)) ∙ c .before .loop .inv .2
 
 pub run-spec : {M : Type 1} → statement M
 run-spec =
@@ -60,11 +63,12 @@ run-spec =
     Inv-loop
     μ-loop
     loop-holds
-    is-stopped-requires
-    returns
-    shared-slice-read-step
-    step-requires
-    add-i
+    enum-known-cur
+    onward-requires
     loop-less
     loop-again
-    returns-2)
+    enum-told
+    returns
+    enum-told-2
+    returns-2
+    returns-3)
