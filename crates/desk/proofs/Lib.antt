@@ -5,5 +5,6 @@ pub mod Counted
 pub mod Noticing
 pub mod Settles
 pub mod History
+pub mod Words
 pub mod Settled
 pub mod Settling

@@ -30,23 +30,23 @@ pub kind-of : (m : message.Message) → getD (octets m) 0 0 ≡ m .kind
 unfolding octets
 kind-of m = refl
 
-counts : (m : message.Message) (o : List ℕ) → octets m ≡ o → (t : ℕ) (c : Option (List ℕ)) → counted document01 m t ≡ c → countedIn o t ≡ c
+pub counts : (m : message.Message) (o : List ℕ) → octets m ≡ o → (t : ℕ) (c : Option (List ℕ)) → counted document01 m t ≡ c → countedIn o t ≡ c
 unfolding countedIn
 counts m o e t c x = ap (λ (v : List ℕ). countedIn v t) (sym e) ∙ counted-part m t ∙ x
 
-adds-is : (h l : ℕ) → changeOf (some (0xFF ∷ h ∷ l ∷ [])) ≡ Adds (256 * h + l)
+pub adds-is : (h l : ℕ) → changeOf (some (0xFF ∷ h ∷ l ∷ [])) ≡ Adds (256 * h + l)
 unfolding changeOf changeBy changeIn pick _=?_
 adds-is h l = refl
 
-removes-is : (h l : ℕ) → changeOf (some (0x00 ∷ h ∷ l ∷ [])) ≡ Removes (256 * h + l)
+pub removes-is : (h l : ℕ) → changeOf (some (0x00 ∷ h ∷ l ∷ [])) ≡ Removes (256 * h + l)
 unfolding changeOf changeBy changeIn pick _=?_
 removes-is h l = refl
 
-unset-is : (h l : ℕ) → changeOf (some (0x55 ∷ h ∷ l ∷ [])) ≡ Nothing
+pub unset-is : (h l : ℕ) → changeOf (some (0x55 ∷ h ∷ l ∷ [])) ≡ Nothing
 unfolding changeOf changeBy changeIn pick _=?_
 unset-is h l = refl
 
-stays-is : changeOf none ≡ Nothing
+pub stays-is : changeOf none ≡ Nothing
 unfolding changeOf
 stays-is = refl
 

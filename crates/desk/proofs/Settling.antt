@@ -19,7 +19,8 @@ use Rattle.desk.specs.Settle.{newDesk, settleOf}
 use Rattle.desk.proofs.Settles as settles
 use Rattle.desk.specs.Settles.{Notices, Settles}
 use Rattle.desk.proofs.History as history
-use Rattle.desk.specs.History.{Call, lastSaid, History, Stands}
+use Rattle.desk.proofs.Words as words
+use Rattle.desk.specs.History.{Call, lastSaid, History, Stands, Says}
 use Rattle.desk.proofs.new_desk.Reads as new-desk
 use Rattle.desk.proofs.settle.Reads as settle
 
@@ -58,7 +59,7 @@ settled-twice κs a r s p κs' a' r' s' p' d e o =
     ∙ sym p
 
 -- ---- calls one after the other, each outcome as the promise allows it
-abbrev Promised : Desk → List ℕ → Outcome → Type 0
+abbrev pub Promised : Desk → List ℕ → Outcome → Type 0
 Promised d o r = (κs : _) × (a : _) × (s : _) × settle.Post κs a r s × (a .0 ≡ d) × (a .1 .0 .now ≡ o)
 
 abbrev pub Calls : Desk → List Call → Desk → Type 0
@@ -72,3 +73,7 @@ open-by-last r d cs e h = history.open-by-last r d cs e (calls d cs h)
     calls : (d : Desk) (cs : List Call) → Calls d cs e → History d cs e
     calls d [] h = h
     calls d (c ∷ cs) h = let p = h .0 in (p .3 ∙ (λ i. settleOf document01 (p .4 i) (p .5 i)), calls (c .outcome .desk) cs (h .1))
+
+-- and what each of them says is the state and the reference of the 0DH that counts in its message, over the written rules
+pub says : (r : ℕ) (c : Call) (d : Desk) → Promised d (c .octets) (c .outcome) → Octets (c .octets) → Says r c
+says r c d p o = words.says r c d (p .3 ∙ (λ i. settleOf document01 (p .4 i) (p .5 i))) o

@@ -1,6 +1,6 @@
 -- Which references are open after a history of calls (document 02, Q-6): as the last notice says that was done and added or removed them.
 -- Assumes nothing.
-use Prim.Native.Nat.{ℕ}
+use Prim.Native.Nat.{ℕ, _+_, _*_}
 use mathlib.Core.Path.{_≡_}
 use mathlib.Core.Bool.{Bool, true, false}
 use mathlib.Core.Logic.{_↔_}
@@ -9,6 +9,9 @@ use mathlib.Core.Option.{Option, none, some}
 use lib.ListN.{getD}
 use Rattle.rules.specs.Tests.{_=?_, pick}
 use Rattle.rules.specs.Table.{document01}
+use Rattle.rules.specs.Message as message
+use Rattle.rules.specs.Message.{octets, LegalMessage}
+use Rattle.rules.specs.Counting.{counted}
 use Rattle.desk.specs.declared.Change.{Change}
 use Rattle.desk.specs.declared.Change.the-variants.{Nothing, Adds, Removes}
 use Rattle.desk.specs.declared.Desk.{Desk}
@@ -57,3 +60,21 @@ abbrev pub Stands : ℕ → List ℕ → Option Bool → List ℕ → Type 0
 Stands r ps (some true) qs = Open r qs
 Stands r ps (some false) qs = Open r qs → ⊥
 Stands r ps none qs = Open r ps ↔ Open r qs
+
+-- ---- over the written rules
+-- the call was done, with a notice m whose 0DH counts with the state s and the reference r
+pub record Names (c : Call) (s r : ℕ) : Type 0 where
+  pub m : message.Message
+  pub legal : LegalMessage document01 m
+  pub is : octets m ≡ c .octets
+  pub notice : m .kind ≡ 0x82
+  pub done : c .outcome .answer ≡ Done
+  pub high : ℕ
+  pub low : ℕ
+  pub counts : counted document01 m 0x0D ≡ some (s ∷ high ∷ low ∷ [])
+  pub reference : 256 * high + low ≡ r
+
+-- what a call says of r: open exactly with FFH, not open exactly with 00H
+pub record Says (r : ℕ) (c : Call) : Type 0 where
+  pub opens : (said r c ≡ some true) ↔ Names c 0xFF r
+  pub closes : (said r c ≡ some false) ↔ Names c 0x00 r

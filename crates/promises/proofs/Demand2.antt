@@ -28,7 +28,7 @@ use Rattle.writer.proofs.Writing.{Laid, writes-back, reads-back}
 use Rattle.writer.proofs.write.Reads as write
 use Rattle.desk.specs.declared.Desk.{Desk}
 use Rattle.desk.specs.Settles.{Settles}
-use Rattle.desk.specs.History.{Call, lastSaid, Stands}
+use Rattle.desk.specs.History.{Call, lastSaid, Stands, Says}
 use Rattle.desk.proofs.Settling as settling
 use Rattle.desk.proofs.settle.Reads as settle
 use Rattle.firmware.specs.DeskRecord.{isRecord, deskIn}
@@ -58,6 +58,10 @@ settling-follows κs a r s p o = settling.settling κs a r s p o
 -- a reference is open after any calls as the last word on it says
 pub open-by-last : (r : ℕ) (d : Desk) (cs : List Call) (e : Desk) → settling.Calls d cs e → Stands r (d .places) (lastSaid r cs none) (e .places)
 open-by-last r d cs e h = settling.open-by-last r d cs e h
+
+-- and the word of each call is the state and the reference of the 0DH that counts in its message (`Says`)
+pub says : (r : ℕ) (c : Call) (d : Desk) → settling.Promised d (c .octets) (c .outcome) → Octets (c .octets) → Says r c
+says r c d p o = settling.says r c d p o
 
 -- the exports do the same on their records
 pub anthercup-reading-follows : (κs : _) (a : _) (r : _) (s : _) → anthercup-read.Post κs a r s → Octets (a .0 .now) → length (a .1 .0 .now) ≡ 688 → RecordReads (a .0 .now) (a .1 .0 .now) (a .1 .1 .0 .now) r (s .1 .0 .now) (s .1 .1 .0 .now)
