@@ -1,8 +1,9 @@
 /*
  * Writes what the program `rows` reads and what it must print: the rows of
- * 01's table, whose outcomes stand here by hand, and both sides of every
- * limit, with what the second reader says. Each case is octets behind their
- * length in two octets. Usage: rows CASES LINES
+ * 01's table and those of the other books, whose outcomes stand here by hand,
+ * and both sides of every limit, with what the second reader says. Each case
+ * is octets behind their length in two octets, whose two upper bits are the
+ * book. Usage: rows CASES LINES
  */
 #include <stdio.h>
 #include <string.h>
@@ -103,6 +104,151 @@ static const char *const table[][2] = {
      "kind=call time=06-15 14:30 caller=40912 carried=0 | L size 20, took 20 "
      "| read size 20"},
 };
+
+/* ---- The other books: 1 the present edition with unlisted types refused, 2
+ * the old edition (source 001), 3 the old one with unlisted types refused. The
+ * second reader does not know them: number and place stand here by hand, 0
+ * where a listener waits and SIZE where the octets are a message. ---- */
+
+#define SIZE 255
+
+static const struct {
+    uint8_t book;
+    const char *hex;
+    unsigned number, place;
+} by_book[] = {
+    /* an unlisted type, in any room and ahead of 3; listed ones as ever */
+    {1, "80 03 05", 10, 2},
+    {1, "80 04 05", 10, 2},
+    {1, "80 FF 05", 10, 2},
+    {1, "80 03 00", 10, 2},
+    {1, "80 03 17", 10, 2},
+    {1, "80 03 FF", 10, 2},
+    {1, "82 06 13 01 02 05", 10, 5},
+    {1, "80 04 04", 3, 2},
+    {1, "80 06 0D", 3, 2},
+    {1, "80 05 0D", 0, 0},
+    {1, "80 03 02", 0, 0},
+    {1, "80 16 02 14", 0, 0},
+    {1, "80 17 02 15", 4, 3},
+    {1, "80 03 16 01 01", 0, 0},
+    {1, "82 03 13 01 02 65", SIZE, 0},
+    {1, "82 03 13 01 02 66", 6, 5},
+    /* numbers of 1 to 18 digits */
+    {2, "80 03 02 00", 4, 3},
+    {2, "80 14 02 12", 0, 0},
+    {2, "80 15 02 13", 4, 3},
+    {2, "80 14 12 12", 0, 0},
+    {2, "80 15 12 13", 4, 3},
+    {2, "80 03 02 01 2F", 5, 4},
+    {2, "80 03 02 01 30", 0, 0},
+    {2, "80 03 02 01 39", 0, 0},
+    {2, "80 03 02 01 3A", 5, 4},
+    {2, "80 03 02 01 2A", 5, 4},
+    {2, "80 03 02 01 23", 5, 4},
+    {2, "80 03 02 01 20", 5, 4},
+    {2, "80 03 02 01 2D", 5, 4},
+    {2, "80 03 02 01 28", 5, 4},
+    {2, "80 03 12 01 2A", 5, 4},
+    {2, "80 03 12 01 30", 0, 0},
+    /* names of 1 to 20 characters */
+    {2, "80 16 07 14", 0, 0},
+    {2, "80 17 07 15", 4, 3},
+    {2, "80 03 07 01 1F", 5, 4},
+    {2, "80 03 07 01 20", 0, 0},
+    {2, "80 03 07 01 7E", 0, 0},
+    {2, "80 03 07 01 7F", 5, 4},
+    /* dates, the letters, the lamp */
+    {2, "80 0A 01", 0, 0},
+    {2, "80 0B 01", 3, 2},
+    {2, "80 0A 01 08 31 33", 5, 5},
+    {2, "80 03 04 01 4E", 5, 4},
+    {2, "80 03 04 01 4F", 0, 0},
+    {2, "80 03 04 01 50", 0, 0},
+    {2, "80 03 04 01 51", 5, 4},
+    {2, "82 03 0B 01 00", 0, 0},
+    {2, "82 03 0B 01 01", 5, 4},
+    {2, "82 03 0B 01 FE", 5, 4},
+    {2, "82 03 0B 01 FF 70", SIZE, 0},
+    /* forwarding 00H to 06H */
+    {2, "80 03 15 01 00", 0, 0},
+    {2, "80 03 15 01 06", 0, 0},
+    {2, "80 03 15 01 07", 5, 4},
+    {2, "80 03 15 01 80", 5, 4},
+    {2, "80 03 15 01 FF", 5, 4},
+    /* the sheet's nine values for the calling user, and those between them */
+    {2, "80 03 16 01 00", 0, 0},
+    {2, "80 03 16 01 01", 5, 4},
+    {2, "80 03 16 01 02", 5, 4},
+    {2, "80 03 16 01 03", 0, 0},
+    {2, "80 03 16 01 04", 0, 0},
+    {2, "80 03 16 01 05", 0, 0},
+    {2, "80 03 16 01 06", 5, 4},
+    {2, "80 03 16 01 07", 5, 4},
+    {2, "80 03 16 01 08", 5, 4},
+    {2, "80 03 16 01 09", 5, 4},
+    {2, "80 03 16 01 0A", 0, 0},
+    {2, "80 03 16 01 0B", 0, 0},
+    {2, "80 03 16 01 0C", 0, 0},
+    {2, "80 03 16 01 0D", 0, 0},
+    {2, "80 03 16 01 0E", 5, 4},
+    {2, "80 03 16 01 0F", 0, 0},
+    {2, "80 03 16 01 10", 5, 4},
+    /* all other types are carried: 03H with any octet, 08H of 5 octets */
+    {2, "80 03 03 01 00", 0, 0},
+    {2, "80 07 08 05", 0, 0},
+    {2, "80 03 0D", 0, 0},
+    {2, "80 04 13", 0, 0},
+    {2, "80 FF 0D FD", 0, 0},
+    {2, "80 FF 0D FC", 4, 3},
+    {2, "80 06 02 01 37 04 01 50 EB", SIZE, 0},
+    /* and in the strict way refused */
+    {3, "80 03 05", 10, 2},
+    {3, "80 03 03", 10, 2},
+    {3, "80 04 08", 10, 2},
+    {3, "80 05 0D", 10, 2},
+    {3, "80 03 0E", 10, 2},
+    {3, "80 03 11", 10, 2},
+    {3, "80 03 13", 10, 2},
+    {3, "80 03 14", 10, 2},
+    {3, "82 06 0B 01 FF 13", 10, 5},
+    {3, "80 0A 01", 0, 0},
+    {3, "80 0B 01", 3, 2},
+    {3, "80 03 02", 0, 0},
+    {3, "80 03 04", 0, 0},
+    {3, "80 04 04", 3, 2},
+    {3, "80 03 07", 0, 0},
+    {3, "80 03 0B", 0, 0},
+    {3, "80 03 12", 0, 0},
+    {3, "80 03 15", 0, 0},
+    {3, "80 03 16", 0, 0},
+    {3, "80 14 02 12", 0, 0},
+    {3, "80 15 02 13", 4, 3},
+    {3, "80 03 16 01 01", 5, 4},
+    {3, "80 03 16 01 0F", 0, 0},
+    {3, "80 06 02 01 37 04 01 50 EB", SIZE, 0},
+};
+
+static void book_case(size_t i)
+{
+    uint8_t o[300];
+    size_t n = octets_of(by_book[i].hex, o);
+    unsigned number = by_book[i].number, place = by_book[i].place;
+    uint8_t size[2] = {(uint8_t)(by_book[i].book << 6), (uint8_t)n};
+
+    fwrite(size, 1, 2, cases);
+    fwrite(o, 1, n, cases);
+    for (size_t k = 0; k < n; k++)
+        fprintf(lines, "%02x ", o[k]);
+    fprintf(lines, "| book %u ", by_book[i].book);
+    if (number == 0)
+        fprintf(lines, "| L waits, took %zu | read 8 at %zu\n", n, n);
+    else if (number == SIZE)
+        fprintf(lines, "| L size %zu, took %zu | read size %zu\n", n, n, n);
+    else
+        fprintf(lines, "| L %u at %u, took %u | read %u at %u\n", number, place,
+                place + 1, number, place);
+}
 
 /* ---- Both sides of every limit ---- */
 
@@ -286,6 +432,8 @@ int main(int argc, char **argv)
         return 2;
     for (size_t i = 0; i < sizeof table / sizeof *table; i++)
         hex_case(table[i][0], table[i][1]);
+    for (size_t i = 0; i < sizeof by_book / sizeof *by_book; i++)
+        book_case(i);
     limits();
     whole();
     wrong |= ferror(cases) | ferror(lines);

@@ -2,23 +2,27 @@
 -- Assumes nothing.
 use Prim.Native.Nat.{ℕ, _≤_}
 use mathlib.Core.Path.{_≡_, refl, sym, _∙_, ap, subst}
-use mathlib.Core.Logic.{_↔_}
+use mathlib.Core.Logic.{_⊎_, inl, inr, _↔_}
 use mathlib.Core.List.{List, []}
 use mathlib.Core.Option.{none, some}
 use native.Mathlib.Omega.{arith}
 use lib.ListN.{length, take, drop}
+use lib.Dec.{T}
 use Rattle.rules.specs.Tests.{clash}
 use Rattle.rules.specs.Octets.{Octets}
-use Rattle.rules.specs.Table.{document01}
+use Rattle.rules.specs.Table.{rulesOf}
+use Rattle.rules.specs.declared.Book.{Book}
 use Rattle.rules.specs.Message.{Message, octets, LegalMessage, Accepts}
 use Rattle.rules.specs.Counting.{counted, Counts, counted-iff}
 use Rattle.rules.specs.declared.Fault.{Fault}
+use Rattle.rules.specs.Language.{languageOf}
+use Rattle.rules.specs.Calls.{spoken-of}
 use Rattle.message.specs.declared.Verdict.{Verdict}
 use Rattle.message.specs.declared.Verdict.the-variants.{Accepted, Declined}
 use Rattle.message.specs.declared.Part.{Part}
 use Rattle.message.specs.declared.Part.the-variants.{At, Nowhere}
 use Rattle.message.specs.Verdict.{verdictOf}
-use Rattle.message.specs.Judges.{Judges, judges}
+use Rattle.message.specs.Judges.{Judges, judges-of, told-small, verdictNumber}
 use Rattle.message.specs.Walking.{countedAt, partOf}
 use Rattle.message.specs.Searching.{counted-part}
 use Rattle.caption.specs.declared.Entry.{Entry}
@@ -48,126 +52,127 @@ unfolding partOf
 part-none o (At start n) e = clash cc
 part-none o Nowhere e = refl
 
--- ---- the caption of a message
-module _ (m : Message) (d : List ℕ) where
-  abbrev o : List ℕ
-  o = octets m
+module _ (book : Book) where
+  -- ---- the caption of a message
+  module _ (m : Message) (d : List ℕ) where
+    abbrev o : List ℕ
+    o = octets m
 
-  nowhere : (t : ℕ) → counted document01 m t ≡ none → countedAt o t ≡ Nowhere
-  nowhere t e = part-none o (countedAt o t) (counted-part m t ∙ e)
+    nowhere : (t : ℕ) → counted (rulesOf book) m t ≡ none → countedAt (rulesOf book) o t ≡ Nowhere
+    nowhere t e = part-none o (countedAt (rulesOf book) o t) (counted-part (rulesOf book) m t ∙ e)
 
-  holds : (t : ℕ) (v : List ℕ) (c : Counts document01 m t v) → take (length v) (drop (contentsAt (c .first)) o) ≡ v
-  unfolding partOf
-  holds t v c =
-      let e : some (take (length v) (drop (contentsAt (c .first)) o)) ≡ some v = sym (ap (partOf o) (counted-at m t v c)) ∙ counted-part m t ∙ counted-iff document01 m t v .1 c in
-      cc
+    holds : (t : ℕ) (v : List ℕ) (c : Counts (rulesOf book) m t v) → take (length v) (drop (contentsAt (c .first)) o) ≡ v
+    unfolding partOf
+    holds t v c =
+        let e : some (take (length v) (drop (contentsAt (c .first)) o)) ≡ some v = sym (ap (partOf o) (counted-at (rulesOf book) m t v c)) ∙ counted-part (rulesOf book) m t ∙ counted-iff (rulesOf book) m t v .1 c in
+        cc
 
-  found : Found
-  found = byName (countedAt o 0x07) o d
+    found : Found
+    found = byName (rulesOf book) (countedAt (rulesOf book) o 0x07) o d
 
-  by-name : (v : List ℕ) (c : Counts document01 m 0x07 v) → found ≡ InMessage (contentsAt (c .first)) (length v)
-  unfolding found byName
-  by-name v c = ap (λ (p : Part). byName p o d) (counted-at m 0x07 v c)
+    by-name : (v : List ℕ) (c : Counts (rulesOf book) m 0x07 v) → found ≡ InMessage (contentsAt (c .first)) (length v)
+    unfolding found byName
+    by-name v c = ap (λ (p : Part). byName (rulesOf book) p o d) (counted-at (rulesOf book) m 0x07 v c)
 
-  by-caller : counted document01 m 0x07 ≡ none → (v : List ℕ) (c : Counts document01 m 0x02 v) (e : Entry) → entryOf v d ≡ e → found ≡ byEntry e (contentsAt (c .first)) (length v)
-  unfolding found byName byCaller
-  by-caller n v c e f =
-      ap (λ (p : Part). byName p o d) (nowhere 0x07 n)
-      ∙ ap (λ (p : Part). byCaller p o d) (counted-at m 0x02 v c)
-      ∙ ap (λ (x : Entry). byEntry x (contentsAt (c .first)) (length v)) (ap (λ (w : List ℕ). entryOf w d) (holds 0x02 v c) ∙ f)
+    by-caller : counted (rulesOf book) m 0x07 ≡ none → (v : List ℕ) (c : Counts (rulesOf book) m 0x02 v) (e : Entry) → entryOf v d ≡ e → found ≡ byEntry e (contentsAt (c .first)) (length v)
+    unfolding found byName byCaller
+    by-caller n v c e f =
+        ap (λ (p : Part). byName (rulesOf book) p o d) (nowhere 0x07 n)
+        ∙ ap (λ (p : Part). byCaller p o d) (counted-at (rulesOf book) m 0x02 v c)
+        ∙ ap (λ (x : Entry). byEntry x (contentsAt (c .first)) (length v)) (ap (λ (w : List ℕ). entryOf w d) (holds 0x02 v c) ∙ f)
 
-  empty : counted document01 m 0x07 ≡ none → counted document01 m 0x02 ≡ none → found ≡ InMessage 0 0
-  unfolding found byName byCaller
-  empty n k = ap (λ (p : Part). byName p o d) (nowhere 0x07 n) ∙ ap (λ (p : Part). byCaller p o d) (nowhere 0x02 k)
+    empty : counted (rulesOf book) m 0x07 ≡ none → counted (rulesOf book) m 0x02 ≡ none → found ≡ InMessage 0 0
+    unfolding found byName byCaller
+    empty n k = ap (λ (p : Part). byName (rulesOf book) p o d) (nowhere 0x07 n) ∙ ap (λ (p : Part). byCaller p o d) (nowhere 0x02 k)
 
-  captions : LegalMessage document01 m → Captions m d found
-  unfolding byEntry
-  captions l = record {
-    name = λ v c. subst (λ (r : Found). Shows o d r 0 (contentsAt (c .first)) v) (sym (by-name v c)) (message-shows o d _ v (holds 0x07 v c));
-    entry = λ n v c e. subst (λ (r : Found). Shows o d r 1 (textAt e) (e .text)) (sym (by-caller n v c _ (first-found v d (caller-plain m l v c) e))) (directory-shows o d _ (e .text) (text-stands v d e));
-    caller = λ n v c k. subst (λ (r : Found). Shows o d r 0 (contentsAt (c .first)) v) (sym (by-caller n v c _ (none-found v d k))) (message-shows o d _ v (holds 0x02 v c));
-    nothing = λ n k. subst (λ (r : Found). Shows o d r 0 0 []) (sym (empty n k)) (message-shows o d 0 [] refl);
-  }
+    captions : LegalMessage (rulesOf book) m → Captions (rulesOf book) m d found
+    unfolding byEntry
+    captions l = record {
+      name = λ v c. subst (λ (r : Found). Shows o d r 0 (contentsAt (c .first)) v) (sym (by-name v c)) (message-shows o d _ v (holds 0x07 v c));
+      entry = λ n v c e. subst (λ (r : Found). Shows o d r 1 (textAt e) (e .text)) (sym (by-caller n v c _ (first-found v d (caller-plain book m l v c) e))) (directory-shows o d _ (e .text) (text-stands v d e));
+      caller = λ n v c k. subst (λ (r : Found). Shows o d r 0 (contentsAt (c .first)) v) (sym (by-caller n v c _ (none-found v d k))) (message-shows o d _ v (holds 0x02 v c));
+      nothing = λ n k. subst (λ (r : Found). Shows o d r 0 0 []) (sym (empty n k)) (message-shows o d 0 [] refl);
+    }
 
--- ---- the answer and the verdict
-module _ (o d : List ℕ) where
-  -- a part is no refusal
-  abbrev APart : Found → Type 0
-  APart r = (numberOf r ≡ 0) × ((f : Fault) → r ≡ Refused f → ⊥)
+  -- ---- the answer and the verdict
+  module _ (o d : List ℕ) where
+    -- a part is no refusal
+    abbrev APart : Found → Type 0
+    APart r = (numberOf r ≡ 0) × ((f : Fault) → r ≡ Refused f → ⊥)
 
-  in-message : (start n : ℕ) → APart (InMessage start n)
-  unfolding numberOf
-  in-message start n = (refl, λ f e. clash cc)
+    in-message : (start n : ℕ) → APart (InMessage start n)
+    unfolding numberOf
+    in-message start n = (refl, λ f e. clash cc)
 
-  in-directory : (start n : ℕ) → APart (InDirectory start n)
-  unfolding numberOf
-  in-directory start n = (refl, λ f e. clash cc)
+    in-directory : (start n : ℕ) → APart (InDirectory start n)
+    unfolding numberOf
+    in-directory start n = (refl, λ f e. clash cc)
 
-  by-entry-part : (e : Entry) (start n : ℕ) → APart (byEntry e start n)
-  unfolding byEntry
-  by-entry-part (Text at k) start n = in-directory at k
-  by-entry-part Missing start n = in-message start n
+    by-entry-part : (e : Entry) (start n : ℕ) → APart (byEntry e start n)
+    unfolding byEntry
+    by-entry-part (Text at k) start n = in-directory at k
+    by-entry-part Missing start n = in-message start n
 
-  by-caller-part : (p : Part) → APart (byCaller p o d)
-  unfolding byCaller
-  by-caller-part (At start n) = by-entry-part _ start n
-  by-caller-part Nowhere = in-message 0 0
+    by-caller-part : (p : Part) → APart (byCaller p o d)
+    unfolding byCaller
+    by-caller-part (At start n) = by-entry-part _ start n
+    by-caller-part Nowhere = in-message 0 0
 
-  by-name-part : (p : Part) → APart (byName p o d)
-  unfolding byName
-  by-name-part (At start n) = in-message start n
-  by-name-part Nowhere = by-caller-part (countedAt o 0x02)
+    by-name-part : (p : Part) → APart (byName (rulesOf book) p o d)
+    unfolding byName
+    by-name-part (At start n) = in-message start n
+    by-name-part Nowhere = by-caller-part (countedAt (rulesOf book) o 0x02)
 
-  accepted-is : (v : Verdict) (n : ℕ) → v ≡ Accepted n → findUnder v o d ≡ byName (countedAt o 0x07) o d
-  unfolding findUnder
-  accepted-is v n e = rw e
+    accepted-is : (v : Verdict) (n : ℕ) → v ≡ Accepted n → findUnder (rulesOf book) v o d ≡ byName (rulesOf book) (countedAt (rulesOf book) o 0x07) o d
+    unfolding findUnder
+    accepted-is v n e = rw e
 
-  accepted-of : (v : Verdict) → ((f : Fault) → v ≡ Declined f → 1 ≤ f .number) → numberOf (findUnder v o d) ≡ 0 → (n : ℕ) × (v ≡ Accepted n)
-  unfolding findUnder numberOf
-  accepted-of (Accepted n) h e = (n, refl)
-  accepted-of (Declined f) h e = absurd (omega (arith, h f refl))
+    accepted-of : (v : Verdict) → ((f : Fault) → v ≡ Declined f → 1 ≤ f .number) → numberOf (findUnder (rulesOf book) v o d) ≡ 0 → (n : ℕ) × (v ≡ Accepted n)
+    unfolding findUnder numberOf
+    accepted-of (Accepted n) h e = (n, refl)
+    accepted-of (Declined f) h e = absurd (omega (arith, h f refl))
 
-  refused-of : (v : Verdict) (f : Fault) → (findUnder v o d ≡ Refused f) ↔ (v ≡ Declined f)
-  unfolding findUnder
-  refused-of (Accepted n) f = (λ e. absurd (by-name-part (countedAt o 0x07) .1 f e), λ e. clash cc)
-  refused-of (Declined g) f = (λ e. cc, λ e. cc)
+    refused-of : (v : Verdict) (f : Fault) → (findUnder (rulesOf book) v o d ≡ Refused f) ↔ (v ≡ Declined f)
+    unfolding findUnder
+    refused-of (Accepted n) f = (λ e. absurd (by-name-part (countedAt (rulesOf book) o 0x07) .1 f e), λ e. clash cc)
+    refused-of (Declined g) f = (λ e. cc, λ e. cc)
 
-  numbers-of : (v : Verdict) → ((f : Fault) → v ≡ Declined f → f .number ≤ 8) → numberOf (findUnder v o d) ≤ 8
-  unfolding findUnder numberOf
-  numbers-of (Accepted n) h = omega (arith, by-name-part (countedAt o 0x07) .0)
-  numbers-of (Declined f) h = h f refl
+    numbers-of : (v : Verdict) → ((f : Fault) → v ≡ Declined f → T (verdictNumber (languageOf book) (f .number))) → (numberOf (findUnder (rulesOf book) v o d) ≡ 0) ⊎ T (verdictNumber (languageOf book) (numberOf (findUnder (rulesOf book) v o d)))
+    unfolding findUnder numberOf
+    numbers-of (Accepted n) h = inl (by-name-part (countedAt (rulesOf book) o 0x07) .0)
+    numbers-of (Declined f) h = inr (h f refl)
 
-refused-empty : (r : Found) (f : Fault) → r ≡ Refused f → (sideOf r ≡ 0) × (startOf r ≡ 0) × (lengthOf r ≡ 0)
-unfolding sideOf startOf lengthOf
-refused-empty r f e = (ap sideOf e, ap startOf e, ap lengthOf e)
+  refused-empty : (r : Found) (f : Fault) → r ≡ Refused f → (sideOf r ≡ 0) × (startOf r ≡ 0) × (lengthOf r ≡ 0)
+  unfolding sideOf startOf lengthOf
+  refused-empty r f e = (ap sideOf e, ap startOf e, ap lengthOf e)
 
-module _ (o d : List ℕ) (q : Octets o) where
-  abbrev v : Verdict
-  v = verdictOf document01 o
+  module _ (o d : List ℕ) (q : Octets o) where
+    abbrev v : Verdict
+    v = verdictOf (rulesOf book) o
 
-  abbrev J : Judges o v
-  J = judges o q
+    abbrev J : Judges (languageOf book) o v
+    J = judges-of book o q
 
-  accepted : Accepts document01 o → findOf document01 o d ≡ byName (countedAt o 0x07) o d
-  unfolding findOf
-  accepted a = accepted-is o d v (length o) (J .accepted (length o) .1 (refl, a))
+    accepted : Accepts (rulesOf book) o → findOf (rulesOf book) o d ≡ byName (rulesOf book) (countedAt (rulesOf book) o 0x07) o d
+    unfolding findOf
+    accepted a = accepted-is o d v (length o) (J .accepted (length o) .1 (refl, a))
 
-  captions-of : (m : Message) → LegalMessage document01 m → octets m ≡ o → Captions m d (findOf document01 o d)
-  unfolding found
-  captions-of m l e = subst (Captions m d) (sym (accepted (m, l, e) ∙ ap (λ (x : List ℕ). byName (countedAt x 0x07) x d) (sym e))) (captions m d l)
+    captions-of : (m : Message) → LegalMessage (rulesOf book) m → octets m ≡ o → Captions (rulesOf book) m d (findOf (rulesOf book) o d)
+    unfolding found
+    captions-of m l e = subst (Captions (rulesOf book) m d) (sym (accepted (m, l, e) ∙ ap (λ (x : List ℕ). byName (rulesOf book) (countedAt (rulesOf book) x 0x07) x d) (sym e))) (captions m d l)
 
-  pub finds : Finds o d (findOf document01 o d)
-  unfolding findOf
-  finds = record {
-    done = (
-      λ e. let a = accepted-of o d v (λ f k. J .numbers f k .0) e in J .accepted (a .0) .0 (a .1) .1,
-      λ a. ap numberOf (accepted a) ∙ by-name-part o d (countedAt o 0x07) .0,
-    );
-    verdict = v;
-    judged = J;
-    refused = refused-of o d v;
-    refused-part = refused-empty _;
-    numbers = numbers-of o d v (λ f e. J .numbers f e .1);
-    inside = part-inside o d document01;
-    caption = captions-of;
-  }
+    pub finds : Finds (rulesOf book) o d (findOf (rulesOf book) o d)
+    unfolding findOf
+    finds = record {
+      done = (
+        λ e. let a = accepted-of o d v (λ f k. told-small (spoken-of book) _ (J .numbers f k) .0) e in J .accepted (a .0) .0 (a .1) .1,
+        λ a. ap numberOf (accepted a) ∙ by-name-part o d (countedAt (rulesOf book) o 0x07) .0,
+      );
+      verdict = v;
+      judged = J;
+      refused = refused-of o d v;
+      refused-part = refused-empty _;
+      numbers = numbers-of o d v (J .numbers);
+      inside = part-inside o d (rulesOf book);
+      caption = captions-of;
+    }

@@ -63,19 +63,19 @@ module _ (o d : List ℕ) where
   by-caller-inside (At start n) i = by-entry-inside _ start n (λ at k e. omega (arith, entry-span _ 0 (linesOf d) at k e, lines-span d)) (omega (arith, i start n refl))
   by-caller-inside Nowhere i = omega arith
 
-  by-name-inside : (p : Part) → Within o p → Inside (byName p o d)
+  by-name-inside : (R : Rules) (p : Part) → Within o p → Inside (byName R p o d)
   unfolding byName startOf lengthOf sliceOf
-  by-name-inside (At start n) i = omega (arith, i start n refl)
-  by-name-inside Nowhere i = by-caller-inside (countedAt o 0x02) (counted-inside o 0x02)
+  by-name-inside R (At start n) i = omega (arith, i start n refl)
+  by-name-inside R Nowhere i = by-caller-inside (countedAt R o 0x02) (counted-inside o R 0x02)
 
-  under-inside : (v : Verdict) → Inside (findUnder v o d)
+  under-inside : (R : Rules) (v : Verdict) → Inside (findUnder R v o d)
   unfolding findUnder startOf lengthOf sliceOf
-  under-inside (Accepted n) = by-name-inside (countedAt o 0x07) (counted-inside o 0x07)
-  under-inside (Declined f) = omega arith
+  under-inside R (Accepted n) = by-name-inside R (countedAt R o 0x07) (counted-inside o R 0x07)
+  under-inside R (Declined f) = omega arith
 
   pub part-inside : (R : Rules) → Inside (findOf R o d)
   unfolding findOf
-  part-inside R = under-inside (verdictOf R o)
+  part-inside R = under-inside R (verdictOf R o)
 
 -- ---- the part is cut out of its slice
 module _ (R : Rules) (o d : List ℕ) (r : Found) (f : r ≡ findOf R o d) where

@@ -42,18 +42,18 @@ byCaller (At start n) o d = byEntry (entryOf (take n (drop start o)) d) start n
 byCaller Nowhere o d = InMessage 0 0
 
 -- the name that counts, else by the caller
-unfoldable pub byName : Part → List ℕ → List ℕ → Found
-byName (At start n) o d = InMessage start n
-byName Nowhere o d = byCaller (countedAt o 0x02) o d
+unfoldable pub byName : Rules → Part → List ℕ → List ℕ → Found
+byName R (At start n) o d = InMessage start n
+byName R Nowhere o d = byCaller (countedAt R o 0x02) o d
 
 -- octets that the whole read declines get its number and place
-unfoldable pub findUnder : Verdict → List ℕ → List ℕ → Found
-findUnder (Accepted n) o d = byName (countedAt o 0x07) o d
-findUnder (Declined f) o d = Refused f
+unfoldable pub findUnder : Rules → Verdict → List ℕ → List ℕ → Found
+findUnder R (Accepted n) o d = byName R (countedAt R o 0x07) o d
+findUnder R (Declined f) o d = Refused f
 
 -- what is found for the octets o of a message and the directory d, by the whole read's verdict on o
 unfoldable pub findOf : Rules → List ℕ → List ℕ → Found
-findOf R o d = findUnder (verdictOf R o) o d
+findOf R o d = findUnder R (verdictOf R o) o d
 
 -- ---- this paper's number and place, and the part, for each case: 0 where there is none, and the empty part at the message's start
 unfoldable pub numberOf : Found → ℕ

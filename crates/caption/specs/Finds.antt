@@ -2,17 +2,19 @@
 -- Assumes nothing.
 use Prim.Native.Nat.{ℕ, _+_, _≤_}
 use mathlib.Core.Path.{_≡_}
-use mathlib.Core.Logic.{_↔_}
+use mathlib.Core.Logic.{_⊎_, _↔_}
 use mathlib.Core.List.{List, []}
 use mathlib.Core.Option.{none}
 use lib.ListN.{length}
-use Rattle.rules.specs.Table.{document01}
+use lib.Dec.{T}
+use Rattle.rules.specs.Table.{Rules}
 use Rattle.rules.specs.Message.{Message, octets, LegalMessage, Accepts}
 use Rattle.rules.specs.Counting.{counted, Counts}
 use Rattle.rules.specs.declared.Fault.{Fault}
+use Rattle.rules.specs.Language.{calls}
 use Rattle.message.specs.declared.Verdict.{Verdict}
 use Rattle.message.specs.declared.Verdict.the-variants.{Declined}
-use Rattle.message.specs.Judges.{Judges}
+use Rattle.message.specs.Judges.{Judges, verdictNumber}
 use Rattle.caption.specs.declared.Found.{Found}
 use Rattle.caption.specs.declared.Found.the-variants.{Refused}
 use Rattle.caption.specs.Lines.{linesOf}
@@ -30,27 +32,27 @@ pub record Shows (o d : List ℕ) (r : Found) (which at : ℕ) (v : List ℕ) : 
   pub text : textOf r o d ≡ v
 
 -- of the legal message m and the directory d, the caption is r
-pub record Captions (m : Message) (d : List ℕ) (r : Found) : Type 0 where
+pub record Captions (R : Rules) (m : Message) (d : List ℕ) (r : Found) : Type 0 where
   -- the name that counts
-  pub name : (v : List ℕ) (c : Counts document01 m 0x07 v) → Shows (octets m) d r 0 (contentsAt (c .first)) v
+  pub name : (v : List ℕ) (c : Counts R m 0x07 v) → Shows (octets m) d r 0 (contentsAt (c .first)) v
   -- else, if a caller counts, the text after the = of the first line for it
-  pub entry : counted document01 m 0x07 ≡ none → (v : List ℕ) (c : Counts document01 m 0x02 v) (e : FirstFor v d) → Shows (octets m) d r 1 (textAt e) (e .text)
+  pub entry : counted R m 0x07 ≡ none → (v : List ℕ) (c : Counts R m 0x02 v) (e : FirstFor v d) → Shows (octets m) d r 1 (textAt e) (e .text)
   -- else the caller
-  pub caller : counted document01 m 0x07 ≡ none → (v : List ℕ) (c : Counts document01 m 0x02 v) → NoneFor v (linesOf d) → Shows (octets m) d r 0 (contentsAt (c .first)) v
+  pub caller : counted R m 0x07 ≡ none → (v : List ℕ) (c : Counts R m 0x02 v) → NoneFor v (linesOf d) → Shows (octets m) d r 0 (contentsAt (c .first)) v
   -- else the empty part at the message's start
-  pub nothing : counted document01 m 0x07 ≡ none → counted document01 m 0x02 ≡ none → Shows (octets m) d r 0 0 []
+  pub nothing : counted R m 0x07 ≡ none → counted R m 0x02 ≡ none → Shows (octets m) d r 0 0 []
 
 -- the message's octets o and the directory d went in, and r came back
-pub record Finds (o d : List ℕ) (r : Found) : Type 0 where
+pub record Finds (R : Rules) (o d : List ℕ) (r : Found) : Type 0 where
   -- number 0 exactly when the octets are a message
-  pub done : (numberOf r ≡ 0) ↔ Accepts document01 o
+  pub done : (numberOf r ≡ 0) ↔ Accepts R o
   -- refused exactly as the whole read declines the octets, with its number and place, and with the empty part at the message's start
   pub verdict : Verdict
-  pub judged : Judges o verdict
+  pub judged : Judges (calls R) o verdict
   pub refused : (f : Fault) → (r ≡ Refused f) ↔ (verdict ≡ Declined f)
   pub refused-part : (f : Fault) → r ≡ Refused f → (sideOf r ≡ 0) × (startOf r ≡ 0) × (lengthOf r ≡ 0)
-  -- no number but 1 to 8
-  pub numbers : numberOf r ≤ 8
+  -- no number but 1 to 8, and 10
+  pub numbers : (numberOf r ≡ 0) ⊎ T (verdictNumber (calls R) (numberOf r))
   -- the part lies inside the slice that it names
   pub inside : startOf r + lengthOf r ≤ length (sliceOf r o d)
-  pub caption : (m : Message) → LegalMessage document01 m → octets m ≡ o → Captions m d r
+  pub caption : (m : Message) → LegalMessage R m → octets m ≡ o → Captions R m d r

@@ -6,10 +6,12 @@ use Prim.Native.Nat.{ℕ}
 use Rattle.rules.specs.Tests.{_≤?_, _=?_, _and_, _or_, pick}
 use Rattle.rules.specs.Pairwise.{pairwise}
 use Rattle.rules.specs.Octets.{checksum}
-use Rattle.rules.specs.Contents.{within, inSet, lengths, lengthFits, digit}
-use Rattle.rules.specs.Table.{ascii, document01, rowIn, rowOf, listedIn, listed, classOf, shapeOf, rivalOf, typeFault, shape01}
+use Rattle.rules.specs.Contents.{within, inSet, digit, someLength}
+use Rattle.rules.specs.Table.{ascii, rulesOf, classFault, rowIn, rowOf, listedIn, listed, classOf, rivalOf, typeFault, whole}
+use Rattle.rules.specs.declared.Book.the-variants.{PresentLenient}
 use Rattle.rules.specs.Message.{messageKind}
-use Rattle.rules.specs.ContentJudge.{opens, tensFit, onesFit, pairAt, columnAt, okAt, remember}
+use Rattle.rules.specs.ContentJudge.{opens, tensFit, onesFit, pairAt, columnAt, judgeOf}
+use Rattle.rules.specs.Refusals.{noted}
 use Rattle.rules.specs.Machine.{step, run}
 use Rattle.rules.specs.Judge.{roomFits, rangePossible, somePossible, possible, final, fits, contents, after, fault, machine}
 use Rattle.message.specs.Verdict.{judged, verdictOf}
@@ -34,24 +36,24 @@ callerless = 0x80 ∷ 0x06 ∷ 0x04 ∷ 0x01 ∷ 0x50 ∷ 0x02 ∷ 0x01 ∷ 0x37
 
 pub record Claim : Type 0 where
   -- the first line for the caller; a line that only begins with it, and one with no =, are passed over; further = belong to the text
-  pub first-line : findOf document01 call (ascii "409=A\n40912\n40912=B=C\n40912=D\n") ≡ InDirectory 18 3
+  pub first-line : findOf (rulesOf PresentLenient) call (ascii "409=A\n40912\n40912=B=C\n40912=D\n") ≡ InDirectory 18 3
   -- the last line perhaps without 0AH; an empty text; 0DH is ordinary
-  pub last-line : findOf document01 call (ascii "1=A\n40912=B") ≡ InDirectory 10 1
-  pub empty-text : findOf document01 call (ascii "40912=\n") ≡ InDirectory 6 0
-  pub ordinary : findOf document01 call (ascii "40912=B\r\n") ≡ InDirectory 6 2
+  pub last-line : findOf (rulesOf PresentLenient) call (ascii "1=A\n40912=B") ≡ InDirectory 10 1
+  pub empty-text : findOf (rulesOf PresentLenient) call (ascii "40912=\n") ≡ InDirectory 6 0
+  pub ordinary : findOf (rulesOf PresentLenient) call (ascii "40912=B\r\n") ≡ InDirectory 6 2
   -- no line for it: the caller
-  pub caller : findOf document01 call (ascii "=40912\n409123=A\n0912=B\n\n") ≡ InMessage 14 5
-  pub no-directory : findOf document01 call [] ≡ InMessage 14 5
+  pub caller : findOf (rulesOf PresentLenient) call (ascii "=40912\n409123=A\n0912=B\n\n") ≡ InMessage 14 5
+  pub no-directory : findOf (rulesOf PresentLenient) call [] ≡ InMessage 14 5
   -- the name comes before any line
-  pub name : findOf document01 named (ascii "7=A\n") ≡ InMessage 4 3
+  pub name : findOf (rulesOf PresentLenient) named (ascii "7=A\n") ≡ InMessage 4 3
   -- what does not count is no caption
-  pub nothing : findOf document01 nameless (ascii "A=B\n") ≡ InMessage 0 0
-  pub no-caller : findOf document01 callerless (ascii "7=A\n") ≡ InMessage 0 0
-  pub wrong-kind : findOf document01 (0x81 ∷ []) (ascii "7=A\n") ≡ Refused (record { number = 1; place = 0 })
-  pub too-short : findOf document01 [] [] ≡ Refused (record { number = 8; place = 0 })
+  pub nothing : findOf (rulesOf PresentLenient) nameless (ascii "A=B\n") ≡ InMessage 0 0
+  pub no-caller : findOf (rulesOf PresentLenient) callerless (ascii "7=A\n") ≡ InMessage 0 0
+  pub wrong-kind : findOf (rulesOf PresentLenient) (0x81 ∷ []) (ascii "7=A\n") ≡ Refused (noted 1 0)
+  pub too-short : findOf (rulesOf PresentLenient) [] [] ≡ Refused (noted 8 0)
 
 pub rows : Claim
-unfolding _≤?_ _=?_ _and_ _or_ pick checksum within inSet lengths lengthFits digit ascii rowIn rowOf listedIn listed classOf shapeOf rivalOf typeFault shape01 document01 messageKind opens tensFit onesFit pairAt columnAt okAt remember step run roomFits rangePossible somePossible possible final fits contents after fault machine judged verdictOf parameterAt matched searchFrom countedAt onFirst linesOf indexOf before behind pairwise names entryFrom byEntry byCaller byName findUnder findOf
+unfolding _≤?_ _=?_ _and_ _or_ pick checksum within inSet whole digit ascii rowIn rowOf listedIn listed classOf rivalOf typeFault rulesOf classFault someLength messageKind opens tensFit onesFit pairAt columnAt judgeOf step run roomFits rangePossible somePossible possible final fits contents after fault machine judged verdictOf parameterAt matched searchFrom countedAt onFirst linesOf indexOf before behind pairwise names entryFrom byEntry byCaller byName findUnder findOf
 rows = record {
   first-line = refl;
   last-line = refl;

@@ -2,11 +2,12 @@
 // or number and place; `caption` returns that part itself.
 use message::Part;
 use message::Verdict;
+use rules::Book;
 use rules::Fault;
 ghost use mathlib.Core.Path.{_≡_};
 ghost use Prim.Native.Nat.{_+_, _≤_, _<_};
 ghost use lib.ListN.{length, take, drop};
-ghost use Rattle.rules.specs.Table.{document01};
+ghost use Rattle.rules.specs.Table.{rulesOf};
 ghost use Rattle.message.specs.Walking.{countedAt};
 ghost use Rattle.caption.specs.Lines.{indexOf, names};
 ghost use Rattle.caption.specs.Caption.{entryOf, Cuts, byEntry, byCaller, byName, findOf, captionOf};
@@ -103,10 +104,10 @@ fn by_entry(message: &[u8], directory: &[u8], start: usize, n: u8) -> Found
 }
 
 // Where no name counts: by the caller, else the empty part at the message's start.
-fn by_caller(message: &[u8], directory: &[u8]) -> Found
-    ensures { λ r. ⌜ r ≡ byCaller (countedAt (now (message .entry)) 0x02) (now (message .entry)) (now (directory .entry)) ⌝ }
+fn by_caller(book: Book, message: &[u8], directory: &[u8]) -> Found
+    ensures { λ r. ⌜ r ≡ byCaller (countedAt (rulesOf book) (now (message .entry)) 0x02) (now (message .entry)) (now (directory .entry)) ⌝ }
 {
-    let part = message::counted(message, 0x02);
+    let part = message::counted(book, message, 0x02);
     match part {
         Part::At { start, length } => by_entry(message, directory, start, length),
         Part::Nowhere => Found::InMessage {
@@ -117,35 +118,35 @@ fn by_caller(message: &[u8], directory: &[u8]) -> Found
 }
 
 // In an accepted message: the name, else by the caller.
-fn by_name(message: &[u8], directory: &[u8]) -> Found
-    ensures { λ r. ⌜ r ≡ byName (countedAt (now (message .entry)) 0x07) (now (message .entry)) (now (directory .entry)) ⌝ }
+fn by_name(book: Book, message: &[u8], directory: &[u8]) -> Found
+    ensures { λ r. ⌜ r ≡ byName (rulesOf book) (countedAt (rulesOf book) (now (message .entry)) 0x07) (now (message .entry)) (now (directory .entry)) ⌝ }
 {
-    let part = message::counted(message, 0x07);
+    let part = message::counted(book, message, 0x07);
     match part {
         Part::At { start, length: n } => {
             let length = n as usize;
             Found::InMessage { start, length }
         }
-        Part::Nowhere => by_caller(message, directory),
+        Part::Nowhere => by_caller(book, message, directory),
     }
 }
 
-// Which slice, where and how long; octets that the whole read declines with 1 to 8 get that number.
-pub fn find(message: &[u8], directory: &[u8]) -> Found
-    ensures { λ r. ⌜ r ≡ findOf document01 (now (message .entry)) (now (directory .entry)) ⌝ }
+// Which slice, where and how long; octets that the whole read declines with 1 to 8 or 10 get that number.
+pub fn find(book: Book, message: &[u8], directory: &[u8]) -> Found
+    ensures { λ r. ⌜ r ≡ findOf (rulesOf book) (now (message .entry)) (now (directory .entry)) ⌝ }
 {
-    let verdict = message::judge(message);
+    let verdict = message::judge(book, message);
     match verdict {
-        Verdict::Accepted { size } => by_name(message, directory),
+        Verdict::Accepted { size } => by_name(book, message, directory),
         Verdict::Declined { fault } => Found::Refused(fault),
     }
 }
 
 // The part that `find` finds; the empty part at the message's start with every refusal.
-pub fn caption<'a>(message: &'a [u8], directory: &'a [u8]) -> &'a [u8]
-    ensures { λ r. ⌜ now r ≡ captionOf document01 (now (message .entry)) (now (directory .entry)) ⌝ }
+pub fn caption<'a>(book: Book, message: &'a [u8], directory: &'a [u8]) -> &'a [u8]
+    ensures { λ r. ⌜ now r ≡ captionOf (rulesOf book) (now (message .entry)) (now (directory .entry)) ⌝ }
 {
-    let found = find(message, directory);
+    let found = find(book, message, directory);
     match found {
         Found::InMessage { start, length } => &message[start..start + length],
         Found::InDirectory { start, length } => &directory[start..start + length],

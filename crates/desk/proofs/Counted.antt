@@ -1,5 +1,5 @@
--- Contents that count in an accepted message are never empty, so that they begin with the octet at their start; those of 13H are one octet, those of
--- 0BH one of two.
+-- Contents that count in an accepted message are never empty, so that they begin with the octet at their start; in each book those of 13H are one octet,
+-- those of 0BH one of two.
 -- Assumes nothing.
 use Prim.Native.Nat.{ℕ, _+_, _-_, _*_, _≤_, _<_}
 use mathlib.Core.Path.{_≡_, refl, sym, _∙_, ap, subst}
@@ -15,9 +15,11 @@ use lib.Dec.{T}
 use Rattle.rules.specs.Tests.{clash, _≤?_, _=?_, _and_, _or_, pick, pick-case, both, either, le-of}
 use Rattle.rules.specs.Laying.{part-is}
 use Rattle.rules.specs.Octets.{Octets, octets-take, octets-drop, octet-at}
-use Rattle.rules.specs.Contents.{Range, Shape, columns, within, inSet, columnsFit, contentsFit}
-use Rattle.rules.specs.Table.{document01, shapeOf, classOf, rowOf, rowIn, shape01, anyOctet, lampSet, identitySet}
-use Rattle.rules.specs.ContentLaw.{document01-sound, fit-length, some-length}
+use Rattle.rules.specs.Contents.{Range, Whole, columns, within, inSet, columnsFit}
+use Rattle.rules.specs.Table.{Rules, rulesOf, listedIn, listed, classOf, rowOf, rowIn, anyOctet, lampSet, identitySet, contentsFit, whole}
+use Rattle.rules.specs.ContentLaw.{lawful}
+use Rattle.rules.specs.declared.Book.{Book}
+use Rattle.rules.specs.declared.Book.the-variants.{PresentStrict, PresentLenient, OldStrict, OldLenient}
 use Rattle.rules.specs.Message as message
 use Rattle.rules.specs.Message.{LegalMessage, Accepts}
 use Rattle.rules.specs.Counting.{counted, counted-iff, legal-counts}
@@ -31,18 +33,20 @@ use Rattle.desk.proofs.Changes.{Ranged}
 use Rattle.desk.specs.Settle.{countedIn, changeIn, changeOf}
 
 -- what counts is the contents of a legal parameter of its type
-legal-counted : (m : message.Message) → LegalMessage document01 m → (t : ℕ) (v : List ℕ) → counted document01 m t ≡ some v → T (contentsFit (shapeOf document01 t) v)
-legal-counted m l t v e = legal-counts document01 m l t v (counted-iff document01 m t v .0 e)
+legal-counted : (R : Rules) (m : message.Message) → LegalMessage R m → (t : ℕ) (v : List ℕ) → counted R m t ≡ some v → T (contentsFit (classOf R t) v)
+legal-counted R m l t v e = legal-counts R m l t v (counted-iff R m t v .0 e)
+
+legal-listed : (R : Rules) (m : message.Message) (t : ℕ) (v : List ℕ) → counted R m t ≡ some v → T (listed R t)
+legal-listed R m t v e = counted-iff R m t v .0 e .listed
 
 -- ---- contents that count in an accepted message hold at least one octet
-module _ (o : List ℕ) (a : Accepts document01 o) (t start n : ℕ) (e : countedAt o t ≡ At start n) where
-  holds : counted document01 (a .0) t ≡ some (take n (drop start o))
+module _ (R : Rules) (o : List ℕ) (a : Accepts R o) (t start n : ℕ) (e : countedAt R o t ≡ At start n) where
+  holds : counted R (a .0) t ≡ some (take n (drop start o))
   unfolding partOf
-  holds = sym (counted-part (a .0) t) ∙ ap (λ (x : List ℕ). partOf x (countedAt x t)) (a .2) ∙ ap (partOf o) e
+  holds = sym (counted-part R (a .0) t) ∙ ap (λ (x : List ℕ). partOf x (countedAt R x t)) (a .2) ∙ ap (partOf o) e
 
   some-octets : 1 ≤ length (take n (drop start o))
-  unfolding shapeOf
-  some-octets = some-length _ (document01-sound .classes _) _ (fit-length _ _ (legal-counted (a .0) (a .1) t _ holds))
+  some-octets = lawful (classOf R t) .least _ (lawful (classOf R t) .fit-length _ (legal-counted R (a .0) (a .1) t _ holds))
 
   pub start-inside : start < length o
   start-inside = omega (arith, some-octets, length-take n (drop start o), length-drop start o)
@@ -51,45 +55,54 @@ module _ (o : List ℕ) (a : Accepts document01 o) (t start n : ℕ) (e : counte
   first-octet = getD-take n (drop start o) 0 0 (omega (arith, some-octets, length-take n (drop start o))) ∙ getD-drop start o 0 0 ∙ ap (λ (k : ℕ). getD o k 0) (add-zero start)
 
 -- ---- what is found is what counts
-module _ (o : List ℕ) (t : ℕ) (p : Part) (f : p ≡ countedAt o t) where
-  pub counts-none : p ≡ Nowhere → countedIn o t ≡ none
+module _ (R : Rules) (o : List ℕ) (t : ℕ) (p : Part) (f : p ≡ countedAt R o t) where
+  pub counts-none : p ≡ Nowhere → countedIn R o t ≡ none
   unfolding countedIn partOf
   counts-none e = ap (partOf o) (sym f ∙ e)
 
-  pub counts-some : (start n : ℕ) → p ≡ At start n → countedIn o t ≡ some (take n (drop start o))
+  pub counts-some : (start n : ℕ) → p ≡ At start n → countedIn R o t ≡ some (take n (drop start o))
   unfolding countedIn partOf
   counts-some start n e = ap (partOf o) (sym f ∙ e)
 
   -- as the octets from a place up to a place
-  pub counts-slice : (start n : ℕ) → p ≡ At start n → countedIn o t ≡ some (take (start + n - start) (drop start o))
+  pub counts-slice : (start n : ℕ) → p ≡ At start n → countedIn R o t ≡ some (take (start + n - start) (drop start o))
   counts-slice start n e = counts-some start n e ∙ ap some (sym (part-is o start n))
 
 -- ---- in a legal message 13H that counts is one octet, and 0BH is 00H or FFH
-one-octet : (s : List Range) (v : List ℕ) → T (contentsFit (columns (s ∷ [])) v) → (k : ℕ) × (v ≡ k ∷ []) × T (inSet s k)
-unfolding contentsFit columnsFit
+one-octet : (s : List Range) (v : List ℕ) → T (columnsFit (s ∷ []) v) → (k : ℕ) × (v ≡ k ∷ []) × T (inSet s k)
+unfolding columnsFit
 one-octet s [] t = absurd t
 one-octet s (k ∷ []) t = (k, refl, both _ _ t .0)
 one-octet s (k ∷ j ∷ v) t = absurd (both _ _ t .1)
 
-three-octets : (s t u : List Range) (v : List ℕ) → T (contentsFit (columns (s ∷ t ∷ u ∷ [])) v) → (a b c : ℕ) × (v ≡ a ∷ b ∷ c ∷ []) × T (inSet s a)
-unfolding contentsFit columnsFit
+three-octets : (s t u : List Range) (v : List ℕ) → T (columnsFit (s ∷ t ∷ u ∷ []) v) → (a b c : ℕ) × (v ≡ a ∷ b ∷ c ∷ []) × T (inSet s a)
+unfolding columnsFit
 three-octets s t u [] x = absurd x
 three-octets s t u (a ∷ []) x = absurd (both _ _ x .1)
 three-octets s t u (a ∷ b ∷ []) x = absurd (both _ _ (both _ _ x .1) .1)
 three-octets s t u (a ∷ b ∷ c ∷ []) x = (a, b, c, refl, both _ _ x .0)
 three-octets s t u (a ∷ b ∷ c ∷ e ∷ v) x = absurd (both _ _ (both _ _ (both _ _ x .1) .1) .1)
 
-waiting-shape : shapeOf document01 0x13 ≡ columns (anyOctet ∷ [])
-unfolding shapeOf classOf rowOf rowIn document01 shape01 pick _=?_
-waiting-shape = refl
+waiting-class : (b : Book) → T (listed (rulesOf b) 0x13) → whole (classOf (rulesOf b) 0x13) ≡ columns (anyOctet ∷ [])
+unfolding listed listedIn classOf rowOf rowIn rulesOf whole pick _or_ _=?_
+waiting-class PresentStrict t = refl
+waiting-class PresentLenient t = refl
+waiting-class OldStrict t = absurd t
+waiting-class OldLenient t = absurd t
 
-lamp-shape : shapeOf document01 0x0B ≡ columns (lampSet ∷ [])
-unfolding shapeOf classOf rowOf rowIn document01 shape01 pick _=?_
-lamp-shape = refl
+lamp-class : (b : Book) → T (listed (rulesOf b) 0x0B) → whole (classOf (rulesOf b) 0x0B) ≡ columns (lampSet ∷ [])
+unfolding listed listedIn classOf rowOf rowIn rulesOf whole pick _or_ _=?_
+lamp-class PresentStrict t = refl
+lamp-class PresentLenient t = refl
+lamp-class OldStrict t = refl
+lamp-class OldLenient t = refl
 
-identity-shape : shapeOf document01 0x0D ≡ columns (identitySet ∷ anyOctet ∷ anyOctet ∷ [])
-unfolding shapeOf classOf rowOf rowIn document01 shape01 pick _=?_
-identity-shape = refl
+identity-class : (b : Book) → T (listed (rulesOf b) 0x0D) → whole (classOf (rulesOf b) 0x0D) ≡ columns (identitySet ∷ anyOctet ∷ anyOctet ∷ [])
+unfolding listed listedIn classOf rowOf rowIn rulesOf whole pick _or_ _=?_
+identity-class PresentStrict t = refl
+identity-class PresentLenient t = refl
+identity-class OldStrict t = absurd t
+identity-class OldLenient t = absurd t
 
 one-of : (a k : ℕ) (b : Bool) → T ((a ≤? k and k ≤? a) or b) → (k ≡ a) ⊎ T b
 one-of a k b t = go (either _ _ t)
@@ -126,21 +139,21 @@ in-lamp k t = first (one-of 0x00 k _ t)
     first (inl e) = inl e
     first (inr x) = inr (second (one-of 0xFF k _ x))
 
-module _ (m : message.Message) (l : LegalMessage document01 m) (v : List ℕ) where
-  pub waiting-octet : counted document01 m 0x13 ≡ some v → (k : ℕ) × (v ≡ k ∷ [])
-  waiting-octet e = let d = one-octet anyOctet v (subst (λ (s : Shape). T (contentsFit s v)) waiting-shape (legal-counted m l 0x13 v e)) in (d .0, d .1)
+module _ (b : Book) (m : message.Message) (l : LegalMessage (rulesOf b) m) (v : List ℕ) where
+  pub waiting-octet : counted (rulesOf b) m 0x13 ≡ some v → (k : ℕ) × (v ≡ k ∷ [])
+  waiting-octet e = let d = one-octet anyOctet v (subst (λ (w : Whole). T (w .fits v)) (waiting-class b (legal-listed (rulesOf b) m 0x13 v e)) (legal-counted (rulesOf b) m l 0x13 v e)) in (d .0, d .1)
 
-  pub lamp-octet : counted document01 m 0x0B ≡ some v → (v ≡ 0x00 ∷ []) ⊎ (v ≡ 0xFF ∷ [])
-  lamp-octet e = let d = one-octet lampSet v (subst (λ (s : Shape). T (contentsFit s v)) lamp-shape (legal-counted m l 0x0B v e)) in go (d .0) (d .1) (in-lamp (d .0) (d .2))
+  pub lamp-octet : counted (rulesOf b) m 0x0B ≡ some v → (v ≡ 0x00 ∷ []) ⊎ (v ≡ 0xFF ∷ [])
+  lamp-octet e = let d = one-octet lampSet v (subst (λ (w : Whole). T (w .fits v)) (lamp-class b (legal-listed (rulesOf b) m 0x0B v e)) (legal-counted (rulesOf b) m l 0x0B v e)) in go (d .0) (d .1) (in-lamp (d .0) (d .2))
     where
       go : (k : ℕ) → v ≡ k ∷ [] → (k ≡ 0x00) ⊎ (k ≡ 0xFF) → (v ≡ 0x00 ∷ []) ⊎ (v ≡ 0xFF ∷ [])
       go k d (inl x) = inl (d ∙ ap (λ (z : ℕ). z ∷ []) x)
       go k d (inr x) = inr (d ∙ ap (λ (z : ℕ). z ∷ []) x)
 
   -- 0DH that counts is a state and a reference
-  pub identity-octets : counted document01 m 0x0D ≡ some v → (h l : ℕ) × ((v ≡ 0x00 ∷ h ∷ l ∷ []) ⊎ ((v ≡ 0x55 ∷ h ∷ l ∷ []) ⊎ (v ≡ 0xFF ∷ h ∷ l ∷ [])))
+  pub identity-octets : counted (rulesOf b) m 0x0D ≡ some v → (h l : ℕ) × ((v ≡ 0x00 ∷ h ∷ l ∷ []) ⊎ ((v ≡ 0x55 ∷ h ∷ l ∷ []) ⊎ (v ≡ 0xFF ∷ h ∷ l ∷ [])))
   identity-octets e =
-      let d = three-octets identitySet anyOctet anyOctet v (subst (λ (s : Shape). T (contentsFit s v)) identity-shape (legal-counted m l 0x0D v e)) in
+      let d = three-octets identitySet anyOctet anyOctet v (subst (λ (w : Whole). T (w .fits v)) (identity-class b (legal-listed (rulesOf b) m 0x0D v e)) (legal-counted (rulesOf b) m l 0x0D v e)) in
       (d .1, d .2, state (d .0) (d .1) (d .2) (d .3) (in-identity (d .0) (d .4)))
     where
       state : (k h l : ℕ) → v ≡ k ∷ h ∷ l ∷ [] → (k ≡ 0x00) ⊎ ((k ≡ 0x55) ⊎ (k ≡ 0xFF)) → (v ≡ 0x00 ∷ h ∷ l ∷ []) ⊎ ((v ≡ 0x55 ∷ h ∷ l ∷ []) ⊎ (v ≡ 0xFF ∷ h ∷ l ∷ []))
@@ -149,9 +162,9 @@ module _ (m : message.Message) (l : LegalMessage document01 m) (v : List ℕ) wh
       state k h l d (inr (inr x)) = inr (inr (d ∙ ap (λ (z : ℕ). z ∷ h ∷ l ∷ []) x))
 
 -- ---- a reference of two octets
-octets-counted : (o : List ℕ) → Octets o → (t : ℕ) (v : List ℕ) → countedIn o t ≡ some v → Octets v
+octets-counted : (R : Rules) (o : List ℕ) → Octets o → (t : ℕ) (v : List ℕ) → countedIn R o t ≡ some v → Octets v
 unfolding countedIn partOf
-octets-counted o q t v e = go (countedAt o t) e
+octets-counted R o q t v e = go (countedAt R o t) e
   where
     go : (p : Part) → partOf o p ≡ some v → Octets v
     go (At s n) e = let z : take n (drop s o) ≡ v = cc in subst Octets z (octets-take n (drop s o) (octets-drop s o q))
@@ -182,10 +195,10 @@ small a b c h l = pick-case Ranged (a =? 0xFF) _ _ (λ _. adds) (λ _. pick-case
     nothing : Ranged Nothing
     nothing = none-range
 
-pub small-change : (o : List ℕ) → Octets o → (t : ℕ) → Ranged (changeOf (countedIn o t))
+pub small-change : (R : Rules) (o : List ℕ) → Octets o → (t : ℕ) → Ranged (changeOf (countedIn R o t))
 unfolding changeOf changeIn
-small-change o q t = go (countedIn o t) refl
+small-change R o q t = go (countedIn R o t) refl
   where
-    go : (c : Option (List ℕ)) → countedIn o t ≡ c → Ranged (changeOf c)
+    go : (c : Option (List ℕ)) → countedIn R o t ≡ c → Ranged (changeOf c)
     go none e = none-range
-    go (some v) e = let w = octets-counted o q t v e in small (getD v 0 0) (getD v 1 0) (getD v 2 0) (octet-at v w 1) (octet-at v w 2)
+    go (some v) e = let w = octets-counted R o q t v e in small (getD v 0 0) (getD v 1 0) (getD v 2 0) (octet-at v w 1) (octet-at v w 2)

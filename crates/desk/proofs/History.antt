@@ -9,7 +9,8 @@ use mathlib.Core.Option.{Option, none, some}
 use lib.ListN.{getD}
 use lib.Dec.{T}
 use Rattle.rules.specs.Tests.{_=?_, pick, pick-yes, pick-not, decide, of-eq, eq-of}
-use Rattle.rules.specs.Table.{document01}
+use Rattle.rules.specs.Table.{rulesOf}
+use Rattle.rules.specs.declared.Book.{Book}
 use Rattle.message.specs.declared.Verdict.{Verdict}
 use Rattle.message.specs.declared.Verdict.the-variants.{Accepted, Declined}
 use Rattle.message.specs.Verdict.{verdictOf}
@@ -47,39 +48,40 @@ stands-changed r (Removes s) ps w n = go (s =? r) (λ t. eq-of s r t) (λ m e. m
         let m : r ≡ s → ⊥ = λ e. g (λ t. t) (sym e) in
         (λ o. (o .0, others-removed s ps w r (o .0) m .0 (o .1)), λ o. (o .0, others-removed s ps w r (o .0) m .1 (o .1)))
 
--- ---- one call
-module _ (r : ℕ) (d : Desk) where
-  abbrev Says : List ℕ → Outcome → Type 0
-  Says o x = Stands r (d .places) (saidUnder r o (x .answer)) (x .desk .places)
+module _ (book : Book) where
+  -- ---- one call
+  module _ (r : ℕ) (d : Desk) where
+    abbrev Says : List ℕ → Outcome → Type 0
+    Says o x = Stands r (d .places) (saidUnder (rulesOf book) r o (x .answer)) (x .desk .places)
 
-  same : Open r (d .places) ↔ Open r (d .places)
-  same = (λ o. o, λ o. o)
+    same : Open r (d .places) ↔ Open r (d .places)
+    same = (λ o. o, λ o. o)
 
-  says-message : (o : List ℕ) (x : Outcome) → Fit (d .places) → Ways d o x → Says o x
-  unfolding saidUnder noticed
-  says-message o x w (inl g) = subst (Says o) (sym (g .is)) same
-  says-message o x w (inr (inl g)) =
-      subst (Says o) (sym (g .is))
-      (subst (λ (b : Option Bool). Stands r (d .places) b (placesAfter (changeOf (countedIn o 0x0D)) (d .places)))
-      (sym (pick-yes (getD o 0 0 =? 0x82) (saidBy r (changeOf (countedIn o 0x0D))) none (of-eq _ _ (g .notice))))
-      (stands-changed r (changeOf (countedIn o 0x0D)) (d .places) w (g .room)))
-  says-message o x w (inr (inr g)) =
-      subst (Says o) (sym (g .is))
-      (subst (λ (b : Option Bool). Stands r (d .places) b (d .places))
-      (sym (pick-not (getD o 0 0 =? 0x82) (saidBy r (changeOf (countedIn o 0x0D))) none (λ t. g .call (eq-of _ _ t)))) same)
+    says-message : (o : List ℕ) (x : Outcome) → Fit (d .places) → Ways book d o x → Says o x
+    unfolding saidUnder noticed
+    says-message o x w (inl g) = subst (Says o) (sym (g .is)) same
+    says-message o x w (inr (inl g)) =
+        subst (Says o) (sym (g .is))
+        (subst (λ (b : Option Bool). Stands r (d .places) b (placesAfter (changeOf (countedIn (rulesOf book) o 0x0D)) (d .places)))
+        (sym (pick-yes (getD o 0 0 =? 0x82) (saidBy r (changeOf (countedIn (rulesOf book) o 0x0D))) none (of-eq _ _ (g .notice))))
+        (stands-changed r (changeOf (countedIn (rulesOf book) o 0x0D)) (d .places) w (g .room)))
+    says-message o x w (inr (inr g)) =
+        subst (Says o) (sym (g .is))
+        (subst (λ (b : Option Bool). Stands r (d .places) b (d .places))
+        (sym (pick-not (getD o 0 0 =? 0x82) (saidBy r (changeOf (countedIn (rulesOf book) o 0x0D))) none (λ t. g .call (eq-of _ _ t)))) same)
 
-  says-under : (v : Verdict) (o : List ℕ) → Fit (d .places) → Says o (settledUnder v o d)
-  unfolding settledUnder saidUnder
-  says-under (Accepted n) o w = says-message o (settledMessage o d) w (ways d o)
-  says-under (Declined f) o w = same
+    says-under : (v : Verdict) (o : List ℕ) → Fit (d .places) → Says o (settledUnder (rulesOf book) v o d)
+    unfolding settledUnder saidUnder
+    says-under (Accepted n) o w = says-message o (settledMessage (rulesOf book) o d) w (ways book d o)
+    says-under (Declined f) o w = same
 
-  says : (o : List ℕ) → Says o (settleOf document01 d o)
-  unfolding settleOf refusedWith saidUnder
-  says o = go (decide (placesFit (d .places)))
-    where
-      go : T (placesFit (d .places)) ⊎ (T (placesFit (d .places)) → ⊥) → Says o (settleOf document01 d o)
-      go (inl t) = subst (Says o) (sym (pick-yes (placesFit (d .places)) _ _ t)) (says-under (verdictOf document01 o) o (fit-of (d .places) t))
-      go (inr n) = subst (Says o) (sym (pick-not (placesFit (d .places)) _ _ n)) same
+    says : (o : List ℕ) → Says o (settleOf (rulesOf book) d o)
+    unfolding settleOf refusedWith saidUnder
+    says o = go (decide (placesFit (d .places)))
+      where
+        go : T (placesFit (d .places)) ⊎ (T (placesFit (d .places)) → ⊥) → Says o (settleOf (rulesOf book) d o)
+        go (inl t) = subst (Says o) (sym (pick-yes (placesFit (d .places)) _ _ t)) (says-under (verdictOf (rulesOf book) o) o (fit-of (d .places) t))
+        go (inr n) = subst (Says o) (sym (pick-not (placesFit (d .places)) _ _ n)) same
 
 -- ---- call after call
 stands-later : (r : ℕ) (ps qs rs : List ℕ) (a b : Option Bool) → Stands r ps b qs → Stands r qs a rs → Stands r ps (later a b) rs
@@ -95,7 +97,7 @@ unfolding lastSaid said
 goes-on r ps d [] e b x h = subst (λ (y : Desk). Stands r ps b (y .places)) h x
 goes-on r ps d (c ∷ cs) e b x h =
     goes-on r ps (c .outcome .desk) cs e _
-    (stands-later r ps (d .places) (c .outcome .desk .places) (said r c) b x (subst (λ (y : Outcome). Stands r (d .places) (saidUnder r (c .octets) (y .answer)) (y .desk .places)) (sym (h .0)) (says r d (c .octets))))
+    (stands-later r ps (d .places) (c .outcome .desk .places) (said r c) b x (subst (λ (y : Outcome). Stands r (d .places) (saidUnder (rulesOf (c .book)) r (c .octets) (y .answer)) (y .desk .places)) (sym (h .0)) (says (c .book) r d (c .octets))))
     (h .1)
 
 -- from whatever desk: open, closed or as it was, by the last word of all calls

@@ -10,7 +10,8 @@ use native.Mathlib.Omega.{arith}
 use lib.ListN.{getD}
 use lib.Dec.{T}
 use Rattle.rules.specs.Tests.{_=?_, pick, pick-yes, pick-not, of-eq, eq-of}
-use Rattle.rules.specs.Table.{document01}
+use Rattle.rules.specs.Table.{Rules, rulesOf}
+use Rattle.rules.specs.declared.Book.{Book}
 use Rattle.rules.specs.Message as message
 use Rattle.rules.specs.Message.{octets, LegalMessage}
 use Rattle.rules.specs.Counting.{counted}
@@ -30,9 +31,9 @@ pub kind-of : (m : message.Message) → getD (octets m) 0 0 ≡ m .kind
 unfolding octets
 kind-of m = refl
 
-pub counts : (m : message.Message) (o : List ℕ) → octets m ≡ o → (t : ℕ) (c : Option (List ℕ)) → counted document01 m t ≡ c → countedIn o t ≡ c
+pub counts : (R : Rules) (m : message.Message) (o : List ℕ) → octets m ≡ o → (t : ℕ) (c : Option (List ℕ)) → counted R m t ≡ c → countedIn R o t ≡ c
 unfolding countedIn
-counts m o e t c x = ap (λ (v : List ℕ). countedIn v t) (sym e) ∙ counted-part m t ∙ x
+counts R m o e t c x = ap (λ (v : List ℕ). countedIn R v t) (sym e) ∙ counted-part R m t ∙ x
 
 pub adds-is : (h l : ℕ) → changeOf (some (0xFF ∷ h ∷ l ∷ [])) ≡ Adds (256 * h + l)
 unfolding changeOf changeBy changeIn pick _=?_
@@ -59,31 +60,31 @@ removed-full : (r : ℕ) (ps : List ℕ) → T (isFull (Removes r) ps) → ⊥
 unfolding isFull
 removed-full r ps t = t
 
-module _ (o : List ℕ) (d : Desk) where
+module _ (book : Book) (o : List ℕ) (d : Desk) where
   abbrev full : Bool
-  full = isFull (changeOf (countedIn o 0x0D)) (d .places)
+  full = isFull (changeOf (countedIn (rulesOf book) o 0x0D)) (d .places)
 
-  module _ (m : message.Message) (l : LegalMessage document01 m) (e : octets m ≡ o) where
+  module _ (m : message.Message) (l : LegalMessage (rulesOf book) m) (e : octets m ≡ o) where
     module _ (n : T full → ⊥) (w : Fit (d .places)) where
-      waiting-is : (c : Option (List ℕ)) → counted document01 m 0x13 ≡ c → noticed (countedIn o) d .waiting ≡ waitingAfter c (d .waiting)
+      waiting-is : (c : Option (List ℕ)) → counted (rulesOf book) m 0x13 ≡ c → noticed (countedIn (rulesOf book) o) d .waiting ≡ waitingAfter c (d .waiting)
       unfolding noticed
-      waiting-is c x = ap (λ (y : Option (List ℕ)). waitingAfter y (d .waiting)) (counts m o e 0x13 c x)
+      waiting-is c x = ap (λ (y : Option (List ℕ)). waitingAfter y (d .waiting)) (counts (rulesOf book) m o e 0x13 c x)
 
-      lamp-is : (c : Option (List ℕ)) → counted document01 m 0x0B ≡ c → noticed (countedIn o) d .lamp ≡ lampAfter c (d .lamp)
+      lamp-is : (c : Option (List ℕ)) → counted (rulesOf book) m 0x0B ≡ c → noticed (countedIn (rulesOf book) o) d .lamp ≡ lampAfter c (d .lamp)
       unfolding noticed
-      lamp-is c x = ap (λ (y : Option (List ℕ)). lampAfter y (d .lamp)) (counts m o e 0x0B c x)
+      lamp-is c x = ap (λ (y : Option (List ℕ)). lampAfter y (d .lamp)) (counts (rulesOf book) m o e 0x0B c x)
 
-      change-of : (c : Option (List ℕ)) (k : Change) → counted document01 m 0x0D ≡ c → changeOf c ≡ k → changeOf (countedIn o 0x0D) ≡ k
-      change-of c k x y = ap changeOf (counts m o e 0x0D c x) ∙ y
+      change-of : (c : Option (List ℕ)) (k : Change) → counted (rulesOf book) m 0x0D ≡ c → changeOf c ≡ k → changeOf (countedIn (rulesOf book) o 0x0D) ≡ k
+      change-of c k x y = ap changeOf (counts (rulesOf book) m o e 0x0D c x) ∙ y
 
-      places-are : (c : Option (List ℕ)) (k : Change) → counted document01 m 0x0D ≡ c → changeOf c ≡ k → noticed (countedIn o) d .places ≡ placesAfter k (d .places)
+      places-are : (c : Option (List ℕ)) (k : Change) → counted (rulesOf book) m 0x0D ≡ c → changeOf c ≡ k → noticed (countedIn (rulesOf book) o) d .places ≡ placesAfter k (d .places)
       unfolding noticed
       places-are c k x y = ap (λ (z : Change). placesAfter z (d .places)) (change-of c k x y)
 
-      room : (c : Option (List ℕ)) (k : Change) → counted document01 m 0x0D ≡ c → changeOf c ≡ k → T (isFull k (d .places)) → ⊥
+      room : (c : Option (List ℕ)) (k : Change) → counted (rulesOf book) m 0x0D ≡ c → changeOf c ≡ k → T (isFull k (d .places)) → ⊥
       room c k x y t = n (subst (λ (z : Change). T (isFull z (d .places))) (sym (change-of c k x y)) t)
 
-      pub notices : Notices m d (noticed (countedIn o) d)
+      pub notices : Notices (rulesOf book) m d (noticed (countedIn (rulesOf book) o) d)
       unfolding waitingAfter lampAfter placesAfter
       notices = record {
         number = λ k x. waiting-is _ x;
@@ -98,16 +99,16 @@ module _ (o : List ℕ) (d : Desk) where
       }
 
     -- 21 by the octets, and by the written rules
-    pub fills-of : m .kind ≡ 0x82 → T full → Fills (d .places) o
-    fills-of k t = go (counted document01 m 0x0D) refl
+    pub fills-of : m .kind ≡ 0x82 → T full → Fills (rulesOf book) (d .places) o
+    fills-of k t = go (counted (rulesOf book) m 0x0D) refl
       where
-        empty : (c : Option (List ℕ)) → counted document01 m 0x0D ≡ c → changeOf c ≡ Nothing → ⊥
-        empty c x y = nothing-full (d .places) (subst (λ (z : Change). T (isFull z (d .places))) (ap changeOf (counts m o e 0x0D c x) ∙ y) t)
+        empty : (c : Option (List ℕ)) → counted (rulesOf book) m 0x0D ≡ c → changeOf c ≡ Nothing → ⊥
+        empty c x y = nothing-full (d .places) (subst (λ (z : Change). T (isFull z (d .places))) (ap changeOf (counts (rulesOf book) m o e 0x0D c x) ∙ y) t)
 
-        out : (c : Option (List ℕ)) (r : ℕ) → counted document01 m 0x0D ≡ c → changeOf c ≡ Removes r → ⊥
-        out c r x y = removed-full r (d .places) (subst (λ (z : Change). T (isFull z (d .places))) (ap changeOf (counts m o e 0x0D c x) ∙ y) t)
+        out : (c : Option (List ℕ)) (r : ℕ) → counted (rulesOf book) m 0x0D ≡ c → changeOf c ≡ Removes r → ⊥
+        out c r x y = removed-full r (d .places) (subst (λ (z : Change). T (isFull z (d .places))) (ap changeOf (counts (rulesOf book) m o e 0x0D c x) ∙ y) t)
 
-        three : (v : List ℕ) → counted document01 m 0x0D ≡ some v → (h b : ℕ) → (v ≡ 0x00 ∷ h ∷ b ∷ []) ⊎ ((v ≡ 0x55 ∷ h ∷ b ∷ []) ⊎ (v ≡ 0xFF ∷ h ∷ b ∷ [])) → Fills (d .places) o
+        three : (v : List ℕ) → counted (rulesOf book) m 0x0D ≡ some v → (h b : ℕ) → (v ≡ 0x00 ∷ h ∷ b ∷ []) ⊎ ((v ≡ 0x55 ∷ h ∷ b ∷ []) ⊎ (v ≡ 0xFF ∷ h ∷ b ∷ [])) → Fills (rulesOf book) (d .places) o
         three v x h b (inl z) = absurd (out _ _ x (ap (λ (y : List ℕ). changeOf (some y)) z ∙ removes-is h b))
         three v x h b (inr (inl z)) = absurd (empty _ x (ap (λ (y : List ℕ). changeOf (some y)) z ∙ unset-is h b))
         three v x h b (inr (inr z)) = record {
@@ -118,15 +119,15 @@ module _ (o : List ℕ) (d : Desk) where
           high = h;
           low = b;
           adds = x ∙ ap some z;
-          others = full-of (256 * h + b) (d .places) (subst (λ (y : Change). T (isFull y (d .places))) (ap changeOf (counts m o e 0x0D _ (x ∙ ap some z)) ∙ adds-is h b) t);
+          others = full-of (256 * h + b) (d .places) (subst (λ (y : Change). T (isFull y (d .places))) (ap changeOf (counts (rulesOf book) m o e 0x0D _ (x ∙ ap some z)) ∙ adds-is h b) t);
         }
 
-        go : (c : Option (List ℕ)) → counted document01 m 0x0D ≡ c → Fills (d .places) o
+        go : (c : Option (List ℕ)) → counted (rulesOf book) m 0x0D ≡ c → Fills (rulesOf book) (d .places) o
         go none x = absurd (empty _ x stays-is)
-        go (some v) x = let z = identity-octets m l v x in three v x (z .0) (z .1) (z .2)
+        go (some v) x = let z = identity-octets book m l v x in three v x (z .0) (z .1) (z .2)
 
-  pub of-fills : Fills (d .places) o → (getD o 0 0 ≡ 0x82) × T full
+  pub of-fills : Fills (rulesOf book) (d .places) o → (getD o 0 0 ≡ 0x82) × T full
   of-fills w = (
     ap (λ (v : List ℕ). getD v 0 0) (sym (w .is)) ∙ kind-of (w .m) ∙ w .notice,
-    subst (λ (k : Change). T (isFull k (d .places))) (sym (ap changeOf (counts (w .m) o (w .is) 0x0D _ (w .adds)) ∙ adds-is (w .high) (w .low))) (of-full (256 * w .high + w .low) (d .places) (w .others)),
+    subst (λ (k : Change). T (isFull k (d .places))) (sym (ap changeOf (counts (rulesOf book) (w .m) o (w .is) 0x0D _ (w .adds)) ∙ adds-is (w .high) (w .low))) (of-full (256 * w .high + w .low) (d .places) (w .others)),
   )

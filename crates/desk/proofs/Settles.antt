@@ -11,14 +11,18 @@ use lib.ListN.{length, getD}
 use lib.Dec.{T}
 use Rattle.rules.specs.Tests.{clash, _=?_, pick-yes, pick-not, decide, of-eq, eq-of}
 use Rattle.rules.specs.Octets.{Octets}
-use Rattle.rules.specs.Table.{Rules, document01}
+use Rattle.rules.specs.Table.{rulesOf}
+use Rattle.rules.specs.declared.Book.{Book}
 use Rattle.rules.specs.Message as message
 use Rattle.rules.specs.Message.{octets, LegalMessage, Accepts}
 use Rattle.rules.specs.declared.Fault.{Fault}
+use Rattle.rules.specs.Refusals.{noted}
+use Rattle.rules.specs.Language.{languageOf}
+use Rattle.rules.specs.Calls.{spoken-of}
 use Rattle.message.specs.declared.Verdict.{Verdict}
 use Rattle.message.specs.declared.Verdict.the-variants.{Accepted, Declined}
 use Rattle.message.specs.Verdict.{verdictOf}
-use Rattle.message.specs.Judges.{Judges, judges}
+use Rattle.message.specs.Judges.{Judges, judges-of, told-small, verdictNumber}
 use Rattle.desk.specs.declared.Waiting.{Waiting}
 use Rattle.desk.specs.declared.Lamp.{Lamp}
 use Rattle.desk.specs.declared.Desk.{Desk}
@@ -48,243 +52,245 @@ place-is : (f g : Fault) → Refused f ≡ Refused g → f .place ≡ g .place
 place-is f g e = ap (λ (x : Fault). x .place) (fault-is f g e)
 
 abbrev fault : ℕ → Fault
-fault n = record { number = n; place = 0 }
+fault n = noted n 0
 
-module _ (d : Desk) (o : List ℕ) where
-  abbrev adds : Type 0
-  adds = T (isFull (changeOf (countedIn o 0x0D)) (d .places))
+module _ (book : Book) where
+  module _ (d : Desk) (o : List ℕ) where
+    abbrev adds : Type 0
+    adds = T (isFull (changeOf (countedIn (rulesOf book) o 0x0D)) (d .places))
 
-  -- a message: a notice whose reference has no place; any other notice; a call message
-  pub record Kept (r : Outcome) : Type 0 where
-    pub notice : getD o 0 0 ≡ 0x82
-    pub full : adds
-    pub is : r ≡ settle.refused (fault 21) d
+    -- a message: a notice whose reference has no place; any other notice; a call message
+    pub record Kept (r : Outcome) : Type 0 where
+      pub notice : getD o 0 0 ≡ 0x82
+      pub full : adds
+      pub is : r ≡ settle.refused (fault 21) d
 
-  pub record Noticed (r : Outcome) : Type 0 where
-    pub notice : getD o 0 0 ≡ 0x82
-    pub room : adds → ⊥
-    pub is : r ≡ settle.done (noticed (countedIn o) d)
+    pub record Noticed (r : Outcome) : Type 0 where
+      pub notice : getD o 0 0 ≡ 0x82
+      pub room : adds → ⊥
+      pub is : r ≡ settle.done (noticed (countedIn (rulesOf book) o) d)
 
-  pub record Called (r : Outcome) : Type 0 where
-    pub call : getD o 0 0 ≡ 0x82 → ⊥
-    pub is : r ≡ settle.done d
+    pub record Called (r : Outcome) : Type 0 where
+      pub call : getD o 0 0 ≡ 0x82 → ⊥
+      pub is : r ≡ settle.done d
 
-  abbrev pub Ways : Outcome → Type 0
-  Ways r = Kept r ⊎ (Noticed r ⊎ Called r)
+    abbrev pub Ways : Outcome → Type 0
+    Ways r = Kept r ⊎ (Noticed r ⊎ Called r)
 
-  pub ways : Ways (settledMessage o d)
-  unfolding settledMessage settledNotice refusedWith
-  ways = go (decide (getD o 0 0 =? 0x82)) (decide (isFull (changeOf (countedIn o 0x0D)) (d .places)))
-    where
-      go : T (getD o 0 0 =? 0x82) ⊎ (T (getD o 0 0 =? 0x82) → ⊥) → adds ⊎ (adds → ⊥) → Ways (settledMessage o d)
-      go (inl k) (inl t) = inl (record { notice = eq-of _ _ k; full = t; is = pick-yes _ _ _ k ∙ pick-yes _ _ _ t })
-      go (inl k) (inr n) = inr (inl (record { notice = eq-of _ _ k; room = n; is = pick-yes _ _ _ k ∙ pick-not _ _ _ n }))
-      go (inr k) t = inr (inr (record { call = λ e. k (of-eq _ _ e); is = pick-not _ _ _ k }))
-
-  -- each leaves places that fit
-  fit-left : Octets o → Fit (d .places) → (r : Outcome) → Ways r → Fit (r .desk .places)
-  unfolding noticed
-  fit-left q w r (inl g) = subst (λ (x : Outcome). Fit (x .desk .places)) (sym (g .is)) w
-  fit-left q w r (inr (inl g)) = subst (λ (x : Outcome). Fit (x .desk .places)) (sym (g .is)) (fit-after (changeOf (countedIn o 0x0D)) (d .places) (small-change o q 0x0D) (g .room) w)
-  fit-left q w r (inr (inr g)) = subst (λ (x : Outcome). Fit (x .desk .places)) (sym (g .is)) w
-
-  many-left : (r : Outcome) → Ways r → length (r .desk .places) ≡ length (d .places)
-  unfolding noticed
-  many-left r (inl g) = ap (λ (x : Outcome). length (x .desk .places)) (g .is)
-  many-left r (inr (inl g)) = ap (λ (x : Outcome). length (x .desk .places)) (g .is) ∙ as-many-after (changeOf (countedIn o 0x0D)) (d .places)
-  many-left r (inr (inr g)) = ap (λ (x : Outcome). length (x .desk .places)) (g .is)
-
-module _ (d : Desk) (o : List ℕ) (q : Octets o) where
-  abbrev v : Verdict
-  v = verdictOf document01 o
-
-  J : Judges o v
-  J = judges o q
-
-  -- a desk that does not fit is 17, whatever the octets
-  module _ (n : Fit (d .places) → ⊥) where
-    unfit : settleOf document01 d o ≡ settle.refused (fault 17) d
-    unfolding settleOf refusedWith
-    unfit = pick-not _ _ _ (λ t. n (fit-of (d .places) t))
-
-    unfit-settles : (r : Outcome) → r ≡ settle.refused (fault 17) d → Settles d o r
-    unfit-settles r e =
-        let a : r .answer ≡ Refused (fault 17) = ap (λ (x : Outcome). x .answer) e in
-        let k : r .desk ≡ d = ap (λ (x : Outcome). x .desk) e in
-        record {
-          seventeen = λ p. (λ x. (place-is _ _ (sym x ∙ a), n), λ x. a ∙ ap (λ (i : ℕ). Refused (record { number = 17; place = i })) (sym (x .0)));
-          verdict = v;
-          judged = J;
-          refused = λ f l. (λ x. absurd (omega (arith, number-is _ _ (sym x ∙ a))), λ x. absurd (n (x .0)));
-          full = λ p. (λ x. absurd (omega (arith, number-is _ _ (sym x ∙ a))), λ x. absurd (n (x .1)));
-          done = (λ x. absurd (no-done _ (sym x ∙ a)), λ x. absurd (n (x .0)));
-          numbers = λ f x. inr (inl (number-is _ _ (sym x ∙ a)));
-          refusal-stays = λ f x. k;
-          call-stays = λ m l x c. k;
-          notice = λ m l x c y. absurd (no-done _ (sym y ∙ a));
-          fits = λ w. absurd (n w);
-          as-many = ap (λ (x : Desk). length (x .places)) k;
-        }
-
-  module _ (w : Fit (d .places)) where
-    fit : settleOf document01 d o ≡ settledUnder v o d
-    unfolding settleOf
-    fit = pick-yes _ _ _ (of-fit (d .places) w)
-
-    -- octets that the whole read declines
-    declined-settles : (r : Outcome) (f : Fault) → v ≡ Declined f → r ≡ settle.refused f d → Settles d o r
-    declined-settles r f c e =
-        let a : r .answer ≡ Refused f = ap (λ (x : Outcome). x .answer) e in
-        let k : r .desk ≡ d = ap (λ (x : Outcome). x .desk) e in
-        let b = J .numbers f c in
-        let none : (x : Accepts document01 o) → ⊥ = λ x. no-verdict _ _ (sym (J .accepted (length o) .1 (refl, x)) ∙ c) in
-        record {
-          seventeen = λ p. (λ x. absurd (omega (arith, b .1, number-is _ _ (sym x ∙ a))), λ x. absurd (x .1 w));
-          verdict = v;
-          judged = J;
-          refused = λ g l. (λ x. (w, c ∙ ap Declined (fault-is _ _ (sym a ∙ x))), λ x. a ∙ ap Refused (declined-is _ _ (sym c ∙ x .1)));
-          full = λ p. (λ x. absurd (omega (arith, b .1, number-is _ _ (sym x ∙ a))), λ x. absurd (none (x .2 .m, x .2 .legal, x .2 .is)));
-          done = (λ x. absurd (no-done _ (sym x ∙ a)), λ x. absurd (none (x .1)));
-          numbers = λ g x. let z = number-is _ _ (sym x ∙ a) in inl (omega (arith, z, b .0), omega (arith, z, b .1));
-          refusal-stays = λ g x. k;
-          call-stays = λ m l x y. k;
-          notice = λ m l x y z. absurd (no-done _ (sym z ∙ a));
-          fits = λ u. subst (λ (x : Desk). Fit (x .places)) (sym k) w;
-          as-many = ap (λ (x : Desk). length (x .places)) k;
-        }
+    pub ways : Ways (settledMessage (rulesOf book) o d)
+    unfolding settledMessage settledNotice refusedWith
+    ways = go (decide (getD o 0 0 =? 0x82)) (decide (isFull (changeOf (countedIn (rulesOf book) o 0x0D)) (d .places)))
       where
-        no-verdict : (n : ℕ) (f : Fault) → Accepted n ≡ Declined f → ⊥
-        no-verdict n f e = clash cc
+        go : T (getD o 0 0 =? 0x82) ⊎ (T (getD o 0 0 =? 0x82) → ⊥) → adds ⊎ (adds → ⊥) → Ways (settledMessage (rulesOf book) o d)
+        go (inl k) (inl t) = inl (record { notice = eq-of _ _ k; full = t; is = pick-yes _ _ _ k ∙ pick-yes _ _ _ t })
+        go (inl k) (inr n) = inr (inl (record { notice = eq-of _ _ k; room = n; is = pick-yes _ _ _ k ∙ pick-not _ _ _ n }))
+        go (inr k) t = inr (inr (record { call = λ e. k (of-eq _ _ e); is = pick-not _ _ _ k }))
 
-        declined-is : (f g : Fault) → Declined f ≡ Declined g → f ≡ g
-        declined-is f g e = cc
+    -- each leaves places that fit
+    fit-left : Octets o → Fit (d .places) → (r : Outcome) → Ways r → Fit (r .desk .places)
+    unfolding noticed
+    fit-left q w r (inl g) = subst (λ (x : Outcome). Fit (x .desk .places)) (sym (g .is)) w
+    fit-left q w r (inr (inl g)) = subst (λ (x : Outcome). Fit (x .desk .places)) (sym (g .is)) (fit-after (changeOf (countedIn (rulesOf book) o 0x0D)) (d .places) (small-change (rulesOf book) o q 0x0D) (g .room) w)
+    fit-left q w r (inr (inr g)) = subst (λ (x : Outcome). Fit (x .desk .places)) (sym (g .is)) w
 
-    -- a message
-    module _ (n : ℕ) (c : v ≡ Accepted n) where
-      accepts : Accepts document01 o
-      accepts = J .accepted n .0 c .1
+    many-left : (r : Outcome) → Ways r → length (r .desk .places) ≡ length (d .places)
+    unfolding noticed
+    many-left r (inl g) = ap (λ (x : Outcome). length (x .desk .places)) (g .is)
+    many-left r (inr (inl g)) = ap (λ (x : Outcome). length (x .desk .places)) (g .is) ∙ as-many-after (changeOf (countedIn (rulesOf book) o 0x0D)) (d .places)
+    many-left r (inr (inr g)) = ap (λ (x : Outcome). length (x .desk .places)) (g .is)
 
-      not-declined : (f : Fault) → v ≡ Declined f → ⊥
-      not-declined f x = let y : Accepted n ≡ Declined f = sym c ∙ x in clash cc
+  module _ (d : Desk) (o : List ℕ) (q : Octets o) where
+    abbrev v : Verdict
+    v = verdictOf (rulesOf book) o
 
-      kind-here : (m : message.Message) → octets m ≡ o → getD o 0 0 ≡ m .kind
-      kind-here m x = ap (λ (y : List ℕ). getD y 0 0) (sym x) ∙ kind-of m
+    J : Judges (languageOf book) o v
+    J = judges-of book o q
 
-      kept-settles : (r : Outcome) → Kept d o r → Settles d o r
-      kept-settles r g =
-          let a : r .answer ≡ Refused (fault 21) = ap (λ (x : Outcome). x .answer) (g .is) in
-          let k : r .desk ≡ d = ap (λ (x : Outcome). x .desk) (g .is) in
-          let y = accepts in
-          let f : Fills (d .places) o = fills-of o d (y .0) (y .1) (y .2) (sym (kind-here (y .0) (y .2)) ∙ g .notice) (g .full) in
+    -- a desk that does not fit is 17, whatever the octets
+    module _ (n : Fit (d .places) → ⊥) where
+      unfit : settleOf (rulesOf book) d o ≡ settle.refused (fault 17) d
+      unfolding settleOf refusedWith
+      unfit = pick-not _ _ _ (λ t. n (fit-of (d .places) t))
+
+      unfit-settles : (r : Outcome) → r ≡ settle.refused (fault 17) d → Settles (rulesOf book) d o r
+      unfit-settles r e =
+          let a : r .answer ≡ Refused (fault 17) = ap (λ (x : Outcome). x .answer) e in
+          let k : r .desk ≡ d = ap (λ (x : Outcome). x .desk) e in
           record {
-            seventeen = λ p. (λ x. absurd (omega (arith, number-is _ _ (sym x ∙ a))), λ x. absurd (x .1 w));
+            seventeen = λ p. (λ x. (place-is _ _ (sym x ∙ a), n), λ x. a ∙ ap (λ (i : ℕ). Refused (noted 17 i)) (sym (x .0)));
             verdict = v;
             judged = J;
-            refused = λ h l. (λ x. absurd (omega (arith, number-is _ _ (sym x ∙ a))), λ x. absurd (not-declined h (x .1)));
-            full = λ p. (λ x. (place-is _ _ (sym x ∙ a), w, f), λ x. a ∙ ap (λ (i : ℕ). Refused (record { number = 21; place = i })) (sym (x .0)));
-            done = (λ x. absurd (no-done _ (sym x ∙ a)), λ x. absurd (x .2 f));
-            numbers = λ h x. inr (inr (number-is _ _ (sym x ∙ a)));
-            refusal-stays = λ h x. k;
-            call-stays = λ m l x z. k;
-            notice = λ m l x z u. absurd (no-done _ (sym u ∙ a));
-            fits = λ u. subst (λ (x : Desk). Fit (x .places)) (sym k) w;
+            refused = λ f l. (λ x. absurd (omega (arith, told-small (spoken-of book) _ l .1, number-is _ _ (sym x ∙ a))), λ x. absurd (n (x .0)));
+            full = λ p. (λ x. absurd (omega (arith, number-is _ _ (sym x ∙ a))), λ x. absurd (n (x .1)));
+            done = (λ x. absurd (no-done _ (sym x ∙ a)), λ x. absurd (n (x .0)));
+            numbers = λ f x. inr (inl (number-is _ _ (sym x ∙ a)));
+            refusal-stays = λ f x. k;
+            call-stays = λ m l x c. k;
+            notice = λ m l x c y. absurd (no-done _ (sym y ∙ a));
+            fits = λ w. absurd (n w);
             as-many = ap (λ (x : Desk). length (x .places)) k;
           }
 
-      -- done: which desk, that no reference wanted a place, and what that desk is
-      done-settles : (r : Outcome) → r .answer ≡ Done → (Fills (d .places) o → ⊥) → (getD o 0 0 ≡ 0x80 → r .desk ≡ d) →
-          ((m : message.Message) → LegalMessage document01 m → octets m ≡ o → m .kind ≡ 0x82 → Notices m d (r .desk)) → Fit (r .desk .places) → length (r .desk .places) ≡ length (d .places) → Settles d o r
-      done-settles r a f k g u z = record {
-        seventeen = λ p. (λ x. absurd (no-done _ (sym a ∙ x)), λ x. absurd (x .1 w));
-        verdict = v;
-        judged = J;
-        refused = λ h l. (λ x. absurd (no-done _ (sym a ∙ x)), λ x. absurd (not-declined h (x .1)));
-        full = λ p. (λ x. absurd (no-done _ (sym a ∙ x)), λ x. absurd (f (x .2)));
-        done = (λ x. (w, accepts, f), λ x. a);
-        numbers = λ h x. absurd (no-done _ (sym a ∙ x));
-        refusal-stays = λ h x. absurd (no-done _ (sym a ∙ x));
-        call-stays = λ m l x b. k (kind-here m x ∙ b);
-        notice = λ m l x b y. g m l x b;
-        fits = λ y. u;
-        as-many = z;
-      }
+    module _ (w : Fit (d .places)) where
+      fit : settleOf (rulesOf book) d o ≡ settledUnder (rulesOf book) v o d
+      unfolding settleOf
+      fit = pick-yes _ _ _ (of-fit (d .places) w)
 
-      message-settles : (r : Outcome) → Ways d o r → Settles d o r
-      message-settles r (inl g) = kept-settles r g
-      message-settles r (inr (inl g)) =
-          let k : r .desk ≡ noticed (countedIn o) d = ap (λ (x : Outcome). x .desk) (g .is) in
-          done-settles r (ap (λ (x : Outcome). x .answer) (g .is)) (λ f. g .room (of-fills o d f .1))
-          (λ x. absurd (omega (arith, g .notice, x)))
-          (λ m l x z. subst (Notices m d) (sym k) (notices o d m l x (g .room) w))
-          (fit-left d o q w r (inr (inl g))) (many-left d o r (inr (inl g)))
-      message-settles r (inr (inr g)) =
-          let k : r .desk ≡ d = ap (λ (x : Outcome). x .desk) (g .is) in
-          done-settles r (ap (λ (x : Outcome). x .answer) (g .is)) (λ f. g .call (of-fills o d f .0)) (λ _. k)
-          (λ m l x z. absurd (g .call (kind-here m x ∙ z)))
-          (fit-left d o q w r (inr (inr g))) (many-left d o r (inr (inr g)))
+      -- octets that the whole read declines
+      declined-settles : (r : Outcome) (f : Fault) → v ≡ Declined f → r ≡ settle.refused f d → Settles (rulesOf book) d o r
+      declined-settles r f c e =
+          let a : r .answer ≡ Refused f = ap (λ (x : Outcome). x .answer) e in
+          let k : r .desk ≡ d = ap (λ (x : Outcome). x .desk) e in
+          let t = J .numbers f c in
+          let b = told-small (spoken-of book) _ t in
+          let none : (x : Accepts (rulesOf book) o) → ⊥ = λ x. no-verdict _ _ (sym (J .accepted (length o) .1 (refl, x)) ∙ c) in
+          record {
+            seventeen = λ p. (λ x. absurd (omega (arith, b .1, number-is _ _ (sym x ∙ a))), λ x. absurd (x .1 w));
+            verdict = v;
+            judged = J;
+            refused = λ g l. (λ x. (w, c ∙ ap Declined (fault-is _ _ (sym a ∙ x))), λ x. a ∙ ap Refused (declined-is _ _ (sym c ∙ x .1)));
+            full = λ p. (λ x. absurd (omega (arith, b .1, number-is _ _ (sym x ∙ a))), λ x. absurd (none (x .2 .m, x .2 .legal, x .2 .is)));
+            done = (λ x. absurd (no-done _ (sym x ∙ a)), λ x. absurd (none (x .1)));
+            numbers = λ g x. inl (subst (λ (k : ℕ). T (verdictNumber (languageOf book) k)) (sym (number-is _ _ (sym x ∙ a))) t);
+            refusal-stays = λ g x. k;
+            call-stays = λ m l x y. k;
+            notice = λ m l x y z. absurd (no-done _ (sym z ∙ a));
+            fits = λ u. subst (λ (x : Desk). Fit (x .places)) (sym k) w;
+            as-many = ap (λ (x : Desk). length (x .places)) k;
+          }
+        where
+          no-verdict : (n : ℕ) (f : Fault) → Accepted n ≡ Declined f → ⊥
+          no-verdict n f e = clash cc
 
-    fit-settles : (x : Verdict) → v ≡ x → (r : Outcome) → r ≡ settledUnder x o d → Settles d o r
+          declined-is : (f g : Fault) → Declined f ≡ Declined g → f ≡ g
+          declined-is f g e = cc
+
+      -- a message
+      module _ (n : ℕ) (c : v ≡ Accepted n) where
+        accepts : Accepts (rulesOf book) o
+        accepts = J .accepted n .0 c .1
+
+        not-declined : (f : Fault) → v ≡ Declined f → ⊥
+        not-declined f x = let y : Accepted n ≡ Declined f = sym c ∙ x in clash cc
+
+        kind-here : (m : message.Message) → octets m ≡ o → getD o 0 0 ≡ m .kind
+        kind-here m x = ap (λ (y : List ℕ). getD y 0 0) (sym x) ∙ kind-of m
+
+        kept-settles : (r : Outcome) → Kept d o r → Settles (rulesOf book) d o r
+        kept-settles r g =
+            let a : r .answer ≡ Refused (fault 21) = ap (λ (x : Outcome). x .answer) (g .is) in
+            let k : r .desk ≡ d = ap (λ (x : Outcome). x .desk) (g .is) in
+            let y = accepts in
+            let f : Fills (rulesOf book) (d .places) o = fills-of book o d (y .0) (y .1) (y .2) (sym (kind-here (y .0) (y .2)) ∙ g .notice) (g .full) in
+            record {
+              seventeen = λ p. (λ x. absurd (omega (arith, number-is _ _ (sym x ∙ a))), λ x. absurd (x .1 w));
+              verdict = v;
+              judged = J;
+              refused = λ h l. (λ x. absurd (omega (arith, told-small (spoken-of book) _ l .1, number-is _ _ (sym x ∙ a))), λ x. absurd (not-declined h (x .1)));
+              full = λ p. (λ x. (place-is _ _ (sym x ∙ a), w, f), λ x. a ∙ ap (λ (i : ℕ). Refused (noted 21 i)) (sym (x .0)));
+              done = (λ x. absurd (no-done _ (sym x ∙ a)), λ x. absurd (x .2 f));
+              numbers = λ h x. inr (inr (number-is _ _ (sym x ∙ a)));
+              refusal-stays = λ h x. k;
+              call-stays = λ m l x z. k;
+              notice = λ m l x z u. absurd (no-done _ (sym u ∙ a));
+              fits = λ u. subst (λ (x : Desk). Fit (x .places)) (sym k) w;
+              as-many = ap (λ (x : Desk). length (x .places)) k;
+            }
+
+        -- done: which desk, that no reference wanted a place, and what that desk is
+        done-settles : (r : Outcome) → r .answer ≡ Done → (Fills (rulesOf book) (d .places) o → ⊥) → (getD o 0 0 ≡ 0x80 → r .desk ≡ d) →
+            ((m : message.Message) → LegalMessage (rulesOf book) m → octets m ≡ o → m .kind ≡ 0x82 → Notices (rulesOf book) m d (r .desk)) → Fit (r .desk .places) → length (r .desk .places) ≡ length (d .places) → Settles (rulesOf book) d o r
+        done-settles r a f k g u z = record {
+          seventeen = λ p. (λ x. absurd (no-done _ (sym a ∙ x)), λ x. absurd (x .1 w));
+          verdict = v;
+          judged = J;
+          refused = λ h l. (λ x. absurd (no-done _ (sym a ∙ x)), λ x. absurd (not-declined h (x .1)));
+          full = λ p. (λ x. absurd (no-done _ (sym a ∙ x)), λ x. absurd (f (x .2)));
+          done = (λ x. (w, accepts, f), λ x. a);
+          numbers = λ h x. absurd (no-done _ (sym a ∙ x));
+          refusal-stays = λ h x. absurd (no-done _ (sym a ∙ x));
+          call-stays = λ m l x b. k (kind-here m x ∙ b);
+          notice = λ m l x b y. g m l x b;
+          fits = λ y. u;
+          as-many = z;
+        }
+
+        message-settles : (r : Outcome) → Ways d o r → Settles (rulesOf book) d o r
+        message-settles r (inl g) = kept-settles r g
+        message-settles r (inr (inl g)) =
+            let k : r .desk ≡ noticed (countedIn (rulesOf book) o) d = ap (λ (x : Outcome). x .desk) (g .is) in
+            done-settles r (ap (λ (x : Outcome). x .answer) (g .is)) (λ f. g .room (of-fills book o d f .1))
+            (λ x. absurd (omega (arith, g .notice, x)))
+            (λ m l x z. subst (Notices (rulesOf book) m d) (sym k) (notices book o d m l x (g .room) w))
+            (fit-left d o q w r (inr (inl g))) (many-left d o r (inr (inl g)))
+        message-settles r (inr (inr g)) =
+            let k : r .desk ≡ d = ap (λ (x : Outcome). x .desk) (g .is) in
+            done-settles r (ap (λ (x : Outcome). x .answer) (g .is)) (λ f. g .call (of-fills book o d f .0)) (λ _. k)
+            (λ m l x z. absurd (g .call (kind-here m x ∙ z)))
+            (fit-left d o q w r (inr (inr g))) (many-left d o r (inr (inr g)))
+
+      fit-settles : (x : Verdict) → v ≡ x → (r : Outcome) → r ≡ settledUnder (rulesOf book) x o d → Settles (rulesOf book) d o r
+      unfolding settledUnder
+      fit-settles (Accepted n) c r e = message-settles n c r (subst (Ways d o) (sym e) (ways d o))
+      fit-settles (Declined f) c r e = declined-settles r f c e
+
+    pub settles : Settles (rulesOf book) d o (settleOf (rulesOf book) d o)
+    settles = go (decide (placesFit (d .places)))
+      where
+        go : T (placesFit (d .places)) ⊎ (T (placesFit (d .places)) → ⊥) → Settles (rulesOf book) d o (settleOf (rulesOf book) d o)
+        go (inl t) = let w = fit-of (d .places) t in fit-settles w v refl (settleOf (rulesOf book) d o) (fit w)
+        go (inr n) = let m : Fit (d .places) → ⊥ = λ w. n (of-fit (d .places) w) in unfit-settles m (settleOf (rulesOf book) d o) (unfit m)
+
+  -- ---- settling twice running
+  waiting-twice : (c : Option (List ℕ)) (w : Waiting) → waitingAfter c (waitingAfter c w) ≡ waitingAfter c w
+  unfolding waitingAfter
+  waiting-twice none w = refl
+  waiting-twice (some v) w = refl
+
+  lamp-twice : (c : Option (List ℕ)) (l : Lamp) → lampAfter c (lampAfter c l) ≡ lampAfter c l
+  unfolding lampAfter
+  lamp-twice none l = refl
+  lamp-twice (some v) l = refl
+
+  module _ (o : List ℕ) (d : Desk) (w : Fit (d .places)) where
+    noticed-twice : (T (isFull (changeOf (countedIn (rulesOf book) o 0x0D)) (d .places)) → ⊥) → noticed (countedIn (rulesOf book) o) (noticed (countedIn (rulesOf book) o) d) ≡ noticed (countedIn (rulesOf book) o) d
+    unfolding noticed
+    noticed-twice n = λ i. record {
+      waiting = waiting-twice (countedIn (rulesOf book) o 0x13) (d .waiting) i;
+      lamp = lamp-twice (countedIn (rulesOf book) o 0x0B) (d .lamp) i;
+      places = same-again (changeOf (countedIn (rulesOf book) o 0x0D)) (d .places) n w i;
+    }
+
+    message-twice : (r : Outcome) → r ≡ settledMessage (rulesOf book) o d → Ways d o r → settledMessage (rulesOf book) o (r .desk) ≡ r
+    unfolding noticed
+    message-twice r e (inl g) = ap (settledMessage (rulesOf book) o) (ap (λ (x : Outcome). x .desk) (g .is)) ∙ sym e
+    message-twice r e (inr (inl g)) = ap (settledMessage (rulesOf book) o) (ap (λ (x : Outcome). x .desk) (g .is)) ∙ again (settledMessage (rulesOf book) o (noticed (countedIn (rulesOf book) o) d)) refl (ways (noticed (countedIn (rulesOf book) o) d) o)
+      where
+        again : (s : Outcome) → s ≡ settledMessage (rulesOf book) o (noticed (countedIn (rulesOf book) o) d) → Ways (noticed (countedIn (rulesOf book) o) d) o s → s ≡ r
+        again s x (inl h) = absurd (room-again (changeOf (countedIn (rulesOf book) o 0x0D)) (d .places) (g .room) (h .full))
+        again s x (inr (inl h)) = h .is ∙ ap settle.done (noticed-twice (g .room)) ∙ sym (g .is)
+        again s x (inr (inr h)) = absurd (h .call (g .notice))
+    message-twice r e (inr (inr g)) = ap (settledMessage (rulesOf book) o) (ap (λ (x : Outcome). x .desk) (g .is)) ∙ sym e
+
+    under-twice : (v : Verdict) → settledUnder (rulesOf book) v o (settledUnder (rulesOf book) v o d .desk) ≡ settledUnder (rulesOf book) v o d
     unfolding settledUnder
-    fit-settles (Accepted n) c r e = message-settles n c r (subst (Ways d o) (sym e) (ways d o))
-    fit-settles (Declined f) c r e = declined-settles r f c e
+    under-twice (Accepted n) = message-twice (settledMessage (rulesOf book) o d) refl (ways d o)
+    under-twice (Declined f) = refl
 
-  pub settles : Settles d o (settleOf document01 d o)
-  settles = go (decide (placesFit (d .places)))
+    fits-under : Octets o → (v : Verdict) → Fit (settledUnder (rulesOf book) v o d .desk .places)
+    unfolding settledUnder
+    fits-under q (Accepted n) = fit-left d o q w (settledMessage (rulesOf book) o d) (ways d o)
+    fits-under q (Declined f) = w
+
+  -- whatever the octets, the second settling gives what the first gave, desk and answer
+  pub settled-twice : (d : Desk) (o : List ℕ) → Octets o → settleOf (rulesOf book) (settleOf (rulesOf book) d o .desk) o ≡ settleOf (rulesOf book) d o
+  unfolding settleOf refusedWith
+  settled-twice d o q = go (decide (placesFit (d .places)))
     where
-      go : T (placesFit (d .places)) ⊎ (T (placesFit (d .places)) → ⊥) → Settles d o (settleOf document01 d o)
-      go (inl t) = let w = fit-of (d .places) t in fit-settles w v refl (settleOf document01 d o) (fit w)
-      go (inr n) = let m : Fit (d .places) → ⊥ = λ w. n (of-fit (d .places) w) in unfit-settles m (settleOf document01 d o) (unfit m)
-
--- ---- settling twice running
-waiting-twice : (c : Option (List ℕ)) (w : Waiting) → waitingAfter c (waitingAfter c w) ≡ waitingAfter c w
-unfolding waitingAfter
-waiting-twice none w = refl
-waiting-twice (some v) w = refl
-
-lamp-twice : (c : Option (List ℕ)) (l : Lamp) → lampAfter c (lampAfter c l) ≡ lampAfter c l
-unfolding lampAfter
-lamp-twice none l = refl
-lamp-twice (some v) l = refl
-
-module _ (o : List ℕ) (d : Desk) (w : Fit (d .places)) where
-  noticed-twice : (T (isFull (changeOf (countedIn o 0x0D)) (d .places)) → ⊥) → noticed (countedIn o) (noticed (countedIn o) d) ≡ noticed (countedIn o) d
-  unfolding noticed
-  noticed-twice n = λ i. record {
-    waiting = waiting-twice (countedIn o 0x13) (d .waiting) i;
-    lamp = lamp-twice (countedIn o 0x0B) (d .lamp) i;
-    places = same-again (changeOf (countedIn o 0x0D)) (d .places) n w i;
-  }
-
-  message-twice : (r : Outcome) → r ≡ settledMessage o d → Ways d o r → settledMessage o (r .desk) ≡ r
-  unfolding noticed
-  message-twice r e (inl g) = ap (settledMessage o) (ap (λ (x : Outcome). x .desk) (g .is)) ∙ sym e
-  message-twice r e (inr (inl g)) = ap (settledMessage o) (ap (λ (x : Outcome). x .desk) (g .is)) ∙ again (settledMessage o (noticed (countedIn o) d)) refl (ways (noticed (countedIn o) d) o)
-    where
-      again : (s : Outcome) → s ≡ settledMessage o (noticed (countedIn o) d) → Ways (noticed (countedIn o) d) o s → s ≡ r
-      again s x (inl h) = absurd (room-again (changeOf (countedIn o 0x0D)) (d .places) (g .room) (h .full))
-      again s x (inr (inl h)) = h .is ∙ ap settle.done (noticed-twice (g .room)) ∙ sym (g .is)
-      again s x (inr (inr h)) = absurd (h .call (g .notice))
-  message-twice r e (inr (inr g)) = ap (settledMessage o) (ap (λ (x : Outcome). x .desk) (g .is)) ∙ sym e
-
-  under-twice : (v : Verdict) → settledUnder v o (settledUnder v o d .desk) ≡ settledUnder v o d
-  unfolding settledUnder
-  under-twice (Accepted n) = message-twice (settledMessage o d) refl (ways d o)
-  under-twice (Declined f) = refl
-
-  fits-under : Octets o → (v : Verdict) → Fit (settledUnder v o d .desk .places)
-  unfolding settledUnder
-  fits-under q (Accepted n) = fit-left d o q w (settledMessage o d) (ways d o)
-  fits-under q (Declined f) = w
-
--- whatever the octets, the second settling gives what the first gave, desk and answer
-pub settled-twice : (R : Rules) (d : Desk) (o : List ℕ) → Octets o → settleOf R (settleOf R d o .desk) o ≡ settleOf R d o
-unfolding settleOf refusedWith
-settled-twice R d o q = go (decide (placesFit (d .places)))
-  where
-    go : T (placesFit (d .places)) ⊎ (T (placesFit (d .places)) → ⊥) → settleOf R (settleOf R d o .desk) o ≡ settleOf R d o
-    go (inl t) =
-        let w = fit-of (d .places) t in
-        let x : settleOf R d o ≡ settledUnder (verdictOf R o) o d = pick-yes _ _ _ t in
-        ap (λ (y : Outcome). settleOf R (y .desk) o) x
-        ∙ pick-yes _ _ _ (of-fit _ (fits-under o d w q (verdictOf R o))) ∙ under-twice o d w (verdictOf R o) ∙ sym x
-    go (inr n) = ap (λ (y : Outcome). settleOf R (y .desk) o) (pick-not (placesFit (d .places)) _ _ n)
+      go : T (placesFit (d .places)) ⊎ (T (placesFit (d .places)) → ⊥) → settleOf (rulesOf book) (settleOf (rulesOf book) d o .desk) o ≡ settleOf (rulesOf book) d o
+      go (inl t) =
+          let w = fit-of (d .places) t in
+          let x : settleOf (rulesOf book) d o ≡ settledUnder (rulesOf book) (verdictOf (rulesOf book) o) o d = pick-yes _ _ _ t in
+          ap (λ (y : Outcome). settleOf (rulesOf book) (y .desk) o) x
+          ∙ pick-yes _ _ _ (of-fit _ (fits-under o d w q (verdictOf (rulesOf book) o))) ∙ under-twice o d w (verdictOf (rulesOf book) o) ∙ sym x
+      go (inr n) = ap (λ (y : Outcome). settleOf (rulesOf book) (y .desk) o) (pick-not (placesFit (d .places)) _ _ n)

@@ -8,7 +8,8 @@ use mathlib.Core.List.{List, [], _∷_}
 use mathlib.Core.Option.{Option, none, some}
 use lib.ListN.{getD}
 use Rattle.rules.specs.Tests.{_=?_, pick}
-use Rattle.rules.specs.Table.{document01}
+use Rattle.rules.specs.Table.{Rules, rulesOf}
+use Rattle.rules.specs.declared.Book.{Book}
 use Rattle.rules.specs.Message as message
 use Rattle.rules.specs.Message.{octets, LegalMessage}
 use Rattle.rules.specs.Counting.{counted}
@@ -27,18 +28,19 @@ saidBy r Nothing = none
 saidBy r (Adds s) = pick (s =? r) (some true) none
 saidBy r (Removes s) = pick (s =? r) (some false) none
 
--- one call: the octets settled, and what came back
+-- one call: its book, the octets settled, and what came back
 pub record Call : Type 0 where
+  pub book : Book
   pub octets : List ℕ
   pub outcome : Outcome
 
 -- what a call says of r: a notice that is done, what its 0DH says; a refusal and a call message, nothing
-unfoldable pub saidUnder : ℕ → List ℕ → Answer → Option Bool
-saidUnder r o Done = pick (getD o 0 0 =? 0x82) (saidBy r (changeOf (countedIn o 0x0D))) none
-saidUnder r o (Refused f) = none
+unfoldable pub saidUnder : Rules → ℕ → List ℕ → Answer → Option Bool
+saidUnder R r o Done = pick (getD o 0 0 =? 0x82) (saidBy r (changeOf (countedIn R o 0x0D))) none
+saidUnder R r o (Refused f) = none
 
 unfoldable pub said : ℕ → Call → Option Bool
-said r c = saidUnder r (c .octets) (c .outcome .answer)
+said r c = saidUnder (rulesOf (c .book)) r (c .octets) (c .outcome .answer)
 
 -- the later word, or the one before it
 unfoldable pub later : Option Bool → Option Bool → Option Bool
@@ -53,7 +55,7 @@ lastSaid r (c ∷ cs) b = lastSaid r cs (later (said r c) b)
 -- calls one after the other, from the desk d to the desk e: each on the desk that the one before left
 abbrev pub History : Desk → List Call → Desk → Type 0
 History d [] e = d ≡ e
-History d (c ∷ cs) e = (c .outcome ≡ settleOf document01 d (c .octets)) × History (c .outcome .desk) cs e
+History d (c ∷ cs) e = (c .outcome ≡ settleOf (rulesOf (c .book)) d (c .octets)) × History (c .outcome .desk) cs e
 
 -- how r stands in the places qs, after the word b since they were ps
 abbrev pub Stands : ℕ → List ℕ → Option Bool → List ℕ → Type 0
@@ -65,13 +67,13 @@ Stands r ps none qs = Open r ps ↔ Open r qs
 -- the call was done, with a notice m whose 0DH counts with the state s and the reference r
 pub record Names (c : Call) (s r : ℕ) : Type 0 where
   pub m : message.Message
-  pub legal : LegalMessage document01 m
+  pub legal : LegalMessage (rulesOf (c .book)) m
   pub is : octets m ≡ c .octets
   pub notice : m .kind ≡ 0x82
   pub done : c .outcome .answer ≡ Done
   pub high : ℕ
   pub low : ℕ
-  pub counts : counted document01 m 0x0D ≡ some (s ∷ high ∷ low ∷ [])
+  pub counts : counted (rulesOf (c .book)) m 0x0D ≡ some (s ∷ high ∷ low ∷ [])
   pub reference : 256 * high + low ≡ r
 
 -- what a call says of r: open exactly with FFH, not open exactly with 00H

@@ -7,6 +7,7 @@ use lib.ListN.{getD, replicate}
 use Rattle.rules.specs.Tests.{_=?_, pick}
 use Rattle.rules.specs.Table.{Rules}
 use Rattle.rules.specs.declared.Fault.{Fault}
+use Rattle.rules.specs.Refusals.{noted}
 use Rattle.message.specs.Walking.{countedAt, partOf}
 use Rattle.message.specs.Verdict.{verdictOf}
 use Rattle.message.specs.declared.Verdict.{Verdict}
@@ -54,7 +55,7 @@ refused f d = record { desk = d; answer = Refused f }
 
 -- a refusal that is no octet's stands at 0
 unfoldable pub refusedWith : ℕ → Desk → Outcome
-refusedWith n d = refused (record { number = n; place = 0 }) d
+refusedWith n d = refused (noted n 0) d
 
 -- what a notice sets, given the contents of each type that count
 unfoldable pub noticed : (ℕ → Option (List ℕ)) → Desk → Desk
@@ -69,21 +70,21 @@ unfoldable pub settledNotice : (ℕ → Option (List ℕ)) → Desk → Outcome
 settledNotice counts d = pick (isFull (changeOf (counts 0x0D)) (d .places)) (refusedWith 21 d) (done (noticed counts d))
 
 -- the contents of a type that count in the octets of a message
-unfoldable pub countedIn : List ℕ → ℕ → Option (List ℕ)
-countedIn o t = partOf o (countedAt o t)
+unfoldable pub countedIn : Rules → List ℕ → ℕ → Option (List ℕ)
+countedIn R o t = partOf o (countedAt R o t)
 
 -- a notice is settled; a call message changes nothing
-unfoldable pub settledMessage : List ℕ → Desk → Outcome
-settledMessage o d = pick (getD o 0 0 =? 0x82) (settledNotice (countedIn o) d) (done d)
+unfoldable pub settledMessage : Rules → List ℕ → Desk → Outcome
+settledMessage R o d = pick (getD o 0 0 =? 0x82) (settledNotice (countedIn R o) d) (done d)
 
 -- octets that the whole read declines get its number and place, and leave the desk as it was
-unfoldable pub settledUnder : Verdict → List ℕ → Desk → Outcome
-settledUnder (Accepted n) o d = settledMessage o d
-settledUnder (Declined f) o d = refused f d
+unfoldable pub settledUnder : Rules → Verdict → List ℕ → Desk → Outcome
+settledUnder R (Accepted n) o d = settledMessage R o d
+settledUnder R (Declined f) o d = refused f d
 
 -- the outcome of settling octets on a desk: 17 for one with a place out of range or a reference twice, else by the whole read's verdict on the octets
 unfoldable pub settleOf : Rules → Desk → List ℕ → Outcome
-settleOf R d o = pick (placesFit (d .places)) (settledUnder (verdictOf R o) o d) (refusedWith 17 d)
+settleOf R d o = pick (placesFit (d .places)) (settledUnder R (verdictOf R o) o d) (refusedWith 17 d)
 
 -- ---- this paper's number and place for each answer (0 where there is none)
 unfoldable pub numberOf : Answer → ℕ

@@ -1,13 +1,14 @@
 -- What settling means over the written rules (document 01, The desk; document 02, Q-6): which answer, and what a notice, a call message and a refusal do to
 -- the desk.
 -- Assumes nothing.
-use Prim.Native.Nat.{ℕ, _+_, _*_, _≤_}
+use Prim.Native.Nat.{ℕ, _+_, _*_}
 use mathlib.Core.Path.{_≡_}
 use mathlib.Core.Logic.{_⊎_, _↔_}
 use mathlib.Core.List.{List, [], _∷_}
 use mathlib.Core.Option.{none, some}
 use lib.ListN.{length}
-use Rattle.rules.specs.Table.{document01}
+use lib.Dec.{T}
+use Rattle.rules.specs.Table.{Rules}
 use Rattle.rules.specs.Message as message
 use Rattle.rules.specs.Message.{octets, LegalMessage, Accepts}
 use Rattle.rules.specs.Counting.{counted}
@@ -16,57 +17,59 @@ use Rattle.desk.specs.declared.Lamp.the-variants.{Off, On}
 use Rattle.desk.specs.declared.Desk.{Desk}
 use Rattle.desk.specs.Holding.{Fit, Full, Added, Removed}
 use Rattle.rules.specs.declared.Fault.{Fault}
+use Rattle.rules.specs.Refusals.{noted}
+use Rattle.rules.specs.Language.{calls}
 use Rattle.message.specs.declared.Verdict.{Verdict}
 use Rattle.message.specs.declared.Verdict.the-variants.{Declined}
-use Rattle.message.specs.Judges.{Judges}
+use Rattle.message.specs.Judges.{Judges, verdictNumber}
 use Rattle.desk.specs.declared.Answer.the-variants.{Done, Refused}
 use Rattle.desk.specs.declared.Outcome.{Outcome}
 
 -- the notice m makes the desk e of the desk d
-pub record Notices (m : message.Message) (d e : Desk) : Type 0 where
+pub record Notices (R : Rules) (m : message.Message) (d e : Desk) : Type 0 where
   -- the number is set where 13H counts, whatever stood there, and stays where it does not
-  pub number : (k : ℕ) → counted document01 m 0x13 ≡ some (k ∷ []) → e .waiting ≡ Number k
-  pub number-stays : counted document01 m 0x13 ≡ none → e .waiting ≡ d .waiting
+  pub number : (k : ℕ) → counted R m 0x13 ≡ some (k ∷ []) → e .waiting ≡ Number k
+  pub number-stays : counted R m 0x13 ≡ none → e .waiting ≡ d .waiting
   -- the lamp is set where 0BH counts, and stays where it does not
-  pub lamp-off : counted document01 m 0x0B ≡ some (0x00 ∷ []) → e .lamp ≡ Off
-  pub lamp-on : counted document01 m 0x0B ≡ some (0xFF ∷ []) → e .lamp ≡ On
-  pub lamp-stays : counted document01 m 0x0B ≡ none → e .lamp ≡ d .lamp
+  pub lamp-off : counted R m 0x0B ≡ some (0x00 ∷ []) → e .lamp ≡ Off
+  pub lamp-on : counted R m 0x0B ≡ some (0xFF ∷ []) → e .lamp ≡ On
+  pub lamp-stays : counted R m 0x0B ≡ none → e .lamp ≡ d .lamp
   -- where 0DH counts, FFH adds its reference and 00H takes it out; 55H does nothing, and the places stay where it does not count
-  pub adds : (h l : ℕ) → counted document01 m 0x0D ≡ some (0xFF ∷ h ∷ l ∷ []) → Added (256 * h + l) (d .places) (e .places)
-  pub removes : (h l : ℕ) → counted document01 m 0x0D ≡ some (0x00 ∷ h ∷ l ∷ []) → Removed (256 * h + l) (d .places) (e .places)
-  pub unset : (h l : ℕ) → counted document01 m 0x0D ≡ some (0x55 ∷ h ∷ l ∷ []) → e .places ≡ d .places
-  pub places-stay : counted document01 m 0x0D ≡ none → e .places ≡ d .places
+  pub adds : (h l : ℕ) → counted R m 0x0D ≡ some (0xFF ∷ h ∷ l ∷ []) → Added (256 * h + l) (d .places) (e .places)
+  pub removes : (h l : ℕ) → counted R m 0x0D ≡ some (0x00 ∷ h ∷ l ∷ []) → Removed (256 * h + l) (d .places) (e .places)
+  pub unset : (h l : ℕ) → counted R m 0x0D ≡ some (0x55 ∷ h ∷ l ∷ []) → e .places ≡ d .places
+  pub places-stay : counted R m 0x0D ≡ none → e .places ≡ d .places
 
 -- the octets are those of a notice that adds a reference where all places hold others
-pub record Fills (ps o : List ℕ) : Type 0 where
+pub record Fills (R : Rules) (ps o : List ℕ) : Type 0 where
   pub m : message.Message
-  pub legal : LegalMessage document01 m
+  pub legal : LegalMessage R m
   pub is : octets m ≡ o
   pub notice : m .kind ≡ 0x82
   pub high : ℕ
   pub low : ℕ
-  pub adds : counted document01 m 0x0D ≡ some (0xFF ∷ high ∷ low ∷ [])
+  pub adds : counted R m 0x0D ≡ some (0xFF ∷ high ∷ low ∷ [])
   pub others : Full (256 * high + low) ps
 
 -- the desk d and the octets o went in, and r came back
-pub record Settles (d : Desk) (o : List ℕ) (r : Outcome) : Type 0 where
+pub record Settles (R : Rules) (d : Desk) (o : List ℕ) (r : Outcome) : Type 0 where
   -- 17 exactly for a desk with a place out of range or a reference twice
-  pub seventeen : (p : ℕ) → (r .answer ≡ Refused (record { number = 17; place = p })) ↔ ((p ≡ 0) × (Fit (d .places) → ⊥))
-  -- else 1 to 8 exactly as the whole read declines the octets, with its number and place
+  pub seventeen : (p : ℕ) → (r .answer ≡ Refused (noted 17 p)) ↔ ((p ≡ 0) × (Fit (d .places) → ⊥))
+  -- else 1 to 8 and 10 exactly as the whole read declines the octets, with its number and place
   pub verdict : Verdict
-  pub judged : Judges o verdict
-  pub refused : (f : Fault) → f .number ≤ 8 → (r .answer ≡ Refused f) ↔ (Fit (d .places) × (verdict ≡ Declined f))
+  pub judged : Judges (calls R) o verdict
+  pub refused : (f : Fault) → T (verdictNumber (calls R) (f .number)) → (r .answer ≡ Refused f) ↔ (Fit (d .places) × (verdict ≡ Declined f))
   -- else 21 exactly where a reference to be added has no place
-  pub full : (p : ℕ) → (r .answer ≡ Refused (record { number = 21; place = p })) ↔ ((p ≡ 0) × Fit (d .places) × Fills (d .places) o)
+  pub full : (p : ℕ) → (r .answer ≡ Refused (noted 21 p)) ↔ ((p ≡ 0) × Fit (d .places) × Fills R (d .places) o)
   -- else done
-  pub done : (r .answer ≡ Done) ↔ (Fit (d .places) × Accepts document01 o × (Fills (d .places) o → ⊥))
+  pub done : (r .answer ≡ Done) ↔ (Fit (d .places) × Accepts R o × (Fills R (d .places) o → ⊥))
   -- no other number
-  pub numbers : (f : Fault) → r .answer ≡ Refused f → ((1 ≤ f .number) × (f .number ≤ 8)) ⊎ ((f .number ≡ 17) ⊎ (f .number ≡ 21))
+  pub numbers : (f : Fault) → r .answer ≡ Refused f → T (verdictNumber (calls R) (f .number)) ⊎ ((f .number ≡ 17) ⊎ (f .number ≡ 21))
   -- a refusal and a call message leave the desk as it was
   pub refusal-stays : (f : Fault) → r .answer ≡ Refused f → r .desk ≡ d
-  pub call-stays : (m : message.Message) → LegalMessage document01 m → octets m ≡ o → m .kind ≡ 0x80 → r .desk ≡ d
+  pub call-stays : (m : message.Message) → LegalMessage R m → octets m ≡ o → m .kind ≡ 0x80 → r .desk ≡ d
   -- a notice that is done settles what counts
-  pub notice : (m : message.Message) → LegalMessage document01 m → octets m ≡ o → m .kind ≡ 0x82 → r .answer ≡ Done → Notices m d (r .desk)
+  pub notice : (m : message.Message) → LegalMessage R m → octets m ≡ o → m .kind ≡ 0x82 → r .answer ≡ Done → Notices R m d (r .desk)
   -- a desk that fits is left as one that fits, with as many places
   pub fits : Fit (d .places) → Fit (r .desk .places)
   pub as-many : length (r .desk .places) ≡ length (d .places)

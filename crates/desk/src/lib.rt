@@ -1,11 +1,12 @@
 // The desk on which notices are settled (document 01, The desk; document 02, Q-6). It goes in by value and comes back by value.
 use message::Part;
 use message::Verdict;
+use rules::Book;
 use rules::Fault;
 ghost use mathlib.Core.Path.{_≡_};
 ghost use Prim.Native.Nat.{suc, _+_, _≤_, _<_};
 ghost use lib.ListN as list;
-ghost use Rattle.rules.specs.Table.{document01};
+ghost use Rattle.rules.specs.Table.{rulesOf};
 ghost use Rattle.rules.specs.Message.{Accepts};
 ghost use Rattle.desk.specs.Open as places-of;
 ghost use Rattle.desk.specs.Open.{placeCount, firstOf, absent, mayStand, placesFit, changeBy, isFull, placesAfter};
@@ -196,11 +197,11 @@ fn change_in(contents: &[u8]) -> Change
 }
 
 // What a message does to a reference: as 0DH says where it counts.
-fn change_of(octets: &[u8]) -> Change
-    requires { ⌜ Accepts document01 (now octets) ⌝ }
-    ensures { λ r. ⌜ r ≡ changeOf (countedIn (now (octets .entry)) 0x0D) ⌝ }
+fn change_of(book: Book, octets: &[u8]) -> Change
+    requires { ⌜ Accepts (rulesOf book) (now octets) ⌝ }
+    ensures { λ r. ⌜ r ≡ changeOf (countedIn (rulesOf book) (now (octets .entry)) 0x0D) ⌝ }
 {
-    let part = message::counted(octets, 0x0D);
+    let part = message::counted(book, octets, 0x0D);
     match part {
         Part::At { start, length } => {
             let end = start + length as usize;
@@ -211,11 +212,11 @@ fn change_of(octets: &[u8]) -> Change
 }
 
 // The waiting number after a message: set where 13H counts.
-fn waiting_after(old: Waiting, octets: &[u8]) -> Waiting
-    requires { ⌜ Accepts document01 (now octets) ⌝ }
-    ensures { λ r. ⌜ r ≡ waitingAfter (countedIn (now (octets .entry)) 0x13) old ⌝ }
+fn waiting_after(book: Book, old: Waiting, octets: &[u8]) -> Waiting
+    requires { ⌜ Accepts (rulesOf book) (now octets) ⌝ }
+    ensures { λ r. ⌜ r ≡ waitingAfter (countedIn (rulesOf book) (now (octets .entry)) 0x13) old ⌝ }
 {
-    let part = message::counted(octets, 0x13);
+    let part = message::counted(book, octets, 0x13);
     match part {
         Part::At { start, length } => {
             let number = octets[start];
@@ -226,11 +227,11 @@ fn waiting_after(old: Waiting, octets: &[u8]) -> Waiting
 }
 
 // The lamp after a message: set where 0BH counts, off with 00H.
-fn lamp_after(old: Lamp, octets: &[u8]) -> Lamp
-    requires { ⌜ Accepts document01 (now octets) ⌝ }
-    ensures { λ r. ⌜ r ≡ lampAfter (countedIn (now (octets .entry)) 0x0B) old ⌝ }
+fn lamp_after(book: Book, old: Lamp, octets: &[u8]) -> Lamp
+    requires { ⌜ Accepts (rulesOf book) (now octets) ⌝ }
+    ensures { λ r. ⌜ r ≡ lampAfter (countedIn (rulesOf book) (now (octets .entry)) 0x0B) old ⌝ }
 {
-    let part = message::counted(octets, 0x0B);
+    let part = message::counted(book, octets, 0x0B);
     match part {
         Part::At { start, length } => {
             if octets[start] == 0x00 {
@@ -248,24 +249,24 @@ fn refused_with(number: u8, desk: Desk) -> Outcome
 {
     Outcome {
         desk,
-        answer: Answer::Refused(Fault { number, place: 0 }),
+        answer: Answer::Refused(rules::noted(number, 0)),
     }
 }
 
 // A notice sets what counts; nothing of it where the reference that it adds has no place.
-fn settle_notice(desk: Desk, octets: &[u8]) -> Outcome
-    requires { ⌜ Accepts document01 (now octets) ⌝ }
-    ensures { λ r. ⌜ r ≡ settledNotice (countedIn (now (octets .entry))) desk ⌝ }
+fn settle_notice(book: Book, desk: Desk, octets: &[u8]) -> Outcome
+    requires { ⌜ Accepts (rulesOf book) (now octets) ⌝ }
+    ensures { λ r. ⌜ r ≡ settledNotice (countedIn (rulesOf book) (now (octets .entry))) desk ⌝ }
 {
     let old = desk.places;
-    let change = change_of(octets);
+    let change = change_of(book, octets);
     if is_full(old, change) {
         refused_with(21, desk)
     } else {
         let number = desk.waiting;
         let light = desk.lamp;
-        let waiting = waiting_after(number, octets);
-        let lamp = lamp_after(light, octets);
+        let waiting = waiting_after(book, number, octets);
+        let lamp = lamp_after(book, light, octets);
         let places = places_after(old, change);
         Outcome {
             desk: Desk {
@@ -279,12 +280,12 @@ fn settle_notice(desk: Desk, octets: &[u8]) -> Outcome
 }
 
 // A call message changes nothing.
-fn settle_message(desk: Desk, octets: &[u8]) -> Outcome
-    requires { ⌜ Accepts document01 (now octets) ⌝ }
-    ensures { λ r. ⌜ r ≡ settledMessage (now (octets .entry)) desk ⌝ }
+fn settle_message(book: Book, desk: Desk, octets: &[u8]) -> Outcome
+    requires { ⌜ Accepts (rulesOf book) (now octets) ⌝ }
+    ensures { λ r. ⌜ r ≡ settledMessage (rulesOf book) (now (octets .entry)) desk ⌝ }
 {
     if octets[0] == 0x82 {
-        settle_notice(desk, octets)
+        settle_notice(book, desk, octets)
     } else {
         Outcome {
             desk,
@@ -293,16 +294,16 @@ fn settle_message(desk: Desk, octets: &[u8]) -> Outcome
     }
 }
 
-// A desk with a place out of range or a reference twice is 17; octets that the whole read declines with 1 to 8 get that number; 21 where a reference has no
+// A desk with a place out of range or a reference twice is 17; octets that the whole read declines with 1 to 8 or 10 get that number; 21 where a reference has no
 // place. With each the desk comes back as it was.
-pub fn settle(desk: Desk, octets: &[u8]) -> Outcome
-    ensures { λ r. ⌜ r ≡ settleOf document01 desk (now (octets .entry)) ⌝ }
+pub fn settle(book: Book, desk: Desk, octets: &[u8]) -> Outcome
+    ensures { λ r. ⌜ r ≡ settleOf (rulesOf book) desk (now (octets .entry)) ⌝ }
 {
     let places = desk.places;
     if places_fit(places) {
-        let verdict = message::judge(octets);
+        let verdict = message::judge(book, octets);
         match verdict {
-            Verdict::Accepted { size } => settle_message(desk, octets),
+            Verdict::Accepted { size } => settle_message(book, desk, octets),
             Verdict::Declined { fault } => Outcome {
                 desk,
                 answer: Answer::Refused(fault),

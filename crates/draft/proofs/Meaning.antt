@@ -1,4 +1,4 @@
--- Contents read and said again, and a value said and read again, are the same, for rules whose classes are drawn as the kinds of value ask.
+-- Contents read and said again, and a value said and read again, are the same: one law for each class.
 -- Assumes nothing.
 use Prim.Native.Nat.{ℕ, zero, suc, _+_, _*_, _-_, _/_, _%_, _≤_}
 use mathlib.Core.Path.{_≡_, refl, sym, _∙_, ap, ap₂, subst}
@@ -7,13 +7,13 @@ use native.Mathlib.Omega.{arith}
 use lib.Dec.{T}
 use Rattle.rules.specs.Tests.{both, le-of}
 use Rattle.rules.specs.Octets.{Octets}
-use Rattle.rules.specs.Contents.{Range, Shape, pairs, columns, text, within, digit, pairFits, pairsFit, columnsFit, contentsFit}
-use Rattle.rules.specs.Table.{Rules, classOf, shapeOf, shape01, shapeNarrow, document01, narrow, formOf}
+use Rattle.rules.specs.Contents.{Range, within, digit, pairFits, pairsFit, columnsFit}
+use Rattle.rules.specs.Table.{formOf, whole, contentsFit}
 use Rattle.rules.specs.declared.Form.{Form}
 use Rattle.rules.specs.declared.Form.the-variants.{DateValue, CodeValue, StateValue, TextValue, CarriedValue}
 use Rattle.rules.specs.declared.Class.{Class}
 use Rattle.rules.specs.declared.Class.the-variants as class
-use Rattle.draft.specs.Meaning.{formNumber, kindOf, Meaning, formIs, tens, ones, spelled, numberOf, pairAt, meant, dateIs, codeIs, stateIs, textIs, carriedIs}
+use Rattle.draft.specs.Meaning.{formNumber, Meaning, formIs, tens, ones, spelled, numberOf, pairAt, meant, dateIs, codeIs, stateIs, textIs, carriedIs}
 
 -- ---- kinds of value apart
 formAt : ℕ → Form
@@ -41,50 +41,6 @@ form-meant CodeValue v = refl
 form-meant StateValue v = refl
 form-meant TextValue v = refl
 form-meant CarriedValue v = refl
-
--- ---- what the kinds of value ask of the rules: four pairs of digits, one column or three, texts
-pub data Drawn : Shape → Form → Type 0 where
-  date : {a b c d : Range} → Drawn (pairs (a ∷ b ∷ c ∷ d ∷ [])) DateValue
-  code : {a : List Range} → Drawn (columns (a ∷ [])) CodeValue
-  state : {a b c : List Range} → Drawn (columns (a ∷ b ∷ c ∷ [])) StateValue
-  words : {ls s : List Range} → Drawn (text ls s) TextValue
-  others : {ls s : List Range} → Drawn (text ls s) CarriedValue
-
--- the contents of each class are of the class's kind of value
-abbrev pub DrawnRules : Rules → Type 0
-DrawnRules R = (c : Class) → Drawn (R .shape c) (formOf c)
-
-pub document01-drawn : DrawnRules document01
-unfolding document01 shape01 formOf
-document01-drawn class.Date = date
-document01-drawn class.Number = words
-document01-drawn class.Absent = code
-document01-drawn class.Name = words
-document01-drawn class.Lamp = code
-document01-drawn class.Identity = state
-document01-drawn class.CallType = code
-document01-drawn class.Waiting = code
-document01-drawn class.Forwarded = code
-document01-drawn class.User = code
-document01-drawn class.Carried = others
-
-pub narrow-drawn : DrawnRules narrow
-unfolding narrow shapeNarrow shape01 formOf
-narrow-drawn class.Date = date
-narrow-drawn class.Number = words
-narrow-drawn class.Absent = code
-narrow-drawn class.Name = words
-narrow-drawn class.Lamp = code
-narrow-drawn class.Identity = state
-narrow-drawn class.CallType = code
-narrow-drawn class.Waiting = code
-narrow-drawn class.Forwarded = code
-narrow-drawn class.User = code
-narrow-drawn class.Carried = others
-
-pub drawn : (R : Rules) → DrawnRules R → (t : ℕ) → Drawn (shapeOf R t) (kindOf R t)
-unfolding shapeOf kindOf
-drawn R D t = D (classOf R t)
 
 -- ---- two digits come off the contents of a date
 low-half : (a : ℕ) → 48 ≤ a → a ≤ 57 → a % 16 ≡ a - 48
@@ -139,19 +95,27 @@ date-back a b c d v f =
     let e : p .a ∷ p .b ∷ q .a ∷ q .b ∷ r .a ∷ r .b ∷ s .a ∷ s .b ∷ [] ≡ v = cc (no-pairs (s .rest) (s .fits)) in
     subst (λ (v : List ℕ). spelled (meant DateValue v) ≡ v) e (cc)
 
-pub spelled-meant : {c : Shape} {s : Form} → Drawn c s → (v : List ℕ) → Octets v → T (contentsFit c v) → spelled (meant s v) ≡ v
-unfolding meant spelled contentsFit columnsFit
-spelled-meant (date {a = a} {b = b} {c = c} {d = d}) v o f = date-back a b c d v f
-spelled-meant code [] o f = absurd f
-spelled-meant code (x ∷ []) o f = refl
-spelled-meant code (x ∷ y ∷ v) o f = absurd (both _ _ f .1)
-spelled-meant state [] o f = absurd f
-spelled-meant state (x ∷ []) o f = absurd (both _ _ f .1)
-spelled-meant state (x ∷ y ∷ []) o f = absurd (both _ _ (both _ _ f .1) .1)
-spelled-meant state (x ∷ y ∷ z ∷ []) o f = ap₂ (λ (p q : ℕ). x ∷ p ∷ q ∷ []) (omega arith) (omega arith)
-spelled-meant state (x ∷ y ∷ z ∷ u ∷ v) o f = absurd (both _ _ (both _ _ (both _ _ f .1) .1) .1)
-spelled-meant words v o f = refl
-spelled-meant others v o f = refl
+code-back : (a : List Range) (v : List ℕ) → T (columnsFit (a ∷ []) v) → spelled (meant CodeValue v) ≡ v
+unfolding meant spelled columnsFit
+code-back a [] f = absurd f
+code-back a (x ∷ []) f = refl
+code-back a (x ∷ y ∷ v) f = absurd (both _ _ f .1)
+
+state-back : (a b c : List Range) (v : List ℕ) → Octets v → T (columnsFit (a ∷ b ∷ c ∷ []) v) → spelled (meant StateValue v) ≡ v
+unfolding meant spelled columnsFit
+state-back a b c [] o f = absurd f
+state-back a b c (x ∷ []) o f = absurd (both _ _ f .1)
+state-back a b c (x ∷ y ∷ []) o f = absurd (both _ _ (both _ _ f .1) .1)
+state-back a b c (x ∷ y ∷ z ∷ []) o f = ap₂ (λ (p q : ℕ). x ∷ p ∷ q ∷ []) (omega arith) (omega arith)
+state-back a b c (x ∷ y ∷ z ∷ u ∷ v) o f = absurd (both _ _ (both _ _ (both _ _ f .1) .1) .1)
+
+text-back : (v : List ℕ) → spelled (meant TextValue v) ≡ v
+unfolding meant spelled
+text-back v = refl
+
+carried-back : (v : List ℕ) → spelled (meant CarriedValue v) ≡ v
+unfolding meant spelled
+carried-back v = refl
 
 -- ---- a value said by legal contents and read again
 two : (n : ℕ) → tens n ≤ 57 → numberOf (tens n) (ones n) ≡ n
@@ -175,10 +139,48 @@ date-said a b c d m y h n f =
     let δ : tens n ≤ 57 = omega (arith, s .high) in
     λ z. dateIs (two m α z) (two y β z) (two h γ z) (two n δ z)
 
-pub meant-spelled : (m : Meaning) {c : Shape} → Drawn c (formIs m) → T (contentsFit c (spelled m)) → meant (formIs m) (spelled m) ≡ m
-unfolding meant spelled formIs contentsFit
-meant-spelled (dateIs m y h n) (date {a = a} {b = b} {c = c} {d = d}) f = date-said a b c d m y h n f
-meant-spelled (codeIs x) d f = refl
-meant-spelled (stateIs s r) d f = ap (stateIs s) (omega arith)
-meant-spelled (textIs v) d f = refl
-meant-spelled (carriedIs v) d f = refl
+date-read : (a b c d : Range) (m : Meaning) → formIs m ≡ DateValue → T (pairsFit (a ∷ b ∷ c ∷ d ∷ []) (spelled m)) → meant DateValue (spelled m) ≡ m
+unfolding formIs formNumber
+date-read a b c d (dateIs m y h n) e f = date-said a b c d m y h n f
+date-read a b c d (codeIs x) e f = absurd (omega (arith, ap formNumber e))
+date-read a b c d (stateIs s r) e f = absurd (omega (arith, ap formNumber e))
+date-read a b c d (textIs v) e f = absurd (omega (arith, ap formNumber e))
+date-read a b c d (carriedIs v) e f = absurd (omega (arith, ap formNumber e))
+
+-- all but a date are read as they are said, whatever says them
+other-read : (m : Meaning) → (formNumber (formIs m) ≡ 1 → ⊥) → meant (formIs m) (spelled m) ≡ m
+unfolding meant spelled formIs formNumber
+other-read (dateIs m y h n) e = absurd (e refl)
+other-read (codeIs x) e = refl
+other-read (stateIs s r) e = ap (stateIs s) (omega arith)
+other-read (textIs v) e = refl
+other-read (carriedIs v) e = refl
+
+-- ---- the law of a class: its contents read and said again are the same, and so is a value of its kind that contents of it say
+pub record Drawn (c : Class) : Type 0 where
+  pub said : (v : List ℕ) → Octets v → T (contentsFit c v) → spelled (meant (formOf c) v) ≡ v
+  pub read : (m : Meaning) → formIs m ≡ formOf c → T (contentsFit c (spelled m)) → meant (formOf c) (spelled m) ≡ m
+
+-- of a class without dates
+no-date : (c : Class) → (formNumber (formOf c) ≡ 1 → ⊥) → ((v : List ℕ) → Octets v → T (contentsFit c v) → spelled (meant (formOf c) v) ≡ v) → Drawn c
+no-date c n s = record { said = s; read = λ m e f. subst (λ (k : Form). meant k (spelled m) ≡ m) e (other-read m (λ d. n (ap formNumber (sym e) ∙ d))) }
+
+-- each class is drawn as its kind of value asks
+pub drawn : (c : Class) → Drawn c
+unfolding whole formOf formNumber
+drawn class.Date = record { said = λ v o f. date-back _ _ _ _ v f; read = λ m e f. date-read _ _ _ _ m e f }
+drawn class.Number = no-date class.Number (λ e. omega arith) (λ v o f. text-back v)
+drawn class.Absent = no-date class.Absent (λ e. omega arith) (λ v o f. code-back _ v f)
+drawn class.Name = no-date class.Name (λ e. omega arith) (λ v o f. text-back v)
+drawn class.Lamp = no-date class.Lamp (λ e. omega arith) (λ v o f. code-back _ v f)
+drawn class.Identity = no-date class.Identity (λ e. omega arith) (λ v o f. state-back _ _ _ v o f)
+drawn class.CallType = no-date class.CallType (λ e. omega arith) (λ v o f. code-back _ v f)
+drawn class.Waiting = no-date class.Waiting (λ e. omega arith) (λ v o f. code-back _ v f)
+drawn class.Forwarded = no-date class.Forwarded (λ e. omega arith) (λ v o f. code-back _ v f)
+drawn class.User = no-date class.User (λ e. omega arith) (λ v o f. code-back _ v f)
+drawn class.Carried = no-date class.Carried (λ e. omega arith) (λ v o f. carried-back v)
+drawn class.OldNumber = no-date class.OldNumber (λ e. omega arith) (λ v o f. text-back v)
+drawn class.ShortText = no-date class.ShortText (λ e. omega arith) (λ v o f. text-back v)
+drawn class.OldForwarded = no-date class.OldForwarded (λ e. omega arith) (λ v o f. code-back _ v f)
+drawn class.OldUser = no-date class.OldUser (λ e. omega arith) (λ v o f. code-back _ v f)
+drawn class.Unlisted = no-date class.Unlisted (λ e. omega arith) (λ v o f. carried-back v)

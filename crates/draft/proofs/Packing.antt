@@ -8,11 +8,12 @@ use lib.ListN.{length, length-append, length-drop, take, drop, replicate}
 use lib.Seq.{take-append-seam, drop-append-seam, drop-drop}
 use lib.Dec.{T}
 use Rattle.rules.specs.Tests.{every, join, of-le}
-use Rattle.rules.specs.Table.{Rules, shapeOf}
-use Rattle.rules.specs.ContentLaw.{SoundRules, sound-shape, fit-octets}
+use Rattle.rules.specs.Table.{Rules, classOf}
+use Rattle.rules.specs.ClassLaw.{fit-octets}
+use Rattle.rules.specs.ContentLaw.{lawful}
 use Rattle.rules.specs.Message.{Parameter, Message, LegalParameter, AllLegal, LegalMessage, most}
-use Rattle.draft.specs.Meaning.{Meaning, dateIs, codeIs, stateIs, textIs, carriedIs, spelled, textIn}
-use Rattle.draft.proofs.Meaning.{DrawnRules, drawn, spelled-meant}
+use Rattle.draft.specs.Meaning.{kindOf, Meaning, dateIs, codeIs, stateIs, textIs, carriedIs, spelled, textIn}
+use Rattle.draft.proofs.Meaning.{drawn}
 use Rattle.draft.specs.Draft.{noEntry, meaningOf, inside, parameterOf, parametersOf, Said, saidOf, allSaid, allInside, used, messageOf, Equal}
 use Rattle.draft.specs.declared.Entry.{Entry}
 use Rattle.draft.specs.declared.Draft.{Draft}
@@ -92,11 +93,11 @@ equal-stand a s b t e =
     ap₂ (λ (k : ℕ) (ps : List Parameter). record { kind = k; parameters = ps }) (e .kind)
     (parameters-said s (used a) ∙ ap spellAll (e .entries) ∙ sym (parameters-said t (used b)))
 
-module _ (R : Rules) (S : SoundRules R) (D : DrawnRules R) where
+module _ (R : Rules) where
   -- contents read and said again
   pub said-again : (p : Parameter) → LegalParameter R p → spelled (meaningIn R p) ≡ p .contents
-  unfolding meaningIn
-  said-again p l = spelled-meant (drawn R D (p .kind)) (p .contents) (fit-octets (shapeOf R (p .kind)) (sound-shape R S (p .kind)) (p .contents) (l .fits)) (l .fits)
+  unfolding meaningIn kindOf
+  said-again p l = let c = classOf R (p .kind) in drawn c .said (p .contents) (fit-octets (lawful c) (p .contents) (l .fits)) (l .fits)
 
   pub spell-meant : (ps : List Parameter) → AllLegal R ps → spellAll (allMeant R ps) ≡ ps
   unfolding spellAll allMeant

@@ -1,23 +1,22 @@
 -- A record and what it stands for are each other's inverse: decode (encode l) is l, and encode (decode r) is r where r decodes.
 -- Assumes nothing.
-use mathlib.Core.Path.{_≡_, refl, sym, _∙_, ap}
+use mathlib.Core.Path.{_≡_, refl, sym, _∙_, ap, subst}
+use mathlib.Core.Bool.{Bool}
 use mathlib.Core.List.{List, [], _∷_}
-use Prim.Native.Nat.{ℕ, zero, suc, _+_, _*_, _/_, _%_, _≤_, _<_}
+use Prim.Native.Nat.{ℕ, _+_, _*_, _/_, _%_, _≤_}
 use native.Mathlib.Omega.{arith}
-use lib.Dec.{T}
-use lib.ListN.{length, getD}
+use lib.ListN.{length}
 use Rattle.rules.specs.Tests.{clash, _≤?_, _=?_, pick, picked-by, pick-yes, of-eq, eq-of, of-le, le-of}
 use Rattle.rules.specs.Octets.{Octets}
-use Rattle.rules.specs.Codes.{classCode, classCoded, coded-code, code-coded, code-small}
+use Rattle.rules.specs.Codes.{lastPresent, classCode, classCoded, coded-code, code-coded}
+use Rattle.rules.specs.declared.Book.the-variants.{PresentLenient}
 use Rattle.rules.specs.declared.Class.{Class}
-use Rattle.rules.specs.declared.Spot.{Spot}
-use Rattle.rules.specs.declared.Stage.{Stage}
 use Rattle.rules.specs.declared.Stage.the-variants.{Kind, Size, Header, Length, Content}
 use Rattle.rules.specs.declared.State.{State}
 use Rattle.rules.specs.declared.State.the-variants.{Waiting, Message, Refused}
 use Rattle.listener.specs.declared.Listener.{Listener}
+use Rattle.firmware.proofs.Classes.{Coded}
 use Rattle.firmware.specs.declared.Fields.{Fields}
-use Rattle.firmware.specs.declared.Decoded.{Decoded}
 use Rattle.firmware.specs.declared.Decoded.the-variants.{Known, Unknown}
 use Rattle.firmware.specs.Record.{fieldsOf, fieldsWaiting, fieldsAt, fieldsEnded, fieldsFor, laidFields, recordOf, known, spotOf, openingOf, parameterOf, endedOf, stateOf, decodeOf}
 
@@ -30,17 +29,17 @@ unfolding decodeOf
 known-size c l e = picked-by (length c ≡ 16) _ _ _ _ e (λ t _. eq-of _ _ t) (λ _ e. absurd (unknown-not l e))
 
 -- ---- decode (encode l) is l
-state-fields : (s : State) → stateOf (fieldsFor s) ≡ Known (record { state = s })
+state-fields : (s : State) → Coded s → stateOf (fieldsFor s) ≡ Known (record { book = PresentLenient; state = s })
 unfolding stateOf fieldsFor fieldsAt fieldsWaiting fieldsEnded openingOf parameterOf endedOf pick _≤?_ _=?_ known
-state-fields (Waiting Kind q) = refl
-state-fields (Waiting Size q) = refl
-state-fields (Waiting (Header r) q) = refl
-state-fields (Waiting (Length c r) q) =
-    pick-yes (classCode c ≤? 10) (Known (record { state = Waiting (Length (classCoded (classCode c)) r) q })) Unknown (of-le _ _ (code-small c)) ∙ ap (λ (d : Class). Known (record { state = Waiting (Length d r) q })) (coded-code c)
-state-fields (Waiting (Content c n i m r) q) =
-    pick-yes (classCode c ≤? 10) (Known (record { state = Waiting (Content (classCoded (classCode c)) n i m r) q })) Unknown (of-le _ _ (code-small c)) ∙ ap (λ (d : Class). Known (record { state = Waiting (Content d n i m r) q })) (coded-code c)
-state-fields (Message n) = refl
-state-fields (Refused f) = refl
+state-fields (Waiting Kind q) h = refl
+state-fields (Waiting Size q) h = refl
+state-fields (Waiting (Header r) q) h = refl
+state-fields (Waiting (Length c r) q) h =
+    pick-yes (classCode c ≤? lastPresent) (Known (record { book = PresentLenient; state = Waiting (Length (classCoded (classCode c)) r) q })) Unknown (of-le _ _ h) ∙ ap (λ (d : Class). Known (record { book = PresentLenient; state = Waiting (Length d r) q })) (coded-code c)
+state-fields (Waiting (Content c n i m r) q) h =
+    pick-yes (classCode c ≤? lastPresent) (Known (record { book = PresentLenient; state = Waiting (Content (classCoded (classCode c)) n i m r) q })) Unknown (of-le _ _ h) ∙ ap (λ (d : Class). Known (record { book = PresentLenient; state = Waiting (Content d n i m r) q })) (coded-code c)
+state-fields (Message n) h = refl
+state-fields (Refused f) h = refl
 
 fields-laid : (f : Fields) → f .spare ≡ 0 → fieldsOf (laidFields f) ≡ f
 unfolding fieldsOf laidFields
@@ -62,19 +61,50 @@ laid-size : (f : Fields) → length (laidFields f) ≡ 16
 unfolding laidFields
 laid-size f = refl
 
-pub decode-encode : (l : Listener) → decodeOf (recordOf l) ≡ Known l
+pub decode-encode : (l : Listener) → l .book ≡ PresentLenient → Coded (l .state) → decodeOf (recordOf l) ≡ Known l
 unfolding decodeOf recordOf
-decode-encode l =
+decode-encode l b h =
     pick-yes _ _ _ (of-eq _ _ (laid-size (fieldsFor (l .state))))
     ∙ ap stateOf (fields-laid (fieldsFor (l .state)) (no-spare (l .state)))
-    ∙ state-fields (l .state)
+    ∙ state-fields (l .state) h
+    ∙ (λ i. Known (record { book = sym b i; state = l .state }))
+
+-- ---- what a record decodes to is of the present edition
+abbrev pub Good : Listener → Type 0
+Good l = (l .book ≡ PresentLenient) × Coded (l .state)
+
+known-good : (ok : Bool) (s : State) (l : Listener) → Coded s → known ok s ≡ Known l → Good l
+unfolding known
+known-good ok s l h e =
+    picked-by (Good l) _ _ _ _ e
+    (λ _ d. let z : _≡_ {A = Listener} (record { book = PresentLenient; state = s }) l = cc in subst Good z (refl, h))
+    (λ _ d. absurd (unknown-not l d))
+
+state-good : (f : Fields) (l : Listener) → stateOf f ≡ Known l → Good l
+unfolding stateOf openingOf parameterOf endedOf
+state-good f l e =
+    picked-by (Good l) _ _ _ _ e
+    (λ _ e. picked-by (Good l) _ _ _ _ e (λ _ e. known-good _ _ l tt e) (λ _ e. picked-by (Good l) _ _ _ _ e (λ _ e. known-good _ _ l tt e) (λ _ e. known-good _ _ l tt e)))
+    (λ _ e.
+    picked-by (Good l) _ _ _ _ e
+    (λ _ e.
+    picked-by (Good l) _ _ _ _ e
+    (λ t e.
+    let h : classCode (classCoded (f .class)) ≤ lastPresent = let k = le-of _ _ t in omega (arith, code-coded (f .class) (omega arith)) in
+    picked-by (Good l) _ _ _ _ e (λ _ e. known-good _ _ l h e) (λ _ e. known-good _ _ l h e))
+    (λ _ e. absurd (unknown-not l e)))
+    (λ _ e. picked-by (Good l) _ _ _ _ e (λ _ e. known-good _ _ l tt e) (λ _ e. picked-by (Good l) _ _ _ _ e (λ _ e. known-good _ _ l tt e) (λ _ e. absurd (unknown-not l e)))))
+
+pub decoded-good : (c : List ℕ) (l : Listener) → decodeOf c ≡ Known l → Good l
+unfolding decodeOf
+decoded-good c l e = picked-by (Good l) _ _ _ _ e (λ _ e. state-good (fieldsOf c) l e) (λ _ e. absurd (unknown-not l e))
 
 -- ---- encode (decode c) is c, where c decodes
 known-is : (n : ℕ) (s : State) (l : Listener) → known (n =? 0) s ≡ Known l → (n ≡ 0) × (l .state ≡ s)
 unfolding known
 known-is n s l e =
     picked-by _ _ _ _ _ e
-    (λ t d. let k : _≡_ {A = Listener} (record { state = s }) l = cc in (eq-of _ _ t, sym (ap (λ (x : Listener). x .state) k)))
+    (λ t d. let k : _≡_ {A = Listener} (record { book = PresentLenient; state = s }) l = cc in (eq-of _ _ t, sym (ap (λ (x : Listener). x .state) k)))
     (λ _ d. absurd (unknown-not l d))
 
 third : (n : ℕ) → n ≤ 2 → (n ≡ 0 → ⊥) → (n ≡ 1 → ⊥) → n ≡ 2
@@ -109,7 +139,7 @@ module _ (f : Fields) (l : Listener) where
   parameter-back h g e =
       picked-by Back _ _ _ _ e
       (λ t e.
-      let c = code-coded (f .class) (le-of _ _ t) in
+      let c = code-coded (f .class) (let k = le-of _ _ t in omega arith) in
       picked-by Back _ _ _ _ e
       (λ t e. let k = eq-of _ _ t in let n = known-is _ _ l e in rw (n .1) (same-fields _ f (omega arith) refl refl c (omega arith) (omega arith) (omega arith) refl (omega arith) (omega arith)))
       (λ b e.

@@ -1,23 +1,21 @@
 -- What decoding and encoding a record want.
 -- Assumes nothing.
-use mathlib.Core.Path.{_≡_, refl, sym, _∙_, ap}
-use mathlib.Core.Bool.{Bool, true, false}
-use mathlib.Core.List.{List, [], _∷_, _++_, append-nil}
+use mathlib.Core.Path.{_≡_, sym, _∙_, ap}
+use mathlib.Core.List.{List, _++_, append-nil}
 use Prim.Native.Nat.{ℕ, _+_, _≤_}
 use native.Mathlib.Omega.{arith}
-use lib.Dec.{T, eqb}
+use lib.Dec.{eqb}
 use lib.ListN.{length, drop-of-length-le}
 use lib.Seq.{sets, sets-eq}
-use Rattle.rules.specs.Tests.{_=?_, pick, picked, eq-of}
+use Rattle.rules.specs.Tests.{_=?_}
 use Rattle.rules.specs.declared.State.{State}
-use Rattle.rules.specs.Table.{document01}
 use Rattle.listener.specs.declared.Listener.{Listener}
 use Rattle.listener.specs.declared.Heard.{Heard}
 use Rattle.firmware.specs.declared.Outcome.{Outcome}
 use Rattle.listener.specs.Heard.{numberOf, placeOf, sizeOf, heardOf}
 use Rattle.firmware.specs.declared.Decoded.{Decoded}
 use Rattle.firmware.specs.declared.Decoded.the-variants.{Known, Unknown}
-use Rattle.firmware.specs.Record.{known, stateOf, fieldsOf, decodeOf, recordOf}
+use Rattle.firmware.specs.Record.{known, decodeOf, recordOf}
 use Rattle.firmware.specs.Word.{packed}
 use Rattle.firmware.specs.Exports.{badRecord, wordOf, outcomeOf, answered, recorded, listenAnswer, listenRecord}
 
@@ -42,6 +40,6 @@ module _ (c o : List ℕ) (got : Decoded) (p : got ≡ decodeOf c) where
   unfolding listenAnswer listenRecord answered recorded
   unknown-answers r q g = let e : decodeOf c ≡ Unknown = sym p ∙ q in (rw e g, rw e)
 
-pub outcome : (l : Listener) (o : List ℕ) (h : Heard) (w : ℕ) → h ≡ heardOf document01 l o → w ≡ packed (numberOf (h .answer)) (placeOf (h .answer)) (sizeOf (h .answer)) (h .taken) → _≡_ {A = Outcome} (record { listener = h .listener; word = w }) (outcomeOf l o)
+pub outcome : (l : Listener) (o : List ℕ) (h : Heard) (w : ℕ) → h ≡ heardOf l o → w ≡ packed (numberOf (h .answer)) (placeOf (h .answer)) (sizeOf (h .answer)) (h .taken) → _≡_ {A = Outcome} (record { listener = h .listener; word = w }) (outcomeOf l o)
 unfolding outcomeOf wordOf
 outcome l o h w e f = rw (f, e)

@@ -8,7 +8,8 @@ use native.Mathlib.Numerals.{add-one}
 use native.Mathlib.Omega.{arith}
 use lib.ListN.{length, length-set, take, drop, set, getD}
 use lib.Seq.{take-all, take-suc, take-suc-set, drop-drop}
-use Rattle.rules.specs.Table.{document01}
+use Rattle.rules.specs.Table.{rulesOf}
+use Rattle.rules.specs.declared.Book.the-variants.{PresentLenient}
 use Rattle.rules.specs.Returns.{pick-t, pick-f, via}
 use Rattle.desk.specs.declared.Desk.{Desk}
 use Rattle.desk.specs.declared.Outcome.{Outcome}
@@ -109,10 +110,10 @@ first-four (p ∷ q ∷ r ∷ s ∷ cells) h a b x y = refl
 
 -- ---- settling
 module _ (c o : List ℕ) (b : Bool) (p : b ≡ isRecord c) where
-  pub settles-known : b ≡ true → (d : Desk) (x : Outcome) (w : ℕ) (last : List ℕ) → d ≡ deskIn c → x ≡ settleOf document01 d o → w ≡ deskWord (x .answer) → last ≡ deskRecord (x .desk) → (w ≡ settleAnswer c o) × (last ≡ settleRecord c o)
+  pub settles-known : b ≡ true → (d : Desk) (x : Outcome) (w : ℕ) (last : List ℕ) → d ≡ deskIn c → x ≡ settleOf (rulesOf PresentLenient) d o → w ≡ deskWord (x .answer) → last ≡ deskRecord (x .desk) → (w ≡ settleAnswer c o) × (last ≡ settleRecord c o)
   unfolding settleAnswer settleRecord
   settles-known t d x w last q k f g =
-      let e : x ≡ settleOf document01 (deskIn c) o = k ∙ ap (λ (y : Desk). settleOf document01 y o) q in (
+      let e : x ≡ settleOf (rulesOf PresentLenient) (deskIn c) o = k ∙ ap (λ (y : Desk). settleOf (rulesOf PresentLenient) y o) q in (
         pick-t _ _ _ _ (via _ _ _ p t) (f ∙ ap (λ (y : Outcome). deskWord (y .answer)) e),
         pick-t _ _ _ _ (via _ _ _ p t) (g ∙ ap (λ (y : Outcome). deskRecord (y .desk)) e),
       )

@@ -10,7 +10,8 @@ use lib.Seq.{take-append-add, drop-append-add, take-nil, drop-nil, set-split, ta
 use lib.Dec.{T}
 use Rattle.rules.specs.Message.{most}
 use Rattle.rules.specs.Tests.{_=?_, pick, le-of}
-use Rattle.rules.specs.Table.{document01}
+use Rattle.rules.specs.Table.{rulesOf}
+use Rattle.rules.specs.declared.Book.the-variants.{PresentLenient}
 use Rattle.draft.specs.declared.Value.{Value}
 use Rattle.draft.specs.declared.Value.the-variants.{Date, Code, State, Text, Carried}
 use Rattle.draft.specs.declared.Entry.{Entry}
@@ -86,13 +87,13 @@ put-entry es i e h =
 module _ (o : List ℕ) where
   pub record Recorded (count at used : ℕ) (cells : List ℕ) : Type 0 where
     pub entries : List Entry
-    pub filled : Filled document01 o count at used entries
+    pub filled : Filled (rulesOf PresentLenient) o count at used entries
     pub cells-are : cells ≡ zeros ++ entriesCells entries
 
   pub recorded-first : (cells : List ℕ) → cells ≡ replicate 688 0 → Recorded 0 2 0 cells
   recorded-first cells e = record {
     entries = replicate most noEntry;
-    filled = filled-first document01 o;
+    filled = filled-first (rulesOf PresentLenient) o;
     cells-are = e ∙ sym (replicate-append-replicate 8 680 0) ∙ ap (λ (l : List ℕ). zeros ++ l) (sym (none-cells most));
   }
 
@@ -105,20 +106,20 @@ module _ (o : List ℕ) where
     pub recorded-long : length cells ≡ 688
     recorded-long = omega (arith, ap length (w .cells-are), length-append zeros (entriesCells (w .entries)), cells-length (w .entries), w .filled .long)
 
-    module _ (h : count < most) (e : Entry) (n place : ℕ) (t : taken.Next e n place ≡ entryAt document01 o at used) where
+    module _ (h : count < most) (e : Entry) (n place : ℕ) (t : taken.Next e n place ≡ entryAt (rulesOf PresentLenient) o at used) where
       pub recorded-small : used + n ≤ length o
-      recorded-small = filled-small document01 o count at used (w .entries) (w .filled) h e n place t
+      recorded-small = filled-small (rulesOf PresentLenient) o count at used (w .entries) (w .filled) h e n place t
 
       pub recorded-more : (next : List ℕ) → next ≡ laidAt (entryCells e) (8 + 8 * count) cells → Recorded (count + 1) place (used + n) next
       recorded-more next p = record {
         entries = set (w .entries) count e;
-        filled = filled-more document01 o count at used (w .entries) (w .filled) h e n place t;
+        filled = filled-more (rulesOf PresentLenient) o count at used (w .entries) (w .filled) h e n place t;
         cells-are = p ∙ ap (laidAt (entryCells e) (8 + 8 * count)) (w .cells-are) ∙ put-entry (w .entries) count e (omega (arith, w .filled .long));
       }
 
-    pub recorded-end : left o count at ≡ [] → (count ≡ draftOf document01 (messageIn o) .count) × (cells ≡ zeros ++ entriesCells (draftOf document01 (messageIn o) .entries))
+    pub recorded-end : left o count at ≡ [] → (count ≡ draftOf (rulesOf PresentLenient) (messageIn o) .count) × (cells ≡ zeros ++ entriesCells (draftOf (rulesOf PresentLenient) (messageIn o) .entries))
     recorded-end e =
-        let z = filled-end document01 o count at used (w .entries) (w .filled) (record { kind = getD o 0 0; count = count; entries = w .entries }) refl refl refl e in
+        let z = filled-end (rulesOf PresentLenient) o count at used (w .entries) (w .filled) (record { kind = getD o 0 0; count = count; entries = w .entries }) refl refl refl e in
         (ap (λ (d : Draft). d .count) z, w .cells-are ∙ ap (λ (d : Draft). zeros ++ entriesCells (d .entries)) z)
 
 -- the header over eight octets of 0
@@ -126,11 +127,11 @@ pub headed : (d : Draft) (cells : List ℕ) (kind count : ℕ) → kind ≡ d .k
 unfolding draftRecord
 headed d cells kind count k n e = ap (λ (l : List ℕ). set (set l 0 kind) 1 count) e ∙ (λ i. k i ∷ n i ∷ 0 ∷ 0 ∷ 0 ∷ 0 ∷ 0 ∷ 0 ∷ entriesCells (d .entries))
 
-pub kind-of : (o : List ℕ) → getD o 0 0 ≡ draftOf document01 (messageIn o) .kind
+pub kind-of : (o : List ℕ) → getD o 0 0 ≡ draftOf (rulesOf PresentLenient) (messageIn o) .kind
 unfolding draftOf messageIn
 kind-of o = refl
 
-pub count-small : (o : List ℕ) → draftOf document01 (messageIn o) .count ≤ most
+pub count-small : (o : List ℕ) → draftOf (rulesOf PresentLenient) (messageIn o) .count ≤ most
 unfolding draftOf messageIn parametersIn
 count-small o = parameters-few most o 2
 

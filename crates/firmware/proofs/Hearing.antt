@@ -7,9 +7,10 @@ use mathlib.Core.Logic.{_⊎_}
 use mathlib.Core.List.{List, [], _++_}
 use lib.ListN.{length, take}
 use Rattle.rules.specs.Octets.{Octets}
-use Rattle.rules.specs.Table.{document01}
+use Rattle.rules.specs.declared.Book.the-variants.{PresentLenient}
 use Rattle.rules.specs.Machine.{run}
 use Rattle.rules.specs.Judge.{machine}
+use Rattle.rules.specs.Language.{languageOf}
 use Rattle.listener.specs.Heard.{stopped, newListener}
 use Rattle.firmware.specs.Record.{recordOf}
 use Rattle.firmware.specs.Word.{wordNumber, wordTaken}
@@ -30,7 +31,7 @@ stands (new κs a r s p n) = reset-stands (a .0 .now) (s .0 .now) n (p .1)
 stands (more κs a r s p d o) = record-stands-on (a .0 .now) _ (stands d) (a .1 .0 .now) o r (p .0) (s .0 .now) (p .1)
 
 -- demand 3 in all its sentences, the octets taken too, read off the word
-pub demand3 : (κs : _) (a : _) (r : _) (s : _) {h : List ℕ} → listen.Post κs a r s → Heard (a .0 .now) h → Octets (a .1 .0 .now) → RecordHears h (a .1 .0 .now) r
+pub demand3 : (κs : _) (a : _) (r : _) (s : _) {h : List ℕ} → listen.Post κs a r s → Heard (a .0 .now) h → Octets (a .1 .0 .now) → RecordHears (languageOf PresentLenient) h (a .1 .0 .now) r
 demand3 κs a r s p d o = record-hears (a .0 .now) _ (stands d) (a .1 .0 .now) o r (p .0)
 
 -- a record from a reset and any octets is never 17: its numbers are 0 to 6
@@ -45,7 +46,7 @@ sound-or-seventeen κs a r s p o = sound-or-17 (a .0 .now) (a .1 .0 .now) r (s .
 pub numbers : (κs : _) (a : _) (r : _) (s : _) → listen.Post κs a r s → Sound (a .0 .now) → Octets (a .1 .0 .now) → wordNumber r ≤ 6
 numbers κs a r s p d o = sound-number (a .0 .now) d (a .1 .0 .now) o r (p .0)
 
-pub by-the-rule : (κs : _) (a : _) (r : _) (s : _) → listen.Post κs a r s → (d : Sound (a .0 .now)) → s .0 .now ≡ recordOf (record { state = run (machine document01) (d .listener .state) (a .1 .0 .now) })
+pub by-the-rule : (κs : _) (a : _) (r : _) (s : _) → listen.Post κs a r s → (d : Sound (a .0 .now)) → s .0 .now ≡ recordOf (record { book = PresentLenient; state = run (languageOf PresentLenient .machine) (d .listener .state) (a .1 .0 .now) })
 by-the-rule κs a r s p d = sound-steps (a .0 .now) d (a .1 .0 .now) (s .0 .now) (p .1)
 
 pub stays-sound : (κs : _) (a : _) (r : _) (s : _) → listen.Post κs a r s → Sound (a .0 .now) → Octets (a .1 .0 .now) → Sound (s .0 .now)
@@ -70,5 +71,5 @@ cut-anywhere κs₀ c r s p κs₁ a r₁ s₁ p₁ κs₂ b r₂ s₂ p₂ e₁
     o₂
 
 -- reset gives 0 and the record of a new listener, or 17 and the record as it was
-pub reset-is-new : (κs : _) (a : _) (r : _) (s : _) → reset.Post κs a r s → ((r ≡ 0) × (s .0 .now ≡ recordOf newListener)) ⊎ Seventeen (a .0 .now) r (s .0 .now)
+pub reset-is-new : (κs : _) (a : _) (r : _) (s : _) → reset.Post κs a r s → ((r ≡ 0) × (s .0 .now ≡ recordOf (newListener PresentLenient))) ⊎ Seventeen (a .0 .now) r (s .0 .now)
 reset-is-new κs a r s p = reset-number (a .0 .now) r (s .0 .now) (p .0) (p .1)

@@ -1,4 +1,5 @@
 -- The root of the proofs: what the decoding of a record wants.
+pub mod Classes
 pub mod Decoding
 pub mod Desking
 pub mod Drafting

@@ -10,16 +10,19 @@ use lib.ListN.{length, take}
 use lib.Dec.{T}
 use Rattle.rules.specs.Tests.{_=?_, pick-yes, pick-not, of-eq, decide, clash}
 use Rattle.rules.specs.Octets.{Octets, octets-append}
-use Rattle.rules.specs.Table.{document01}
+use Rattle.rules.specs.Table.{rulesOf}
+use Rattle.rules.specs.declared.Book.{Book}
+use Rattle.rules.specs.declared.Book.the-variants.{PresentLenient}
 use Rattle.rules.specs.Machine.{run}
 use Rattle.rules.specs.Judge.{machine, inRange}
-use Rattle.rules.specs.InRange.{in-range-run}
+use Rattle.rules.specs.Language.{in-range-run, languageOf}
+use Rattle.rules.specs.Calls.{spoken-of}
 use Rattle.rules.specs.declared.Fault.{Fault}
 use Rattle.listener.specs.declared.Listener.{Listener}
 use Rattle.listener.specs.declared.Answer.{Answer}
 use Rattle.listener.specs.declared.Answer.the-variants.{Waits, Message, Refused}
 use Rattle.listener.specs.declared.Heard.{Heard}
-use Rattle.listener.specs.Heard.{stopped, numberOf, placeOf, sizeOf, heardOf, newListener}
+use Rattle.listener.specs.Heard.{stopped, taken, answerOf, numberOf, placeOf, sizeOf, heardOf, newListener}
 use Rattle.listener.proofs.Hears as listening
 use Rattle.listener.proofs.Hears.{Ranged, ranged, waits-told, message-told, refused-told, taken-small, in-range-heard, out-of-range-heard, stands-in-range, stands-on, new-stands, hears}
 use Rattle.firmware.specs.declared.Decoded.{Decoded}
@@ -27,7 +30,8 @@ use Rattle.firmware.specs.declared.Decoded.the-variants.{Known, Unknown}
 use Rattle.firmware.specs.Record.{decodeOf, recordOf}
 use Rattle.firmware.specs.Word.{packed, wordNumber, wordTaken, Unpacked, unpacked}
 use Rattle.firmware.specs.Exports.{badRecord, resetAnswer, resetRecord, wordOf, answered, recorded, listenAnswer, listenRecord}
-use Rattle.firmware.proofs.Coding.{decode-encode, encode-decode}
+use Rattle.firmware.proofs.Coding.{Good, decode-encode, encode-decode, decoded-good}
+use Rattle.firmware.proofs.Classes.{Coded, run-coded, number-six}
 use Rattle.firmware.specs.RecordHears.{RecordHears, RecordStands, Sound, Seventeen, Again, SameEnd}
 
 -- the word of an answer is read back field by field
@@ -37,12 +41,6 @@ small-fields Waits g = (omega arith, omega arith, omega arith)
 small-fields (Message n) g = (omega arith, omega arith, omega arith)
 small-fields (Refused f) g = (omega arith, omega arith, omega arith)
 
-number-small : (a : Answer) → Ranged a → numberOf a ≤ 6
-unfolding numberOf
-number-small Waits g = omega arith
-number-small (Message n) g = omega arith
-number-small (Refused f) g = g .1
-
 read-back : (x : Heard) → Ranged (x .answer) → x .taken ≤ 258 → Unpacked (numberOf (x .answer)) (placeOf (x .answer)) (sizeOf (x .answer)) (x .taken) (wordOf x)
 unfolding wordOf
 read-back x g t = let b = small-fields (x .answer) g in unpacked _ _ _ _ (b .0) (b .1) (b .2) (omega arith)
@@ -51,12 +49,12 @@ read-back x g t = let b = small-fields (x .answer) g in unpacked _ _ _ _ (b .0) 
 pub sound-or-not : (c : List ℕ) → Sound c ⊎ (Sound c → ⊥)
 sound-or-not c = go (decodeOf c) refl
   where
-    in-or-out : (l : Listener) → decodeOf c ≡ Known l → T (inRange document01 (l .state)) ⊎ (T (inRange document01 (l .state)) → ⊥) → Sound c ⊎ (Sound c → ⊥)
+    in-or-out : (l : Listener) → decodeOf c ≡ Known l → T (inRange (rulesOf (l .book)) (l .state)) ⊎ (T (inRange (rulesOf (l .book)) (l .state)) → ⊥) → Sound c ⊎ (Sound c → ⊥)
     in-or-out l k (inl t) = inl (record { listener = l; known = k; in-range = t })
-    in-or-out l k (inr n) = inr (λ s. let e : Known (s .listener) ≡ Known l = sym (s .known) ∙ k in let z : s .listener ≡ l = cc in n (subst (λ (x : Listener). T (inRange document01 (x .state))) z (s .in-range)))
+    in-or-out l k (inr n) = inr (λ s. let e : Known (s .listener) ≡ Known l = sym (s .known) ∙ k in let z : s .listener ≡ l = cc in n (subst (λ (x : Listener). T (inRange (rulesOf (x .book)) (x .state))) z (s .in-range)))
 
     go : (y : Decoded) → decodeOf c ≡ y → Sound c ⊎ (Sound c → ⊥)
-    go (Known l) k = in-or-out l k (decide (inRange document01 (l .state)))
+    go (Known l) k = in-or-out l k (decide (inRange (rulesOf (l .book)) (l .state)))
     go Unknown k = inr (λ s. clash (cc (s .known, k)))
 
 seventeen : (c : List ℕ) (w : ℕ) (d : List ℕ) → w ≡ badRecord → d ≡ c → Seventeen c w d
@@ -77,38 +75,46 @@ unsound c q n o = go (decodeOf c) refl
 
 -- a sound record is heard by its listener
 module _ (c : List ℕ) (s : Sound c) (o : List ℕ) where
-  sound-word : listenAnswer c o ≡ wordOf (heardOf document01 (s .listener) o)
+  sound-word : listenAnswer c o ≡ wordOf (heardOf (s .listener) o)
   unfolding listenAnswer answered
   sound-word = ap (λ (y : Decoded). answered y o) (s .known)
 
-  pub sound-record : listenRecord c o ≡ recordOf (heardOf document01 (s .listener) o .listener)
+  pub sound-record : listenRecord c o ≡ recordOf (heardOf (s .listener) o .listener)
   unfolding listenRecord recorded
   sound-record = ap (λ (y : Decoded). recorded y c o) (s .known)
 
-  sound-ranged : Octets o → Ranged (heardOf document01 (s .listener) o .answer)
-  sound-ranged q = subst Ranged (sym (ap (λ (r : Heard). r .answer) (in-range-heard (s .listener) o (s .in-range)))) (ranged _ (in-range-run document01 (s .listener .state) o q (s .in-range)))
+  sound-ranged : Octets o → Ranged (heardOf (s .listener) o .answer)
+  sound-ranged q = subst Ranged (sym (ap (λ (r : Heard). r .answer) (in-range-heard (s .listener) o (s .in-range)))) (ranged (spoken-of (s .listener .book)) _ (in-range-run (spoken-of (s .listener .book)) (s .listener .state) o q (s .in-range)))
 
-  sound-fields : Octets o → (w : ℕ) → w ≡ listenAnswer c o → Unpacked (numberOf (heardOf document01 (s .listener) o .answer)) (placeOf (heardOf document01 (s .listener) o .answer)) (sizeOf (heardOf document01 (s .listener) o .answer)) (heardOf document01 (s .listener) o .taken) w
+  sound-fields : Octets o → (w : ℕ) → w ≡ listenAnswer c o → Unpacked (numberOf (heardOf (s .listener) o .answer)) (placeOf (heardOf (s .listener) o .answer)) (sizeOf (heardOf (s .listener) o .answer)) (heardOf (s .listener) o .taken) w
   sound-fields q w e = rw (e, sound-word) (read-back _ (sound-ranged q) (taken-small (s .listener) o q))
 
+  pub good : Good (s .listener)
+  good = decoded-good c (s .listener) (s .known)
+
+  abbrev pub heard-is : heardOf (s .listener) o ≡ record { listener = record { book = s .listener .book; state = run (machine (rulesOf (s .listener .book))) (s .listener .state) o }; answer = answerOf (run (machine (rulesOf (s .listener .book))) (s .listener .state) o); taken = taken (machine (rulesOf (s .listener .book))) (s .listener .state) o }
+  heard-is = in-range-heard (s .listener) o (s .in-range)
+
   -- it is stepped by the written rule, also where no octets lead to it, and stays sound
-  pub sound-steps : (d : List ℕ) → d ≡ listenRecord c o → d ≡ recordOf (record { state = run (machine document01) (s .listener .state) o })
-  sound-steps d f = f ∙ sound-record ∙ ap (λ (y : Heard). recordOf (y .listener)) (in-range-heard (s .listener) o (s .in-range))
+  pub sound-steps : (d : List ℕ) → d ≡ listenRecord c o → d ≡ recordOf (record { book = PresentLenient; state = run (languageOf PresentLenient .machine) (s .listener .state) o })
+  sound-steps d f = f ∙ sound-record ∙ ap (λ (y : Heard). recordOf (y .listener)) (in-range-heard (s .listener) o (s .in-range)) ∙ ap (λ (b : Book). recordOf (record { book = b; state = run (languageOf b .machine) (s .listener .state) o })) (good .0)
 
   abbrev pub sound-stays : Octets o → (d : List ℕ) → d ≡ listenRecord c o → Sound d
   sound-stays q d f = record {
-    listener = heardOf document01 (s .listener) o .listener;
-    known = ap decodeOf (f ∙ sound-record) ∙ decode-encode _;
-    in-range = subst (λ (x : Heard). T (inRange document01 (x .listener .state))) (sym (in-range-heard (s .listener) o (s .in-range))) (in-range-run document01 (s .listener .state) o q (s .in-range));
+    listener = heardOf (s .listener) o .listener;
+    known = ap decodeOf (f ∙ sound-record) ∙ decode-encode _ (ap (λ (x : Heard). x .listener .book) heard-is ∙ good .0) (subst (λ (x : Heard). Coded (x .listener .state)) (sym heard-is) (run-coded (s .listener .book) (sym (good .0)) (s .listener .state) o (good .1)));
+    in-range = subst (λ (x : Heard). T (inRange (rulesOf (x .listener .book)) (x .listener .state))) (sym (in-range-heard (s .listener) o (s .in-range))) (in-range-run (spoken-of (s .listener .book)) (s .listener .state) o q (s .in-range));
   }
 
   -- it gets a number up to 6, or none
   pub sound-number : Octets o → (w : ℕ) → w ≡ listenAnswer c o → wordNumber w ≤ 6
-  sound-number q w e = omega (arith, sound-fields q w e .number, number-small (heardOf document01 (s .listener) o .answer) (sound-ranged q))
+  sound-number q w e =
+      let k : numberOf (heardOf (s .listener) o .answer) ≤ 6 = subst (λ (x : Heard). numberOf (x .answer) ≤ 6) (sym heard-is) (number-six (s .listener .book) (good .0) _ (in-range-run (spoken-of (s .listener .book)) (s .listener .state) o q (s .in-range))) in
+      omega (arith, sound-fields q w e .number, k)
 
 pub again : (c : List ℕ) (s : Sound c) (o : List ℕ) (w : ℕ) (d : List ℕ) → w ≡ listenAnswer c o → d ≡ listenRecord c o → stopped (s .listener .state) ≡ true → Octets c → Octets o → Again (s .listener) c w d
 again c s o w d e f t q p =
-    let x = listening.says-it-again (s .listener) o (heardOf document01 (s .listener) o) (s .in-range) t refl in
+    let x = listening.says-it-again (s .listener) o (heardOf (s .listener) o) (s .in-range) t refl in
     let u = sound-fields c s o p w e in
     record {
       number = u .number ∙ ap (λ (y : Heard). numberOf (y .answer)) x;
@@ -131,7 +137,7 @@ module _ (c a b : List ℕ) (w w₁ w₂ : ℕ) (d d₁ d₂ : List ℕ) (e : w 
   cut-sound s =
       let l = s .listener in
       let s₁ = sound-stays c s a p d₁ f₁ in
-      let k = listening.cut-anywhere l a b p (heardOf document01 l (a ++ b)) (heardOf document01 l a) (heardOf document01 (heardOf document01 l a .listener) b) refl refl refl in
+      let k = listening.cut-anywhere l a b p (heardOf l (a ++ b)) (heardOf l a) (heardOf (heardOf l a .listener) b) refl refl refl in
       let u = sound-fields c s (a ++ b) (octets-append a b p r) w e in
       let u₁ = sound-fields c s a p w₁ e₁ in
       let u₂ = sound-fields d₁ s₁ b r w₂ e₂ in
@@ -165,13 +171,13 @@ stands-sound c h s = record { listener = s .listener; known = s .known; in-range
 
 module _ (c h : List ℕ) (s : RecordStands c h) (o : List ℕ) (q : Octets o) (w : ℕ) (e : w ≡ listenAnswer c o) where
   abbrev heard : Heard
-  heard = heardOf document01 (s .listener) o
+  heard = heardOf (s .listener) o
 
   fields : Unpacked (numberOf (heard .answer)) (placeOf (heard .answer)) (sizeOf (heard .answer)) (heard .taken) w
   fields = sound-fields c (stands-sound c h s) o q w e
 
-  pub record-hears : RecordHears h o w
-  record-hears =
+  record-hears-in : RecordHears (languageOf (s .listener .book)) h o w
+  record-hears-in =
       let said = hears (s .listener) h (s .stands) o q heard refl in
       let g = sound-ranged c (stands-sound c h s) o q in
       record {
@@ -185,24 +191,27 @@ module _ (c h : List ℕ) (s : RecordStands c h) (o : List ℕ) (q : Octets o) (
             ap (λ (t : ℕ). length h + t) (fields .taken) ∙ said .taken-refused f (refused-told _ f (omega (arith, fields .number)) .0 (refl, refl)) ∙ ap suc (sym (fields .place));
       }
 
+  pub record-hears : RecordHears (languageOf PresentLenient) h o w
+  record-hears = subst (λ (b : Book). RecordHears (languageOf b) h o w) (decoded-good c (s .listener) (s .known) .0) record-hears-in
+
   pub record-stands-on : (d : List ℕ) → d ≡ listenRecord c o → RecordStands d (h ++ take (wordTaken w) o)
   record-stands-on d f = record {
     listener = heard .listener;
-    known = ap decodeOf (f ∙ sound-record c (stands-sound c h s) o) ∙ decode-encode (heard .listener);
+    known = sound-stays c (stands-sound c h s) o q d f .known;
     stands = rw (fields .taken) (stands-on (s .listener) h (s .stands) o q heard refl);
   }
 
 -- ---- reset
 pub reset-stands : (c d : List ℕ) → length c ≡ 16 → d ≡ resetRecord c → RecordStands d []
-unfolding resetRecord
+unfolding resetRecord newListener machine
 reset-stands c d n e =
-    let k : d ≡ recordOf newListener = e ∙ pick-yes _ _ _ (of-eq _ _ n) in
-    record { listener = newListener; known = ap decodeOf k ∙ decode-encode newListener; stands = new-stands }
+    let k : d ≡ recordOf (newListener PresentLenient) = e ∙ pick-yes _ _ _ (of-eq _ _ n) in
+    record { listener = newListener PresentLenient; known = ap decodeOf k ∙ decode-encode (newListener PresentLenient) refl tt; stands = new-stands PresentLenient }
 
-pub reset-number : (c : List ℕ) (w : ℕ) (d : List ℕ) → w ≡ resetAnswer c → d ≡ resetRecord c → ((w ≡ 0) × (d ≡ recordOf newListener)) ⊎ Seventeen c w d
+pub reset-number : (c : List ℕ) (w : ℕ) (d : List ℕ) → w ≡ resetAnswer c → d ≡ resetRecord c → ((w ≡ 0) × (d ≡ recordOf (newListener PresentLenient))) ⊎ Seventeen c w d
 unfolding resetAnswer resetRecord packed
 reset-number c w d e f = go (decide (length c =? 16))
   where
-    go : T (length c =? 16) ⊎ (T (length c =? 16) → ⊥) → ((w ≡ 0) × (d ≡ recordOf newListener)) ⊎ Seventeen c w d
+    go : T (length c =? 16) ⊎ (T (length c =? 16) → ⊥) → ((w ≡ 0) × (d ≡ recordOf (newListener PresentLenient))) ⊎ Seventeen c w d
     go (inl t) = inl (e ∙ pick-yes _ _ _ t, f ∙ pick-yes _ _ _ t)
     go (inr n) = inr (seventeen c w d (e ∙ pick-not _ _ _ n) (f ∙ pick-not _ _ _ n))

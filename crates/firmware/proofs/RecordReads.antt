@@ -8,7 +8,9 @@ use lib.ListN.{length}
 use lib.Dec.{T}
 use Rattle.rules.specs.Tests.{_=?_, pick-yes, pick-not, of-eq, eq-of}
 use Rattle.rules.specs.Octets.{Octets}
-use Rattle.rules.specs.Table.{document01}
+use Rattle.rules.specs.Table.{rulesOf}
+use Rattle.rules.specs.declared.Book.the-variants.{PresentLenient}
+use Rattle.rules.specs.ContentLaw.{sound-rules}
 use Rattle.reader.specs.declared.Packed.{Packed}
 use Rattle.reader.specs.Read.{packOf, readOf, draftFrom, areaAfter}
 use Rattle.reader.specs.Reads.{Reads, numberOf, placeOf, sizeOf}
@@ -31,12 +33,12 @@ module _ (o c t : List ℕ) (w : ℕ) (c' t' : List ℕ) (a : w ≡ readAnswer o
 
   module _ (q : Octets o) (n : length c ≡ 688) where
     abbrev p : Packed
-    p = packOf document01 o (length t)
+    p = packOf (rulesOf PresentLenient) o (length t)
 
     word-is : Unpacked (numberOf p) (placeOf p) (sizeOf p) 0 w
     unfolding readAnswer packedWord
     word-is =
-        let k = near o t q in
+        let k = near (rulesOf PresentLenient) (sound-rules PresentLenient) o t q in
         subst (Unpacked (numberOf p) (placeOf p) (sizeOf p) 0) (sym (a ∙ pick-yes (length c =? 688) _ badRecord (of-eq _ _ n)))
         (unpacked (numberOf p) (placeOf p) (sizeOf p) 0 (omega (arith, k .number)) (omega (arith, k .place)) (omega (arith, k .size)) (omega arith))
 
@@ -44,16 +46,16 @@ module _ (o c t : List ℕ) (w : ℕ) (c' t' : List ℕ) (a : w ≡ readAnswer o
     unfolding readRecord
     cells-are = b ∙ pick-yes (length c =? 688) _ c (of-eq _ _ n)
 
-    texts-are : t' ≡ areaAfter document01 o t
+    texts-are : t' ≡ areaAfter (rulesOf PresentLenient) o t
     unfolding readTexts
     texts-are = d ∙ pick-yes (length c =? 688) _ t (of-eq _ _ n)
 
     pub record-reads : RecordReads o c t w c' t'
     unfolding readOf draftFrom recordFrom
     record-reads = record {
-      reading = readOf document01 o (length t);
-      reads = subst (Reads o t (readOf document01 o (length t))) (sym texts-are) (reads-of o t q);
+      reading = readOf (rulesOf PresentLenient) o (length t);
+      reads = subst (Reads (rulesOf PresentLenient) o t (readOf (rulesOf PresentLenient) o (length t))) (sym texts-are) (reads-of (rulesOf PresentLenient) (sound-rules PresentLenient) o t q);
       word = word-is;
-      drafted = λ k e. cells-are ∙ ap (recordFrom o c) e ∙ sym (ap (λ (x : Packed). draftRecord (draftFrom document01 o x)) e);
+      drafted = λ k e. cells-are ∙ ap (recordFrom o c) e ∙ sym (ap (λ (x : Packed). draftRecord (draftFrom (rulesOf PresentLenient) o x)) e);
       refused = λ f e. cells-are ∙ ap (recordFrom o c) e;
     }

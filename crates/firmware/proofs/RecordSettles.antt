@@ -11,8 +11,14 @@ use lib.ListN.{length}
 use lib.Dec.{T}
 use Rattle.rules.specs.Tests.{_=?_, pick-yes, pick-not, decide, of-eq, eq-of}
 use Rattle.rules.specs.Octets.{Octets}
-use Rattle.rules.specs.Table.{document01}
+use Rattle.rules.specs.Table.{rulesOf}
+use Rattle.rules.specs.declared.Book.the-variants.{PresentLenient}
+use Rattle.message.specs.Judges.{verdictNumber, told-small, verdict-lenient}
+use Rattle.rules.specs.ContentLaw.{lenient-others}
 use Rattle.rules.specs.declared.Fault.{Fault}
+use Rattle.rules.specs.Refusals.{noted}
+use Rattle.rules.specs.Language.{languageOf}
+use Rattle.rules.specs.Calls.{spoken-of}
 use Rattle.desk.specs.declared.Desk.{Desk}
 use Rattle.desk.specs.declared.Answer.{Answer}
 use Rattle.desk.specs.declared.Answer.the-variants.{Done, Refused}
@@ -34,14 +40,14 @@ use Rattle.firmware.specs.RecordSettles.{RecordSettles, Seventeen, IsDes
 fault-of : (f : Fault) (n : ℕ) → f .number ≡ n → f ≡ (record { number = n; place = f .place })
 fault-of f n e = λ i. record { number = e i; place = f .place }
 
-module _ (d : Desk) (o : List ℕ) (x : Outcome) (s : Settles d o x) where
+module _ (d : Desk) (o : List ℕ) (x : Outcome) (s : Settles (rulesOf PresentLenient) d o x) where
   number-small : (a : Answer) → x .answer ≡ a → numberOf a ≤ 21
   unfolding numberOf
   number-small Done e = omega arith
   number-small (Refused f) e = go (s .numbers f e)
     where
-      go : ((1 ≤ f .number) × (f .number ≤ 8)) ⊎ ((f .number ≡ 17) ⊎ (f .number ≡ 21)) → f .number ≤ 21
-      go (inl h) = omega (arith, h .1)
+      go : T (verdictNumber (languageOf PresentLenient) (f .number)) ⊎ ((f .number ≡ 17) ⊎ (f .number ≡ 21)) → f .number ≤ 21
+      go (inl h) = omega (arith, told-small (spoken-of PresentLenient) _ h .1)
       go (inr (inl h)) = omega (arith, h)
       go (inr (inr h)) = omega (arith, h)
 
@@ -50,8 +56,8 @@ module _ (d : Desk) (o : List ℕ) (x : Outcome) (s : Settles d o x) where
   near Done e = omega arith
   near (Refused f) e = go (s .numbers f e)
     where
-      go : ((1 ≤ f .number) × (f .number ≤ 8)) ⊎ ((f .number ≡ 17) ⊎ (f .number ≡ 21)) → f .place ≤ 258
-      go (inl h) = s .judged .near f (s .refused f (h .1) .0 e .1)
+      go : T (verdictNumber (languageOf PresentLenient) (f .number)) ⊎ ((f .number ≡ 17) ⊎ (f .number ≡ 21)) → f .place ≤ 258
+      go (inl h) = s .judged .near f (s .refused f h .0 e .1)
       go (inr (inl h)) = omega (arith, s .seventeen (f .place) .0 (e ∙ ap Refused (fault-of f 17 h)) .0)
       go (inr (inr h)) = omega (arith, s .full (f .place) .0 (e ∙ ap Refused (fault-of f 21 h)) .0)
 
@@ -63,19 +69,19 @@ module _ (c o : List ℕ) (w : ℕ) (c' : List ℕ) (a : w ≡ settleAnswer c o)
     cells = b ∙ pick-not _ _ _ n;
   }
 
-  settled-word : Octets o → T (isRecord c) → Unpacked (numberOf (settleOf document01 (deskIn c) o .answer)) (placeOf (settleOf document01 (deskIn c) o .answer)) 0 0 w
+  settled-word : Octets o → T (isRecord c) → Unpacked (numberOf (settleOf (rulesOf PresentLenient) (deskIn c) o .answer)) (placeOf (settleOf (rulesOf PresentLenient) (deskIn c) o .answer)) 0 0 w
   unfolding settleAnswer deskWord
   settled-word q t =
-      let x = settleOf document01 (deskIn c) o in
-      let s = settles.settles (deskIn c) o q in
+      let x = settleOf (rulesOf PresentLenient) (deskIn c) o in
+      let s = settles.settles PresentLenient (deskIn c) o q in
       subst (Unpacked (numberOf (x .answer)) (placeOf (x .answer)) 0 0) (sym (a ∙ pick-yes _ _ _ t))
       (unpacked (numberOf (x .answer)) (placeOf (x .answer)) 0 0 (omega (arith, number-small (deskIn c) o x s (x .answer) refl)) (omega (arith, near (deskIn c) o x s (x .answer) refl)) (omega arith) (omega arith))
 
   pub record-settles : Octets o → T (isRecord c) → RecordSettles (deskIn c) o w c'
   unfolding settleRecord
   record-settles q t = record {
-    outcome = settleOf document01 (deskIn c) o;
-    settles = settles.settles (deskIn c) o q;
+    outcome = settleOf (rulesOf PresentLenient) (deskIn c) o;
+    settles = settles.settles PresentLenient (deskIn c) o q;
     word = settled-word q t;
     cells = b ∙ pick-yes _ _ _ t;
   }
@@ -97,7 +103,7 @@ module _ (c o : List ℕ) (w : ℕ) (c' : List ℕ) (a : w ≡ settleAnswer c o)
         )
         desk t y (Refused f) e = (
           λ x i. y .settles .seventeen (f .place) .0 (e ∙ ap Refused (fault-of f 17 (sym (number-of t y (Refused f) e) ∙ x))) .1 (i .places),
-          λ n. number-of t y (Refused (record { number = 17; place = 0 })) (y .settles .seventeen 0 .1 (refl, λ i. n (record { codes = t; places = i }))),
+          λ n. number-of t y (Refused (noted 17 0)) (y .settles .seventeen 0 .1 (refl, λ i. n (record { codes = t; places = i }))),
         )
 
         go : T (isRecord c) ⊎ (T (isRecord c) → ⊥) → (wordNumber w ≡ 17) ↔ (IsDesk c → ⊥)
@@ -109,8 +115,8 @@ module _ (c o : List ℕ) (w : ℕ) (c' : List ℕ) (a : w ≡ settleAnswer c o)
     unfolding numberOf
     numbers = go (decide (isRecord c))
       where
-        of-fault : (n : ℕ) (f : Fault) → n ≡ f .number → ((1 ≤ f .number) × (f .number ≤ 8)) ⊎ ((f .number ≡ 17) ⊎ (f .number ≡ 21)) → (n ≤ 8) ⊎ ((n ≡ 17) ⊎ (n ≡ 21))
-        of-fault n f e (inl h) = inl (omega (arith, e, h .1))
+        of-fault : (n : ℕ) (f : Fault) → n ≡ f .number → T (verdictNumber (languageOf PresentLenient) (f .number)) ⊎ ((f .number ≡ 17) ⊎ (f .number ≡ 21)) → (n ≤ 8) ⊎ ((n ≡ 17) ⊎ (n ≡ 21))
+        of-fault n f e (inl h) = inl (omega (arith, e, verdict-lenient (rulesOf PresentLenient) _ lenient-others .0 h .1))
         of-fault n f e (inr (inl h)) = inr (inl (e ∙ h))
         of-fault n f e (inr (inr h)) = inr (inr (e ∙ h))
 
@@ -137,7 +143,7 @@ module _ (c o : List ℕ) (w : ℕ) (c' : List ℕ) (a : w ≡ settleAnswer c o)
 
 -- ---- settled twice running
 -- the desk that settling leaves has places that a record holds
-small-after : (d : Desk) (o : List ℕ) (x : Outcome) → Settles d o x → Small (d .places) → Small (x .desk .places)
+small-after : (d : Desk) (o : List ℕ) (x : Outcome) → Settles (rulesOf PresentLenient) d o x → Small (d .places) → Small (x .desk .places)
 small-after d o x s w = go (x .answer) refl
   where
     go : (a : Answer) → x .answer ≡ a → Small (x .desk .places)
@@ -150,11 +156,11 @@ again c o k q w c₁ w₂ c₂ a b e f = go (decide (isRecord c))
   where
     go : T (isRecord c) ⊎ (T (isRecord c) → ⊥) → (w₂ ≡ w) × (c₂ ≡ c₁)
     go (inl t) =
-        let x = settleOf document01 (deskIn c) o in
-        let z = small-after (deskIn c) o x (settles.settles (deskIn c) o q) (small-in c k) in
+        let x = settleOf (rulesOf PresentLenient) (deskIn c) o in
+        let z = small-after (deskIn c) o x (settles.settles PresentLenient (deskIn c) o q) (small-in c k) in
         let i : c₁ ≡ deskRecord (x .desk) = b ∙ pick-yes _ _ _ t in
         let r : T (isRecord c₁) = subst (λ (y : List ℕ). T (isRecord y)) (sym i) (record-is (x .desk) z) in
-        let j : settleOf document01 (deskIn c₁) o ≡ x = ap (λ (y : Desk). settleOf document01 y o) (ap deskIn i ∙ decode-encode (x .desk) z) ∙ settles.settled-twice document01 (deskIn c) o q in (
+        let j : settleOf (rulesOf PresentLenient) (deskIn c₁) o ≡ x = ap (λ (y : Desk). settleOf (rulesOf PresentLenient) y o) (ap deskIn i ∙ decode-encode (x .desk) z) ∙ settles.settled-twice PresentLenient (deskIn c) o q in (
           e ∙ pick-yes _ _ _ r ∙ ap (λ (y : Outcome). deskWord (y .answer)) j ∙ sym (a ∙ pick-yes _ _ _ t),
           f ∙ pick-yes _ _ _ r ∙ ap (λ (y : Outcome). deskRecord (y .desk)) j ∙ sym i,
         )
@@ -182,7 +188,7 @@ RecordHistory c (x ∷ xs) c' = Octets (x .octets) × (x .word ≡ settleAnswer 
 -- on a record that is one, a call says what the same call says on its desk
 module _ (c : List ℕ) (t : T (isRecord c)) (w : Small (deskIn c .places)) (x : RecordCall) (q : Octets (x .octets)) (a : x .word ≡ settleAnswer c (x .octets)) (b : x .cells ≡ settleRecord c (x .octets)) where
   abbrev as-call : Call
-  as-call = record { octets = x .octets; outcome = settleOf document01 (deskIn c) (x .octets) }
+  as-call = record { book = PresentLenient; octets = x .octets; outcome = settleOf (rulesOf PresentLenient) (deskIn c) (x .octets) }
 
   same-word : (r : ℕ) → saidIn r x ≡ said r as-call
   unfolding saidIn said saidUnder numberOf
@@ -191,13 +197,13 @@ module _ (c : List ℕ) (t : T (isRecord c)) (w : Small (deskIn c .places)) (x :
       number-is : wordNumber (x .word) ≡ numberOf (as-call .outcome .answer)
       number-is = settled-word c (x .octets) (x .word) (x .cells) a b q t .number
 
-      go : (k : Answer) → as-call .outcome .answer ≡ k → saidIn r x ≡ saidUnder r (x .octets) (as-call .outcome .answer)
-      go Done e = pick-yes _ _ _ (of-eq _ _ (number-is ∙ ap numberOf e)) ∙ ap (saidUnder r (x .octets)) (sym e)
+      go : (k : Answer) → as-call .outcome .answer ≡ k → saidIn r x ≡ saidUnder (rulesOf PresentLenient) r (x .octets) (as-call .outcome .answer)
+      go Done e = pick-yes _ _ _ (of-eq _ _ (number-is ∙ ap numberOf e)) ∙ ap (saidUnder (rulesOf PresentLenient) r (x .octets)) (sym e)
       go (Refused f) e =
-          pick-not _ _ _ (λ z. no-number f (settles.settles (deskIn c) (x .octets) q .numbers f e) (sym (ap numberOf e) ∙ sym number-is ∙ eq-of _ _ z)) ∙ ap (saidUnder r (x .octets)) (sym e)
+          pick-not _ _ _ (λ z. no-number f (settles.settles PresentLenient (deskIn c) (x .octets) q .numbers f e) (sym (ap numberOf e) ∙ sym number-is ∙ eq-of _ _ z)) ∙ ap (saidUnder (rulesOf PresentLenient) r (x .octets)) (sym e)
         where
-          no-number : (f : Fault) → ((1 ≤ f .number) × (f .number ≤ 8)) ⊎ ((f .number ≡ 17) ⊎ (f .number ≡ 21)) → f .number ≡ 0 → ⊥
-          no-number f (inl h) z = omega (arith, h .0, z)
+          no-number : (f : Fault) → T (verdictNumber (languageOf PresentLenient) (f .number)) ⊎ ((f .number ≡ 17) ⊎ (f .number ≡ 21)) → f .number ≡ 0 → ⊥
+          no-number f (inl h) z = omega (arith, told-small (spoken-of PresentLenient) _ h .0, z)
           no-number f (inr (inl h)) z = omega (arith, h, z)
           no-number f (inr (inr h)) z = omega (arith, h, z)
 
@@ -206,7 +212,7 @@ module _ (c : List ℕ) (t : T (isRecord c)) (w : Small (deskIn c .places)) (x :
   after-is = b ∙ pick-yes _ _ _ t
 
   after-small : Small (as-call .outcome .desk .places)
-  after-small = small-after (deskIn c) (x .octets) (as-call .outcome) (settles.settles (deskIn c) (x .octets) q) w
+  after-small = small-after (deskIn c) (x .octets) (as-call .outcome) (settles.settles PresentLenient (deskIn c) (x .octets) q) w
 
   after-desk : deskIn (x .cells) ≡ as-call .outcome .desk
   after-desk = ap deskIn after-is ∙ decode-encode (as-call .outcome .desk) after-small

@@ -4,7 +4,8 @@ use Prim.Native.Nat.{ℕ}
 use mathlib.Core.List.{List}
 use lib.ListN.{length}
 use Rattle.rules.specs.Tests.{_=?_, pick}
-use Rattle.rules.specs.Table.{document01}
+use Rattle.rules.specs.Table.{rulesOf}
+use Rattle.rules.specs.declared.Book.the-variants.{PresentLenient}
 use Rattle.listener.specs.declared.Listener.{Listener}
 use Rattle.listener.specs.declared.Heard.{Heard}
 use Rattle.listener.specs.Heard.{numberOf, placeOf, sizeOf, heardOf, newListener}
@@ -33,21 +34,21 @@ unfoldable pub resetAnswer : List ℕ → ℕ
 resetAnswer c = pick (length c =? 16) (packed 0 0 0 0) badRecord
 
 unfoldable pub resetRecord : List ℕ → List ℕ
-resetRecord c = pick (length c =? 16) (recordOf newListener) c
+resetRecord c = pick (length c =? 16) (recordOf (newListener PresentLenient)) c
 
 -- what a call of the listener answers, as a word
 unfoldable pub wordOf : Heard → ℕ
 wordOf h = packed (numberOf (h .answer)) (placeOf (h .answer)) (sizeOf (h .answer)) (h .taken)
 
 unfoldable pub outcomeOf : Listener → List ℕ → Outcome
-outcomeOf l o = record { listener = heardOf document01 l o .listener; word = wordOf (heardOf document01 l o) }
+outcomeOf l o = record { listener = heardOf l o .listener; word = wordOf (heardOf l o) }
 
 unfoldable pub answered : Decoded → List ℕ → ℕ
-answered (Known l) o = wordOf (heardOf document01 l o)
+answered (Known l) o = wordOf (heardOf l o)
 answered Unknown o = badRecord
 
 unfoldable pub recorded : Decoded → List ℕ → List ℕ → List ℕ
-recorded (Known l) c o = recordOf (heardOf document01 l o .listener)
+recorded (Known l) c o = recordOf (heardOf l o .listener)
 recorded Unknown c o = c
 
 unfoldable pub listenAnswer : List ℕ → List ℕ → ℕ
@@ -61,18 +62,18 @@ unfoldable pub packedWord : Packed → ℕ
 packedWord p = packed (reads.numberOf p) (reads.placeOf p) (reads.sizeOf p) 0
 
 unfoldable pub readAnswer : List ℕ → List ℕ → List ℕ → ℕ
-readAnswer o c t = pick (length c =? 688) (packedWord (packOf document01 o (length t))) badRecord
+readAnswer o c t = pick (length c =? 688) (packedWord (packOf (rulesOf PresentLenient) o (length t))) badRecord
 
 -- the record of the message's draft; as it was with a refusal
 unfoldable pub recordFrom : List ℕ → List ℕ → Packed → List ℕ
-recordFrom o c (Texts n) = draftRecord (draftOf document01 (messageIn o))
+recordFrom o c (Texts n) = draftRecord (draftOf (rulesOf PresentLenient) (messageIn o))
 recordFrom o c (Refused f) = c
 
 unfoldable pub readRecord : List ℕ → List ℕ → List ℕ → List ℕ
-readRecord o c t = pick (length c =? 688) (recordFrom o c (packOf document01 o (length t))) c
+readRecord o c t = pick (length c =? 688) (recordFrom o c (packOf (rulesOf PresentLenient) o (length t))) c
 
 unfoldable pub readTexts : List ℕ → List ℕ → List ℕ → List ℕ
-readTexts o c t = pick (length c =? 688) (areaAfter document01 o t) t
+readTexts o c t = pick (length c =? 688) (areaAfter (rulesOf PresentLenient) o t) t
 
 -- ---- the desk
 unfoldable pub newDeskAnswer : List ℕ → ℕ
@@ -87,7 +88,7 @@ deskWord a = packed (settle.numberOf a) (settle.placeOf a) 0 0
 
 -- a record that is a desk's: word and record of that desk's settling; any other is 17 and stays
 unfoldable pub settleAnswer : List ℕ → List ℕ → ℕ
-settleAnswer c o = pick (isRecord c) (deskWord (settleOf document01 (deskIn c) o .answer)) badRecord
+settleAnswer c o = pick (isRecord c) (deskWord (settleOf (rulesOf PresentLenient) (deskIn c) o .answer)) badRecord
 
 unfoldable pub settleRecord : List ℕ → List ℕ → List ℕ
-settleRecord c o = pick (isRecord c) (deskRecord (settleOf document01 (deskIn c) o .desk)) c
+settleRecord c o = pick (isRecord c) (deskRecord (settleOf (rulesOf PresentLenient) (deskIn c) o .desk)) c

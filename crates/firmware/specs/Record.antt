@@ -7,7 +7,8 @@ use mathlib.Core.Bool.{Bool}
 use mathlib.Core.List.{List, [], _∷_}
 use lib.ListN.{length, getD}
 use Rattle.rules.specs.Tests.{_≤?_, _=?_, pick}
-use Rattle.rules.specs.Codes.{classCode, classCoded}
+use Rattle.rules.specs.Codes.{lastPresent, classCode, classCoded}
+use Rattle.rules.specs.declared.Book.the-variants.{PresentLenient}
 use Rattle.rules.specs.declared.Spot.{Spot}
 use Rattle.rules.specs.declared.Stage.{Stage}
 use Rattle.rules.specs.declared.Stage.the-variants.{Kind, Size, Header, Length, Content}
@@ -60,7 +61,7 @@ recordOf l = laidFields (fieldsFor (l .state))
 
 -- ---- back
 unfoldable pub known : Bool → State → Decoded
-known ok s = pick ok (Known (record { state = s })) Unknown
+known ok s = pick ok (Known (record { book = PresentLenient; state = s })) Unknown
 
 abbrev pub spotOf : Fields → Spot
 spotOf f = record { sum = f .sum; place = f .place }
@@ -76,7 +77,7 @@ openingOf s q r idle =
 -- in a parameter: its length or an octet of its contents is to come
 unfoldable pub parameterOf : ℕ → Spot → ℕ → ℕ → ℕ → ℕ → ℕ → ℕ → Decoded
 parameterOf s q c n i m r idle =
-    pick (c ≤? 10)
+    pick (c ≤? lastPresent)
     (pick (s =? 3) (known (n + i + m + idle =? 0) (Waiting (Length (classCoded c) r) q))
     (known (idle =? 0) (Waiting (Content (classCoded c) n i m r) q)))
     Unknown

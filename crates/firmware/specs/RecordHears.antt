@@ -6,10 +6,10 @@ use mathlib.Core.Logic.{_↔_}
 use mathlib.Core.List.{List, _++_}
 use lib.ListN.{length, take}
 use lib.Dec.{T}
-use Rattle.rules.specs.Table.{document01}
 use Rattle.rules.specs.Message.{Accepts}
 use Rattle.rules.specs.Judge.{inRange}
-use Rattle.rules.specs.Demand3.{Ending, Spoilt, Numbered}
+use Rattle.rules.specs.Endings.{Ending, Spoilt, Numbered}
+use Rattle.rules.specs.Language.{Language, languageOf}
 use Rattle.rules.specs.declared.Fault.{Fault}
 use Rattle.listener.specs.declared.Listener.{Listener}
 use Rattle.listener.specs.Heard.{numberOf, placeOf, sizeOf, answerOf}
@@ -19,13 +19,13 @@ use Rattle.firmware.specs.Record.{decodeOf}
 use Rattle.firmware.specs.Word.{wordNumber, wordPlace, wordSize, wordTaken}
 
 -- The record's listener had taken the octets h since its reset, was given the run o, and the call answered w.
-pub record RecordHears (h o : List ℕ) (w : ℕ) : Type 0 where
+pub record RecordHears (L : Language) (h o : List ℕ) (w : ℕ) : Type 0 where
   -- neither number nor size: it waits, exactly when some ending would still complete a message
-  pub waits : ((wordNumber w ≡ 0) × (wordSize w ≡ 0)) ↔ Ending document01 (h ++ o)
+  pub waits : ((wordNumber w ≡ 0) × (wordSize w ≡ 0)) ↔ Ending (L .Accepts) (h ++ o)
   -- a size: exactly that of the first octets that are accepted
-  pub has-message : (n : ℕ) → 1 ≤ n → (wordSize w ≡ n) ↔ ((n ≤ length (h ++ o)) × Accepts document01 (take n (h ++ o)))
+  pub has-message : (n : ℕ) → 1 ≤ n → (wordSize w ≡ n) ↔ ((n ≤ length (h ++ o)) × L .Accepts (take n (h ++ o)))
   -- a number: exactly at the octet that spoils the message, with the number of that octet's role
-  pub refuses : (f : Fault) → 1 ≤ f .number → ((wordNumber w ≡ f .number) × (wordPlace w ≡ f .place)) ↔ (Spoilt document01 (h ++ o) (f .place) × Numbered document01 (h ++ o) (f .place) (f .number))
+  pub refuses : (f : Fault) → 1 ≤ f .number → ((wordNumber w ≡ f .number) × (wordPlace w ≡ f .place)) ↔ (Spoilt (L .Accepts) (h ++ o) (f .place) × Numbered (L .Accepts) (L .roles) (h ++ o) (f .place) (f .number))
   -- octets taken: the whole run while it waits, the message's octets and no more, the spoiling octet but none after it
   pub taken-waiting : wordNumber w ≡ 0 → wordSize w ≡ 0 → wordTaken w ≡ length o
   pub taken-message : (n : ℕ) → 1 ≤ n → wordSize w ≡ n → length h + wordTaken w ≡ n
@@ -41,7 +41,7 @@ pub record RecordStands (c h : List ℕ) : Type 0 where
 pub record Sound (c : List ℕ) : Type 0 where
   pub listener : Listener
   pub known : decodeOf c ≡ Known listener
-  pub in-range : T (inRange document01 (listener .state))
+  pub in-range : T (languageOf (listener .book) .inRange (listener .state))
 
 -- 17 at place 0, no size, nothing taken, and the record as it was
 pub record Seventeen (c : List ℕ) (w : ℕ) (d : List ℕ) : Type 0 where

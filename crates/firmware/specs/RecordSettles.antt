@@ -7,6 +7,8 @@ use mathlib.Core.List.{List, [], _∷_}
 use mathlib.Core.Option.{Option, none}
 use lib.Dec.{T}
 use Rattle.rules.specs.Tests.{_=?_, pick}
+use Rattle.rules.specs.Table.{rulesOf}
+use Rattle.rules.specs.declared.Book.the-variants.{PresentLenient}
 use Rattle.desk.specs.declared.Desk.{Desk}
 use Rattle.desk.specs.declared.Answer.the-variants.{Done}
 use Rattle.desk.specs.declared.Outcome.{Outcome}
@@ -20,7 +22,7 @@ use Rattle.firmware.specs.Word.{wordNumber, Unpacked}
 -- a record that is the desk d's: the word has number and place of that desk's settling, the record is that of the desk it leaves
 pub record RecordSettles (d : Desk) (o : List ℕ) (w : ℕ) (c' : List ℕ) : Type 0 where
   pub outcome : Outcome
-  pub settles : Settles d o outcome
+  pub settles : Settles (rulesOf PresentLenient) d o outcome
   pub word : Unpacked (numberOf (outcome .answer)) (placeOf (outcome .answer)) 0 0 w
   pub cells : c' ≡ deskRecord (outcome .desk)
 
@@ -42,7 +44,7 @@ pub record RecordCall : Type 0 where
 
 -- what a call says of the reference r: with number 0, what a notice that is done says; else nothing
 unfoldable pub saidIn : ℕ → RecordCall → Option Bool
-saidIn r x = pick (wordNumber (x .word) =? 0) (saidUnder r (x .octets) Done) none
+saidIn r x = pick (wordNumber (x .word) =? 0) (saidUnder (rulesOf PresentLenient) r (x .octets) Done) none
 
 -- the last word of some calls on r, after the word b
 unfoldable pub lastSaidIn : ℕ → List RecordCall → Option Bool → Option Bool

@@ -6,7 +6,8 @@ ghost use mathlib.Core.Path.{_≡_};
 ghost use mathlib.Core.List.{_++_};
 ghost use Prim.Native.Nat.{_≤_};
 ghost use lib.ListN.{length, replicate};
-ghost use Rattle.rules.specs.Table.{document01};
+ghost use Rattle.rules.specs.Table.{rulesOf};
+ghost use Rattle.rules.specs.declared.Book.the-variants as book;
 ghost use Rattle.rules.specs.Laying.{laid};
 ghost use Rattle.draft.specs.Packing.{draftOf};
 ghost use Rattle.message.specs.Parameters.{messageIn};
@@ -98,13 +99,13 @@ fn clear(cells: &mut [u8])
 // The entries of the message's parameters, each at its place; how many there are.
 fn lay_entries(octets: &[u8], cells: &mut [u8]) -> usize
     requires { ⌜ now cells ≡ replicate 688 0 ⌝ }
-    ensures { λ r. ⌜ (r ≡ draftOf document01 (messageIn (now (octets .entry))) .count) × (now (cells .exit) ≡ replicate 8 0 ++ record-of.entriesCells (draftOf document01 (messageIn (now (octets .entry))) .entries)) ⌝ }
+    ensures { λ r. ⌜ (r ≡ draftOf (rulesOf book.PresentLenient) (messageIn (now (octets .entry))) .count) × (now (cells .exit) ≡ replicate 8 0 ++ record-of.entriesCells (draftOf (rulesOf book.PresentLenient) (messageIn (now (octets .entry))) .entries)) ⌝ }
 {
     let mut at: usize = 2;
     let mut used: usize = 0;
     let mut count: usize = 0;
     while count < rules::MOST {
-        let taken = reader::entry(octets, at, used);
+        let taken = reader::entry(rules::Book::PresentLenient, octets, at, used);
         match taken {
             Taken::Next { entry, text, place } => {
                 lay_entry(&mut cells[8 + 8 * count..], entry);
@@ -123,7 +124,7 @@ fn lay_entries(octets: &[u8], cells: &mut [u8]) -> usize
 // The record of a message's draft, whatever it held.
 pub(crate) fn lay_draft(octets: &[u8], cells: &mut [u8])
     requires { ⌜ length (now cells) ≡ 688 ⌝ }
-    ensures { λ _. ⌜ now (cells .exit) ≡ record-of.draftRecord (draftOf document01 (messageIn (now (octets .entry)))) ⌝ }
+    ensures { λ _. ⌜ now (cells .exit) ≡ record-of.draftRecord (draftOf (rulesOf book.PresentLenient) (messageIn (now (octets .entry)))) ⌝ }
 {
     clear(cells);
     let count = lay_entries(octets, cells);

@@ -6,6 +6,7 @@ use desks::DESK;
 use listener::Answer;
 use listener::Listener;
 use reader::Packed;
+use rules::Book;
 use rules::Fault;
 use rules::Spot;
 use rules::Stage;
@@ -13,7 +14,8 @@ use rules::State;
 ghost use mathlib.Core.Path.{_≡_};
 ghost use Prim.Native.Nat.{_+_, _*_, _≤_};
 ghost use lib.ListN.{length};
-ghost use Rattle.rules.specs.Table.{document01};
+ghost use Rattle.rules.specs.Table.{rulesOf};
+ghost use Rattle.rules.specs.declared.Book.the-variants as book;
 ghost use Rattle.listener.specs.Heard.{numberOf, placeOf, sizeOf};
 ghost use Rattle.reader.specs.Read.{packOf, areaAfter};
 ghost use Rattle.firmware.specs.Record as record-of;
@@ -96,7 +98,10 @@ fn known(ok: bool, state: State) -> Decoded
     ensures { λ r. ⌜ r ≡ record-of.known ok state ⌝ }
 {
     if ok {
-        Decoded::Known(Listener { state })
+        Decoded::Known(Listener {
+            book: Book::PresentLenient,
+            state,
+        })
     } else {
         Decoded::Unknown
     }
@@ -130,7 +135,7 @@ fn parameter_of(
     requires { ⌜ idle ≤ 100000 ⌝ }
     ensures { λ r. ⌜ r ≡ record-of.parameterOf stage q code length index memory room idle ⌝ }
 {
-    if 10 < code {
+    if rules::LAST_PRESENT < code {
         return Decoded::Unknown;
     }
     let class = rules::class_coded(code);
@@ -354,11 +359,11 @@ fn packed_word(p: Packed) -> u64
 // The texts, and the record where they were laid down.
 fn read_into(octets: &[u8], cells: &mut [u8], texts: &mut [u8]) -> u64
     requires { ⌜ length (now cells) ≡ 688 ⌝ }
-    ensures answer { λ r. ⌜ r ≡ exports.packedWord (packOf document01 (now (octets .entry)) (length (now (texts .entry)))) ⌝ }
-    ensures cells { λ r. ⌜ now (cells .exit) ≡ exports.recordFrom (now (octets .entry)) (now (cells .entry)) (packOf document01 (now (octets .entry)) (length (now (texts .entry)))) ⌝ }
-    ensures texts { λ r. ⌜ now (texts .exit) ≡ areaAfter document01 (now (octets .entry)) (now (texts .entry)) ⌝ }
+    ensures answer { λ r. ⌜ r ≡ exports.packedWord (packOf (rulesOf book.PresentLenient) (now (octets .entry)) (length (now (texts .entry)))) ⌝ }
+    ensures cells { λ r. ⌜ now (cells .exit) ≡ exports.recordFrom (now (octets .entry)) (now (cells .entry)) (packOf (rulesOf book.PresentLenient) (now (octets .entry)) (length (now (texts .entry)))) ⌝ }
+    ensures texts { λ r. ⌜ now (texts .exit) ≡ areaAfter (rulesOf book.PresentLenient) (now (octets .entry)) (now (texts .entry)) ⌝ }
 {
-    let answer = reader::pack(octets, texts);
+    let answer = reader::pack(Book::PresentLenient, octets, texts);
     match answer {
         Packed::Texts { octets: _ } => {
             drafts::lay_draft(octets, cells);
@@ -383,7 +388,7 @@ pub extern "C" fn anthercup_reset(cells: &mut [u8]) -> u64
     ensures { λ r. ⌜ (r ≡ exports.resetAnswer (now (cells .entry))) × (now (cells .exit) ≡ exports.resetRecord (now (cells .entry))) ⌝ }
 {
     if cells.len() == LISTENER {
-        encode(cells, listener::reset());
+        encode(cells, listener::reset(Book::PresentLenient));
         packed(0, 0, 0, 0)
     } else {
         packed(17, 0, 0, 0)
@@ -442,7 +447,7 @@ pub extern "C" fn anthercup_settle(cells: &mut [u8], octets: &[u8]) -> u64
 {
     if desks::is_record(cells) {
         let found = desks::decode(cells);
-        let done = desk::settle(found, octets);
+        let done = desk::settle(Book::PresentLenient, found, octets);
         let after = done.desk;
         let answer = done.answer;
         desks::encode(cells, after);

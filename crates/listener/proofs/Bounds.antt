@@ -4,7 +4,8 @@ use Prim.Native.Nat.{ℕ, _<_}
 use native.Mathlib.Omega.{arith}
 use lib.Dec.{T}
 use Rattle.rules.specs.Tests.{both, le-of}
-use Rattle.rules.specs.Table.{document01}
+use Rattle.rules.specs.Table.{Rules}
+use Rattle.rules.specs.ContentLaw.{SoundRules}
 use Rattle.rules.specs.Judge.{inRange}
 use Rattle.rules.specs.InRange.{near}
 use Rattle.rules.specs.declared.Class.{Class}
@@ -13,12 +14,13 @@ use Rattle.rules.specs.declared.Stage.the-variants.{Content}
 use Rattle.rules.specs.declared.Spot.{Spot}
 use Rattle.rules.specs.declared.State.the-variants.{Waiting}
 
-pub place-small : (s : Stage) (q : Spot) → T (inRange document01 (Waiting s q)) → q .place < 65535
-place-small s q t = omega (arith, near document01 s q t)
+module _ (R : Rules) (S : SoundRules R) where
+  pub place-small : (s : Stage) (q : Spot) → T (inRange R (Waiting s q)) → q .place < 65535
+  place-small s q t = omega (arith, near R S s q t)
 
-pub index-below : (c : Class) (n i m r : ℕ) (q : Spot) → T (inRange document01 (Waiting (Content c n i m r) q)) → i < n
-unfolding inRange
-index-below c n i m r q t = le-of _ _ (both _ _ t .0)
+  pub index-below : (c : Class) (n i m r : ℕ) (q : Spot) → T (inRange R (Waiting (Content c n i m r) q)) → i < n
+  unfolding inRange
+  index-below c n i m r q t = le-of _ _ (both _ _ t .0)
 
-pub index-small : (c : Class) (n i m r : ℕ) (q : Spot) → T (inRange document01 (Waiting (Content c n i m r) q)) → n < 256 → i < 255
-index-small c n i m r q t h = omega (arith, index-below c n i m r q t)
+  pub index-small : (c : Class) (n i m r : ℕ) (q : Spot) → T (inRange R (Waiting (Content c n i m r) q)) → n < 256 → i < 255
+  index-small c n i m r q t h = omega (arith, index-below c n i m r q t)

@@ -9,7 +9,8 @@ use native.Mathlib.Omega.{arith}
 use lib.ListN.{length, drop, getD}
 use lib.Dec.{T}
 use Rattle.rules.specs.Tests.{pick-yes, pick-not, of-eq, eq-of}
-use Rattle.rules.specs.Table.{document01, shape01}
+use Rattle.rules.specs.Table.{Rules}
+use Rattle.rules.specs.ContentLaw.{SoundRules}
 use Rattle.rules.specs.ContentJudge.{okAt, remember}
 use Rattle.rules.specs.Machine.{step, moved, declined}
 use Rattle.rules.specs.Judge.{contents, final, fits, after, fault, machine, inRange}
@@ -28,63 +29,64 @@ waits-on : (w : State) (s : Stage) (q : Spot) → w ≡ Waiting s q → stopped 
 unfolding stopped
 waits-on w s q e = rw e refl
 
--- one octet further
-pub one-step : (s : Stage) (q : Spot) (o : List ℕ) (i : ℕ) (r : State) → T (inRange document01 (Waiting s q)) → i < length o → getD o i 0 < 256 → r ≡ step (machine document01) (Waiting s q) (getD o i 0) →
-    Onward (Waiting s q) o i (record { state = r; taken = i + 1 })
-one-step s q o i r t h x e = record {
-  further = omega arith;
-  inside = omega arith;
-  in-range = subst (λ (w : State). T (inRange document01 w)) (sym e) (in-range-closed document01 (Waiting s q) (getD o i 0) x t);
-  same = run-more (machine document01) (Waiting s q) r o i e h (waits-on (Waiting s q) s q refl);
-}
-
--- ---- along contents
-module _ (class : Class) (n room : ℕ) (o : List ℕ) (w : State) (from : ℕ) where
-  abbrev at : ℕ → ℕ → Spot → State
-  at k m q = Waiting (Content class n k m room) q
-
-  -- where the loop stands: at octet i and index k of the contents
-  pub record Stands (i k m : ℕ) (q : Spot) : Type 0 where
-    pub gone : from ≤ i
-    pub inside : i ≤ length o
-    pub in-range : T (inRange document01 (at k m q))
-    pub same : runFrom i (machine document01) (at k m q) (drop i o) ≡ runFrom from (machine document01) w (drop from o)
-
-  pub stands-first : (k m : ℕ) (q : Spot) → w ≡ at k m q → T (inRange document01 (at k m q)) → from < length o → Stands from k m q
-  stands-first k m q e t l = record {
-    gone = omega arith;
+module _ (R : Rules) (S : SoundRules R) where
+  -- one octet further
+  pub one-step : (s : Stage) (q : Spot) (o : List ℕ) (i : ℕ) (r : State) → T (inRange R (Waiting s q)) → i < length o → getD o i 0 < 256 → r ≡ step (machine R) (Waiting s q) (getD o i 0) →
+      Onward R (Waiting s q) o i (record { state = r; taken = i + 1 })
+  one-step s q o i r t h x e = record {
+    further = omega arith;
     inside = omega arith;
-    in-range = t;
-    same = ap (λ (v : State). runFrom from (machine document01) v (drop from o)) (sym e);
+    in-range = subst (λ (w : State). T (inRange R w)) (sym e) (in-range-closed R S (Waiting s q) (getD o i 0) x t);
+    same = run-more (machine R) (Waiting s q) r o i e h (waits-on (Waiting s q) s q refl);
   }
 
-  module _ (i k m : ℕ) (q : Spot) (d : Stands i k m q) where
-    -- the run is over
-    pub stands-ended : length o ≤ i → from < length o → Onward w o from (record { state = at k m q; taken = i })
-    stands-ended h l = record { further = omega arith; inside = d .inside; in-range = d .in-range; same = d .same }
+  -- ---- along contents
+  module _ (class : Class) (n room : ℕ) (o : List ℕ) (w : State) (from : ℕ) where
+    abbrev at : ℕ → ℕ → Spot → State
+    at k m q = Waiting (Content class n k m room) q
 
-    module _ (h : i < length o) (x : getD o i 0 < 256) where
-      -- the state after the octet, whatever it is
-      goes : (r : State) → r ≡ step (machine document01) (at k m q) (getD o i 0) → Onward w o from (record { state = r; taken = i + 1 })
-      goes r e = let z = one-step (Content class n k m room) q o i r (d .in-range) h x e in record { further = omega (arith, d .gone); inside = z .inside; in-range = z .in-range; same = z .same ∙ d .same }
+    -- where the loop stands: at octet i and index k of the contents
+    pub record Stands (i k m : ℕ) (q : Spot) : Type 0 where
+      pub gone : from ≤ i
+      pub inside : i ≤ length o
+      pub in-range : T (inRange R (at k m q))
+      pub same : runFrom i (machine R) (at k m q) (drop i o) ≡ runFrom from (machine R) w (drop from o)
 
-      -- it is one of the contents': they go on, or are over
-      module _ (t : okAt (shape01 class) n k m (getD o i 0) ≡ true) (m' : ℕ) (p : Spot) (e : m' ≡ remember (shape01 class) n k m (getD o i 0)) (f : p ≡ moved (machine document01) (Content class n k m room) q (getD o i 0)) where
-        next : (s : Stage) → s ≡ contents class n (k + 1) m' room → Onward w o from (record { state = Waiting s p; taken = i + 1 })
-        unfolding final fits after document01
-        next s u = goes (Waiting s p) (takes document01 (Content class n k m room) q (getD o i 0) s p refl t (u ∙ (λ j. contents class n (add-one k j) (e j) room)) f)
+    pub stands-first : (k m : ℕ) (q : Spot) → w ≡ at k m q → T (inRange R (at k m q)) → from < length o → Stands from k m q
+    stands-first k m q e t l = record {
+      gone = omega arith;
+      inside = omega arith;
+      in-range = t;
+      same = ap (λ (v : State). runFrom from (machine R) v (drop from o)) (sym e);
+    }
 
-        pub stands-over : k + 1 ≡ n → Onward w o from (record { state = Waiting (Header room) p; taken = i + 1 })
-        unfolding contents
-        stands-over u = next (Header room) (sym (pick-yes _ _ _ (of-eq _ _ u)))
+    module _ (i k m : ℕ) (q : Spot) (d : Stands i k m q) where
+      -- the run is over
+      pub stands-ended : length o ≤ i → from < length o → Onward R w o from (record { state = at k m q; taken = i })
+      stands-ended h l = record { further = omega arith; inside = d .inside; in-range = d .in-range; same = d .same }
 
-        pub stands-more : (k + 1 ≡ n → ⊥) → Stands (i + 1) (k + 1) m' p
-        unfolding contents
-        stands-more u =
-            let z = next (Content class n (k + 1) m' room) (sym (pick-not _ _ _ (λ v. u (eq-of _ _ v)))) in
-            record { gone = omega (arith, d .gone); inside = z .inside; in-range = z .in-range; same = z .same }
+      module _ (h : i < length o) (x : getD o i 0 < 256) where
+        -- the state after the octet, whatever it is
+        goes : (r : State) → r ≡ step (machine R) (at k m q) (getD o i 0) → Onward R w o from (record { state = r; taken = i + 1 })
+        goes r e = let z = one-step (Content class n k m room) q o i r (d .in-range) h x e in record { further = omega (arith, d .gone); inside = z .inside; in-range = z .in-range; same = z .same ∙ d .same }
 
-      -- it spoils them
-      pub stands-spoilt : okAt (shape01 class) n k m (getD o i 0) ≡ false → (r : State) → r ≡ declined (machine document01) (Content class n k m room) 5 q → Onward w o from (record { state = r; taken = i + 1 })
-      unfolding final fits fault document01
-      stands-spoilt t r e = goes r (declines document01 (Content class n k m room) q (getD o i 0) r refl t e)
+        -- it is one of the contents': they go on, or are over
+        module _ (t : okAt class n k m (getD o i 0) ≡ true) (m' : ℕ) (p : Spot) (e : m' ≡ remember class n k m (getD o i 0)) (f : p ≡ moved (machine R) (Content class n k m room) q (getD o i 0)) where
+          next : (s : Stage) → s ≡ contents class n (k + 1) m' room → Onward R w o from (record { state = Waiting s p; taken = i + 1 })
+          unfolding final fits after
+          next s u = goes (Waiting s p) (takes R (Content class n k m room) q (getD o i 0) s p refl t (u ∙ (λ j. contents class n (add-one k j) (e j) room)) f)
+
+          pub stands-over : k + 1 ≡ n → Onward R w o from (record { state = Waiting (Header room) p; taken = i + 1 })
+          unfolding contents
+          stands-over u = next (Header room) (sym (pick-yes _ _ _ (of-eq _ _ u)))
+
+          pub stands-more : (k + 1 ≡ n → ⊥) → Stands (i + 1) (k + 1) m' p
+          unfolding contents
+          stands-more u =
+              let z = next (Content class n (k + 1) m' room) (sym (pick-not _ _ _ (λ v. u (eq-of _ _ v)))) in
+              record { gone = omega (arith, d .gone); inside = z .inside; in-range = z .in-range; same = z .same }
+
+        -- it spoils them
+        pub stands-spoilt : okAt class n k m (getD o i 0) ≡ false → (r : State) → r ≡ declined (machine R) (Content class n k m room) 5 q → Onward R w o from (record { state = r; taken = i + 1 })
+        unfolding final fits fault
+        stands-spoilt t r e = goes r (declines R (Content class n k m room) q (getD o i 0) r refl t e)

@@ -7,11 +7,14 @@ use mathlib.Core.List.{List, [], _∷_}
 use lib.ListN.{length, drop}
 use lib.Dec.{T}
 use Rattle.rules.specs.Tests.{pick}
-use Rattle.rules.specs.Table.{Rules, document01}
+use Rattle.rules.specs.Table.{Rules}
+use Rattle.rules.specs.declared.Book.{Book}
+use Rattle.rules.specs.Refusals.{noted}
 use Rattle.rules.specs.Machine.{Machine, step, run, start}
 use Rattle.rules.specs.Judge.{machine, inRange}
 use Rattle.rules.specs.declared.State.{State}
 use Rattle.rules.specs.declared.State.the-variants as state
+use Rattle.rules.specs.Language.{Language, languageOf}
 use Rattle.listener.specs.declared.Listener.{Listener}
 use Rattle.listener.specs.declared.Answer.{Answer}
 use Rattle.listener.specs.declared.Answer.the-variants.{Waits, Message, Refused}
@@ -58,21 +61,24 @@ unfoldable pub runFrom : ℕ → Machine → State → List ℕ → Ran
 runFrom i M w h = record { state = run M w h; taken = i + taken M w h }
 
 -- the run of o that stands at octet i in the state w stands further on, at r's octet in r's state, which is in range
-pub record Onward (w : State) (o : List ℕ) (i : ℕ) (r : Ran) : Type 0 where
+pub record Onward (R : Rules) (w : State) (o : List ℕ) (i : ℕ) (r : Ran) : Type 0 where
   pub further : i < r .taken
   pub inside : r .taken ≤ length o
-  pub in-range : T (inRange document01 (r .state))
-  pub same : runFrom (r .taken) (machine document01) (r .state) (drop (r .taken) o) ≡ runFrom i (machine document01) w (drop i o)
+  pub in-range : T (inRange R (r .state))
+  pub same : runFrom (r .taken) (machine R) (r .state) (drop (r .taken) o) ≡ runFrom i (machine R) w (drop i o)
 
 -- out of range: number 17, nothing taken, and the listener as it was
 abbrev pub outOfRange : Listener → Heard
-outOfRange l = record { listener = l; answer = Refused (record { number = 17; place = 0 }); taken = 0 }
+outOfRange l = record { listener = l; answer = Refused (noted 17 0); taken = 0 }
 
-unfoldable pub heardOf : Rules → Listener → List ℕ → Heard
-heardOf R l h =
-    pick (inRange R (l .state))
-    (record { listener = record { state = run (machine R) (l .state) h }; answer = answerOf (run (machine R) (l .state) h); taken = taken (machine R) (l .state) h })
+unfoldable pub heardIn : Language → Listener → List ℕ → Heard
+heardIn L l h =
+    pick (L .inRange (l .state))
+    (record { listener = record { book = l .book; state = run (L .machine) (l .state) h }; answer = answerOf (run (L .machine) (l .state) h); taken = taken (L .machine) (l .state) h })
     (outOfRange l)
 
-unfoldable pub newListener : Listener
-newListener = record { state = start (machine document01) }
+abbrev pub heardOf : Listener → List ℕ → Heard
+heardOf l h = heardIn (languageOf (l .book)) l h
+
+unfoldable pub newListener : Book → Listener
+newListener b = record { book = b; state = start (languageOf b .machine) }

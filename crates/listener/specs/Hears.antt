@@ -6,25 +6,25 @@ use mathlib.Core.Logic.{_↔_}
 use mathlib.Core.List.{List, _++_}
 use lib.ListN.{length, take}
 use Rattle.rules.specs.Octets.{Octets}
-use Rattle.rules.specs.Table.{document01}
 use Rattle.rules.specs.Message.{Accepts}
 use Rattle.rules.specs.Machine.{answer}
 use Rattle.rules.specs.Judge.{machine}
 use Rattle.rules.specs.Listening.{place}
-use Rattle.rules.specs.Demand3.{Ending, Spoilt, Numbered}
+use Rattle.rules.specs.Endings.{Ending, Spoilt, Numbered}
+use Rattle.rules.specs.Language.{Language, languageOf}
 use Rattle.rules.specs.declared.Fault.{Fault}
 use Rattle.listener.specs.declared.Listener.{Listener}
 use Rattle.listener.specs.declared.Answer.the-variants.{Waits, Message, Refused}
 use Rattle.listener.specs.declared.Heard.{Heard}
 
 -- The listener had taken the octets h since its reset, was given the run o, and answered r.
-pub record Hears (h o : List ℕ) (r : Heard) : Type 0 where
+pub record Hears (L : Language) (h o : List ℕ) (r : Heard) : Type 0 where
   -- it waits exactly when some ending would still complete a message
-  pub waits : (r .answer ≡ Waits) ↔ Ending document01 (h ++ o)
+  pub waits : (r .answer ≡ Waits) ↔ Ending (L .Accepts) (h ++ o)
   -- it has a message of size n exactly when the first n octets are accepted
-  pub has-message : (n : ℕ) → (r .answer ≡ Message n) ↔ ((n ≤ length (h ++ o)) × Accepts document01 (take n (h ++ o)))
+  pub has-message : (n : ℕ) → (r .answer ≡ Message n) ↔ ((n ≤ length (h ++ o)) × L .Accepts (take n (h ++ o)))
   -- it refuses exactly at the octet that spoils the message, with the number of that octet's role
-  pub refuses : (f : Fault) → (r .answer ≡ Refused f) ↔ (Spoilt document01 (h ++ o) (f .place) × Numbered document01 (h ++ o) (f .place) (f .number))
+  pub refuses : (f : Fault) → (r .answer ≡ Refused f) ↔ (Spoilt (L .Accepts) (h ++ o) (f .place) × Numbered (L .Accepts) (L .roles) (h ++ o) (f .place) (f .number))
   -- it takes the whole run while it waits, the message's octets and no more, and the spoiling octet but none after it
   pub taken-waiting : r .answer ≡ Waits → r .taken ≡ length o
   pub taken-message : (n : ℕ) → r .answer ≡ Message n → length h + r .taken ≡ n
@@ -32,6 +32,6 @@ pub record Hears (h o : List ℕ) (r : Heard) : Type 0 where
 
 -- a listener stands where the octets h lead, and has taken each of them
 pub record Stands (l : Listener) (h : List ℕ) : Type 0 where
-  pub state : l .state ≡ answer (machine document01) h
+  pub state : l .state ≡ answer (languageOf (l .book) .machine) h
   pub octets : Octets h
   pub counted : place (l .state) ≡ length h

@@ -1,5 +1,6 @@
 // The listener: it takes octets in runs of any cut, and waits, has a message of a stated size, or refuses (document 01, Listening).
 // It goes in by value and comes back by value, and keeps no octets.
+use rules::Book;
 use rules::Class;
 use rules::Fault;
 use rules::Spot;
@@ -10,7 +11,7 @@ ghost use Prim.Native.Nat.{_<_};
 ghost use lib.Dec.{T};
 ghost use lib.ListN as list;
 ghost use Rattle.rules.specs.Contents.{within};
-ghost use Rattle.rules.specs.Table.{document01};
+ghost use Rattle.rules.specs.Table.{rulesOf};
 ghost use Rattle.rules.specs.Machine as machine;
 ghost use Rattle.rules.specs.Judge.{given, inRange};
 ghost use Rattle.rules.specs.Judge as judge;
@@ -19,6 +20,7 @@ ghost use Rattle.rules.specs.declared.Stage.the-variants as stage;
 ghost use Rattle.listener.specs.Heard.{answerOf, runOf, Onward, heardOf, newListener};
 
 pub struct Listener {
+    pub book: Book,
     pub state: State,
 }
 
@@ -41,9 +43,9 @@ struct Ran {
     taken: usize,
 }
 
-fn moved(stage: Stage, q: Spot, x: u8) -> Spot
+fn moved(book: Book, stage: Stage, q: Spot, x: u8) -> Spot
     requires { ⌜ q .place < 65535 ⌝ }
-    ensures { λ r. ⌜ r ≡ machine.moved (judge.machine document01) stage q x ⌝ }
+    ensures { λ r. ⌜ r ≡ machine.moved (judge.machine (rulesOf book)) stage q x ⌝ }
 {
     let sum = std::num::wrapping_add_u8(q.sum, x);
     Spot {
@@ -52,8 +54,8 @@ fn moved(stage: Stage, q: Spot, x: u8) -> Spot
     }
 }
 
-fn declined(stage: Stage, number: u8, q: Spot) -> State
-    ensures { λ r. ⌜ r ≡ machine.declined (judge.machine document01) stage number q ⌝ }
+fn declined(book: Book, stage: Stage, number: u8, q: Spot) -> State
+    ensures { λ r. ⌜ r ≡ machine.declined (judge.machine (rulesOf book)) stage number q ⌝ }
 {
     State::Refused(Fault {
         number,
@@ -78,72 +80,74 @@ fn contents(class: Class, length: u8, index: u8, memory: u8, room: u8) -> Stage
     }
 }
 
-fn at_kind(q: Spot, x: u8) -> State
+fn at_kind(book: Book, q: Spot, x: u8) -> State
     requires { ⌜ q .place < 65535 ⌝ }
-    ensures { λ r. ⌜ r ≡ machine.step (judge.machine document01) (state.Waiting stage.Kind q) x ⌝ }
+    ensures { λ r. ⌜ r ≡ machine.step (judge.machine (rulesOf book)) (state.Waiting stage.Kind q) x ⌝ }
 {
     if rules::message_kind(x) {
-        State::Waiting(Stage::Size, moved(Stage::Kind, q, x))
+        State::Waiting(Stage::Size, moved(book, Stage::Kind, q, x))
     } else {
-        declined(Stage::Kind, 1, q)
+        declined(book, Stage::Kind, 1, q)
     }
 }
 
-fn at_size(q: Spot, x: u8) -> State
+fn at_size(book: Book, q: Spot, x: u8) -> State
     requires { ⌜ q .place < 65535 ⌝ }
-    ensures { λ r. ⌜ r ≡ machine.step (judge.machine document01) (state.Waiting stage.Size q) x ⌝ }
+    ensures { λ r. ⌜ r ≡ machine.step (judge.machine (rulesOf book)) (state.Waiting stage.Size q) x ⌝ }
 {
     if 3 <= x {
-        State::Waiting(Stage::Header { room: x }, moved(Stage::Size, q, x))
+        State::Waiting(Stage::Header { room: x }, moved(book, Stage::Size, q, x))
     } else {
-        declined(Stage::Size, 2, q)
+        declined(book, Stage::Size, 2, q)
     }
 }
 
-fn at_check(q: Spot, x: u8) -> State
+fn at_check(book: Book, q: Spot, x: u8) -> State
     requires { ⌜ q .place < 65535 ⌝ }
-    ensures { λ r. ⌜ r ≡ machine.step (judge.machine document01) (state.Waiting (stage.Header 0) q) x ⌝ }
+    ensures { λ r. ⌜ r ≡ machine.step (judge.machine (rulesOf book)) (state.Waiting (stage.Header 0) q) x ⌝ }
 {
     if x == std::num::wrapping_sub_u8(0, q.sum) {
         State::Message(q.place + 1)
     } else {
-        declined(Stage::Header { room: 0 }, 6, q)
+        declined(book, Stage::Header { room: 0 }, 6, q)
     }
 }
 
-fn at_header(room: u8, q: Spot, x: u8) -> State
+fn at_header(book: Book, room: u8, q: Spot, x: u8) -> State
     requires { ⌜ q .place < 65535 ⌝ }
-    ensures { λ r. ⌜ r ≡ machine.step (judge.machine document01) (state.Waiting (stage.Header room) q) x ⌝ }
+    ensures { λ r. ⌜ r ≡ machine.step (judge.machine (rulesOf book)) (state.Waiting (stage.Header room) q) x ⌝ }
 {
     if room == 0 {
-        at_check(q, x)
+        at_check(book, q, x)
     } else {
-        let class = rules::class_of(x);
+        let class = rules::class_of(book, x);
         if rules::possible(class, room) {
             State::Waiting(
                 Stage::Length { class, room },
-                moved(Stage::Header { room }, q, x),
+                moved(book, Stage::Header { room }, q, x),
             )
         } else {
-            declined(Stage::Header { room }, 3, q)
+            let number = rules::class_fault(class);
+            declined(book, Stage::Header { room }, number, q)
         }
     }
 }
 
-fn at_length(class: Class, room: u8, q: Spot, x: u8) -> State
+fn at_length(book: Book, class: Class, room: u8, q: Spot, x: u8) -> State
     requires { ⌜ q .place < 65535 ⌝ }
-    ensures { λ r. ⌜ r ≡ machine.step (judge.machine document01) (state.Waiting (stage.Length class room) q) x ⌝ }
+    ensures { λ r. ⌜ r ≡ machine.step (judge.machine (rulesOf book)) (state.Waiting (stage.Length class room) q) x ⌝ }
 {
     if rules::length_fits(class, room, x) {
         let next = contents(class, x, 0, 0, room - 2 - x);
-        State::Waiting(next, moved(Stage::Length { class, room }, q, x))
+        State::Waiting(next, moved(book, Stage::Length { class, room }, q, x))
     } else {
-        declined(Stage::Length { class, room }, 4, q)
+        declined(book, Stage::Length { class, room }, 4, q)
     }
 }
 
 // Contents as far as they go: to their end, to the octet that spoils them, or to the end of the run. Class, length and room stay; index, memory and spot move.
 fn along(
+    book: Book,
     class: Class,
     length: u8,
     first: u8,
@@ -153,8 +157,8 @@ fn along(
     octets: &[u8],
     from: usize,
 ) -> Ran
-    requires { ⌜ T (inRange document01 (state.Waiting (stage.Content class length first kept room) spot)) × (from < list.length (now octets)) ⌝ }
-    ensures { λ r. ⌜ Onward (state.Waiting (stage.Content class length first kept room) spot) (now (octets .entry)) from r ⌝ }
+    requires { ⌜ T (inRange (rulesOf book) (state.Waiting (stage.Content class length first kept room) spot)) × (from < list.length (now octets)) ⌝ }
+    ensures { λ r. ⌜ Onward (rulesOf book) (state.Waiting (stage.Content class length first kept room) spot) (now (octets .entry)) from r ⌝ }
 {
     let mut index = first;
     let mut memory = kept;
@@ -169,21 +173,23 @@ fn along(
             memory,
             room,
         };
-        i += 1;
         if rules::content_ok(class, length, index, memory, x) {
             memory = rules::remember(class, length, index, memory, x);
             index += 1;
-            q = moved(here, q, x);
+            q = moved(book, here, q, x);
             if index == length {
+                let taken = i + 1;
                 return Ran {
                     state: State::Waiting(Stage::Header { room }, q),
-                    taken: i,
+                    taken,
                 };
             }
+            i += 1;
         } else {
+            let taken = i + 1;
             return Ran {
-                state: declined(here, 5, q),
-                taken: i,
+                state: declined(book, here, 5, q),
+                taken,
             };
         }
     }
@@ -201,26 +207,26 @@ fn along(
 }
 
 // One octet further, or contents as far as they go.
-fn onward(stage: Stage, q: Spot, octets: &[u8], i: usize) -> Ran
-    requires { ⌜ T (inRange document01 (state.Waiting stage q)) × (i < list.length (now octets)) ⌝ }
-    ensures { λ r. ⌜ Onward (state.Waiting stage q) (now (octets .entry)) i r ⌝ }
+fn onward(book: Book, stage: Stage, q: Spot, octets: &[u8], i: usize) -> Ran
+    requires { ⌜ T (inRange (rulesOf book) (state.Waiting stage q)) × (i < list.length (now octets)) ⌝ }
+    ensures { λ r. ⌜ Onward (rulesOf book) (state.Waiting stage q) (now (octets .entry)) i r ⌝ }
 {
     let x = octets[i];
     match stage {
         Stage::Kind => Ran {
-            state: at_kind(q, x),
+            state: at_kind(book, q, x),
             taken: i + 1,
         },
         Stage::Size => Ran {
-            state: at_size(q, x),
+            state: at_size(book, q, x),
             taken: i + 1,
         },
         Stage::Header { room } => Ran {
-            state: at_header(room, q, x),
+            state: at_header(book, room, q, x),
             taken: i + 1,
         },
         Stage::Length { class, room } => Ran {
-            state: at_length(class, room, q, x),
+            state: at_length(book, class, room, q, x),
             taken: i + 1,
         },
         Stage::Content {
@@ -229,7 +235,7 @@ fn onward(stage: Stage, q: Spot, octets: &[u8], i: usize) -> Ran
             index,
             memory,
             room,
-        } => along(class, length, index, memory, room, q, octets, i),
+        } => along(book, class, length, index, memory, room, q, octets, i),
     }
 }
 
@@ -239,18 +245,20 @@ fn between(lo: u32, hi: u32, x: u32) -> bool
     lo <= x && x <= hi
 }
 
-fn known_number(k: u8) -> bool
-    ensures { λ r. ⌜ r ≡ given document01 k ⌝ }
+fn known_number(book: Book, k: u8) -> bool
+    ensures { λ r. ⌜ r ≡ given (rulesOf book) k ⌝ }
 {
     if between(1, 6, k as u32) {
         true
+    } else if k == 10 {
+        rules::is_strict(book)
     } else {
-        k == 3
+        false
     }
 }
 
-fn spot_in_range(stage: Stage, q: Spot) -> bool
-    ensures { λ r. ⌜ r ≡ inRange document01 (state.Waiting stage q) ⌝ }
+fn spot_in_range(book: Book, stage: Stage, q: Spot) -> bool
+    ensures { λ r. ⌜ r ≡ inRange (rulesOf book) (state.Waiting stage q) ⌝ }
 {
     let place = q.place as u32;
     match stage {
@@ -281,14 +289,14 @@ fn spot_in_range(stage: Stage, q: Spot) -> bool
     }
 }
 
-fn in_range(s: State) -> bool
-    ensures { λ r. ⌜ r ≡ inRange document01 s ⌝ }
+fn in_range(book: Book, s: State) -> bool
+    ensures { λ r. ⌜ r ≡ inRange (rulesOf book) s ⌝ }
 {
     match s {
-        State::Waiting(stage, q) => spot_in_range(stage, q),
+        State::Waiting(stage, q) => spot_in_range(book, stage, q),
         State::Message(n) => between(6, 258, n as u32),
         State::Refused(f) => {
-            if known_number(f.number) {
+            if known_number(book, f.number) {
                 f.place <= 257
             } else {
                 false
@@ -297,16 +305,16 @@ fn in_range(s: State) -> bool
     }
 }
 
-fn run(s: State, octets: &[u8]) -> Ran
-    requires { ⌜ T (inRange document01 s) ⌝ }
-    ensures { λ r. ⌜ r ≡ runOf (judge.machine document01) s (now (octets .entry)) ⌝ }
+fn run(book: Book, s: State, octets: &[u8]) -> Ran
+    requires { ⌜ T (inRange (rulesOf book) s) ⌝ }
+    ensures { λ r. ⌜ r ≡ runOf (judge.machine (rulesOf book)) s (now (octets .entry)) ⌝ }
 {
     let mut cur = s;
     let mut i = 0;
     while i < octets.len() {
         match cur {
             State::Waiting(stage, q) => {
-                let next = onward(stage, q, octets, i);
+                let next = onward(book, stage, q, octets, i);
                 cur = next.state;
                 i = next.taken;
             }
@@ -341,34 +349,36 @@ fn answer_of(s: State) -> Answer
 }
 
 // A new listener; a listener is reset by putting a new one in its place.
-pub fn reset() -> Listener
-    ensures { λ r. ⌜ r ≡ newListener ⌝ }
+pub fn reset(book: Book) -> Listener
+    ensures { λ r. ⌜ r ≡ newListener book ⌝ }
 {
     Listener {
+        book,
         state: State::Waiting(Stage::Kind, Spot { sum: 0, place: 0 }),
     }
 }
 
 // Takes a run of octets, none included. A listener out of range gets 17 and comes back as it was.
 pub fn listen(l: Listener, octets: &[u8]) -> Heard
-    ensures { λ r. ⌜ r ≡ heardOf document01 l (now (octets .entry)) ⌝ }
+    ensures { λ r. ⌜ r ≡ heardOf l (now (octets .entry)) ⌝ }
 {
+    let book = l.book;
     let state = l.state;
-    if in_range(state) {
-        let ran = run(state, octets);
+    if in_range(book, state) {
+        let ran = run(book, state, octets);
         let now_at = ran.state;
         Heard {
-            listener: Listener { state: now_at },
+            listener: Listener {
+                book,
+                state: now_at,
+            },
             answer: answer_of(now_at),
             taken: ran.taken,
         }
     } else {
         Heard {
             listener: l,
-            answer: Answer::Refused(Fault {
-                number: 17,
-                place: 0,
-            }),
+            answer: Answer::Refused(rules::noted(17, 0)),
             taken: 0,
         }
     }

@@ -10,11 +10,14 @@ use lib.Seq.{take-all, length-take-le}
 use lib.Dec.{T}
 use Rattle.rules.specs.Tests.{_≤?_, _=?_, pick-not, eq-of, le-of, not-le, decide}
 use Rattle.rules.specs.Octets.{Octets, octets-take}
-use Rattle.rules.specs.Table.{document01}
+use Rattle.rules.specs.Table.{rulesOf}
+use Rattle.rules.specs.declared.Book.the-variants.{PresentLenient}
+use Rattle.rules.specs.Refusals.{noted}
 use Rattle.rules.specs.Machine.{run, answer, start, Waits}
 use Rattle.rules.specs.Judge.{machine, inRange}
-use Rattle.rules.specs.InRange.{in-range-run, in-range-start, high}
-use Rattle.rules.specs.Demand3.{document01-demand3}
+use Rattle.rules.specs.InRange.{high}
+use Rattle.rules.specs.Language.{in-range-run}
+use Rattle.rules.specs.Calls.{spoken-of, demand3-of}
 use Rattle.rules.specs.declared.State.{State}
 use Rattle.rules.specs.declared.State.the-variants.{Waiting, Message, Refused}
 use Rattle.message.specs.declared.Verdict.{Verdict}
@@ -29,29 +32,29 @@ module _ (a b : List ℕ) (q : Octets a) (long : length a ≡ 259) where
   later : (n : ℕ) → n ≤ 258 → length a ≤ length (a ++ b) → T (length (a ++ b) =? n) → ⊥
   later n h l t = omega (arith, eq-of _ _ t)
 
-  same-lines : length a ≤ length (a ++ b) → (w : State) → T (inRange document01 w) → (Waits w → length a < 258) → written (listed document01 a (judged a w)) ≡ written (listed document01 (a ++ b) (judged (a ++ b) (run (machine document01) w b)))
+  same-lines : length a ≤ length (a ++ b) → (w : State) → T (inRange (rulesOf PresentLenient) w) → (Waits w → length a < 258) → written (listed (rulesOf PresentLenient) a (judged a w)) ≡ written (listed (rulesOf PresentLenient) (a ++ b) (judged (a ++ b) (run (machine (rulesOf PresentLenient)) w b)))
   unfolding judged listed inRange
   same-lines l (Waiting s p) t h = absurd (omega (arith, h tt))
   same-lines l (Message n) t h =
       let k = high 6 258 n t in
-      ap (λ (v : Verdict). written (listed document01 a v)) (pick-not (length a =? n) (Accepted n) (Declined (record { number = 7; place = n })) (late n k))
-      ∙ sym (ap (λ (w : State). written (listed document01 (a ++ b) (judged (a ++ b) w))) (document01-demand3 .message-stays n b)
-      ∙ ap (λ (v : Verdict). written (listed document01 (a ++ b) v)) (pick-not (length (a ++ b) =? n) (Accepted n) (Declined (record { number = 7; place = n })) (later n k l)))
-  same-lines l (Refused f) t h = sym (ap (λ (w : State). written (listed document01 (a ++ b) (judged (a ++ b) w))) (document01-demand3 .refusal-stays f b))
+      ap (λ (v : Verdict). written (listed (rulesOf PresentLenient) a v)) (pick-not (length a =? n) (Accepted n) (Declined (noted 7 n)) (late n k))
+      ∙ sym (ap (λ (w : State). written (listed (rulesOf PresentLenient) (a ++ b) (judged (a ++ b) w))) (demand3-of PresentLenient .message-stays n b)
+      ∙ ap (λ (v : Verdict). written (listed (rulesOf PresentLenient) (a ++ b) v)) (pick-not (length (a ++ b) =? n) (Accepted n) (Declined (noted 7 n)) (later n k l)))
+  same-lines l (Refused f) t h = sym (ap (λ (w : State). written (listed (rulesOf PresentLenient) (a ++ b) (judged (a ++ b) w))) (demand3-of PresentLenient .refusal-stays f b))
 
-  same-listing : length a ≤ length (a ++ b) → listingOf document01 a ≡ listingOf document01 (a ++ b)
+  same-listing : length a ≤ length (a ++ b) → listingOf (rulesOf PresentLenient) a ≡ listingOf (rulesOf PresentLenient) (a ++ b)
   unfolding listingOf verdictOf
   same-listing l =
-      same-lines l (answer (machine document01) a) (in-range-run document01 (start (machine document01)) a q (in-range-start document01)) (document01-demand3 .answers-by-258 a q)
-      ∙ ap (λ (w : State). written (listed document01 (a ++ b) (judged (a ++ b) w))) (sym (document01-demand3 .cut-anywhere (start (machine document01)) a b))
+      same-lines l (answer (machine (rulesOf PresentLenient)) a) (in-range-run (spoken-of PresentLenient) (start (machine (rulesOf PresentLenient))) a q (spoken-of PresentLenient .in-range-start)) (demand3-of PresentLenient .answers-by-258 a q)
+      ∙ ap (λ (w : State). written (listed (rulesOf PresentLenient) (a ++ b) (judged (a ++ b) w))) (sym (demand3-of PresentLenient .cut-anywhere (start (machine (rulesOf PresentLenient))) a b))
 
 -- the listing of the first 259 octets is that of all
-pub first-259 : (o : List ℕ) → Octets o → listingOf document01 (take 259 o) ≡ listingOf document01 o
+pub first-259 : (o : List ℕ) → Octets o → listingOf (rulesOf PresentLenient) (take 259 o) ≡ listingOf (rulesOf PresentLenient) o
 first-259 o q = go (decide (length o ≤? 259))
   where
-    go : T (length o ≤? 259) ⊎ (T (length o ≤? 259) → ⊥) → listingOf document01 (take 259 o) ≡ listingOf document01 o
-    go (inl t) = ap (listingOf document01) (take-all 259 o (le-of _ _ t))
+    go : T (length o ≤? 259) ⊎ (T (length o ≤? 259) → ⊥) → listingOf (rulesOf PresentLenient) (take 259 o) ≡ listingOf (rulesOf PresentLenient) o
+    go (inl t) = ap (listingOf (rulesOf PresentLenient)) (take-all 259 o (le-of _ _ t))
     go (inr t) =
         let n = length-take-le 259 o (let z = not-le (length o) 259 t in omega arith) in
         let e = take-append-drop 259 o in
-        same-listing (take 259 o) (drop 259 o) (octets-take 259 o q) n (omega (arith, ap length e, not-le (length o) 259 t)) ∙ ap (listingOf document01) e
+        same-listing (take 259 o) (drop 259 o) (octets-take 259 o q) n (omega (arith, ap length e, not-le (length o) 259 t)) ∙ ap (listingOf (rulesOf PresentLenient)) e

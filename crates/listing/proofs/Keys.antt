@@ -7,7 +7,7 @@ use mathlib.Core.List.{List, [], _∷_, _++_}
 use lib.ListN.{getD}
 use lib.Dec.{T}
 use Rattle.rules.specs.Tests.{_≤?_, _=?_, _and_, both, le-of, eq-of}
-use Rattle.rules.specs.Table.{document01, ascii}
+use Rattle.rules.specs.Table.{rulesOf, ascii}
 use Rattle.rules.specs.Pairwise.{pairwise, sameOctets, octets-are}
 use Rattle.listing.proofs.Tabled.{below, below-at}
 use Rattle.listing.specs.Put.{part}
@@ -26,7 +26,7 @@ abbrev test : ℕ → Bool
 test i = (getD kinds i 0 =? rowAt i .kind) and (getD starts i 0 ≤? getD starts (i + 1) 0) and (getD starts (i + 1) 0 ≤? 119) and sameOctets (part keys (getD starts i 0) (getD starts (i + 1) 0)) (rowAt i .key ++ ascii "=")
 
 tested : T (below test rowCount)
-unfolding below pairwise rowAt document01 ascii kinds starts keys _=?_ _≤?_ _and_
+unfolding below pairwise rowAt rulesOf ascii kinds starts keys _=?_ _≤?_ _and_
 tested = tt
 
 pub record Key (i : ℕ) : Type 0 where

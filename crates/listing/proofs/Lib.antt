@@ -7,6 +7,7 @@ pub mod Settled
 pub mod Listings
 pub mod Tabled
 pub mod Lines
+pub mod Values
 pub mod Longest
 pub mod First
 pub mod Plain

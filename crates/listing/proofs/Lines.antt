@@ -10,7 +10,8 @@ use native.Mathlib.Omega.{arith}
 use lib.ListN.{length, getD}
 use lib.Dec.{T}
 use Rattle.rules.specs.Tests.{_=?_, _and_, _or_, pick, both, either, eq-of}
-use Rattle.rules.specs.Table.{Row, document01, classOf, styleOf, ascii}
+use Rattle.rules.specs.Table.{Row, rulesOf, classOf, styleOf, ascii}
+use Rattle.rules.specs.declared.Book.the-variants.{PresentLenient}
 use Rattle.rules.specs.Message.{Message}
 use Rattle.rules.specs.Counting.{counted, carriedIn}
 use Rattle.rules.specs.Pairwise.{pairwise}
@@ -45,7 +46,7 @@ abbrev apart : ℕ → Bool
 apart i = differ (rowAt i .key) (ascii "kind") and differ (rowAt i .key) (ascii "carried") and below (λ (j : ℕ). differ (rowAt i .key) (rowAt j .key) or i =? j) rowCount
 
 tested : T (below apart rowCount)
-unfolding below pairwise differ rowAt document01 ascii pick _=?_ _and_ _or_
+unfolding below pairwise differ rowAt rulesOf ascii pick _=?_ _and_ _or_
 tested = tt
 
 module _ (i : ℕ) (h : i < rowCount) where
@@ -68,74 +69,74 @@ module _ (i : ℕ) (h : i < rowCount) where
 module _ (m : Message) where
   -- the type of row i counts with contents v, and l is its line
   abbrev pub LineAt : ℕ → Line → Type 0
-  LineAt i l = (v : List ℕ) × (counted document01 m (rowAt i .kind) ≡ some v) × (l ≡ lineOf document01 (rowAt i) v)
+  LineAt i l = (v : List ℕ) × (counted (rulesOf PresentLenient) m (rowAt i .kind) ≡ some v) × (l ≡ lineOf (rulesOf PresentLenient) (rowAt i) v)
 
-  for-row : (r : Row) (x : Option (List ℕ)) (l : Line) → Has (linesFor document01 r x) l → (v : List ℕ) × (x ≡ some v) × (l ≡ lineOf document01 r v)
+  for-row : (r : Row) (x : Option (List ℕ)) (l : Line) → Has (linesFor (rulesOf PresentLenient) r x) l → (v : List ℕ) × (x ≡ some v) × (l ≡ lineOf (rulesOf PresentLenient) r v)
   unfolding linesFor
   for-row r none l h = absurd h
   for-row r (some v) l (inl e) = (v, refl, e)
   for-row r (some v) l (inr h) = absurd h
 
-  row-for : (r : Row) (x : Option (List ℕ)) (v : List ℕ) → x ≡ some v → Has (linesFor document01 r x) (lineOf document01 r v)
+  row-for : (r : Row) (x : Option (List ℕ)) (v : List ℕ) → x ≡ some v → Has (linesFor (rulesOf PresentLenient) r x) (lineOf (rulesOf PresentLenient) r v)
   unfolding linesFor
-  row-for r x v e = subst (λ (y : Option (List ℕ)). Has (linesFor document01 r y) (lineOf document01 r v)) (sym e) (inl refl)
+  row-for r x v e = subst (λ (y : Option (List ℕ)). Has (linesFor (rulesOf PresentLenient) r y) (lineOf (rulesOf PresentLenient) r v)) (sym e) (inl refl)
 
   abbrev one : Row → List Line
-  one r = linesFor document01 r (counted document01 m (r .kind))
+  one r = linesFor (rulesOf PresentLenient) r (counted (rulesOf PresentLenient) m (r .kind))
 
-  from-rows : (d : Row) (rs : List Row) (l : Line) → Has (rowLines document01 m rs) l → (j : ℕ) × (j < length rs) × Has (one (getD rs j d)) l
+  from-rows : (d : Row) (rs : List Row) (l : Line) → Has (rowLines (rulesOf PresentLenient) m rs) l → (j : ℕ) × (j < length rs) × Has (one (getD rs j d)) l
   unfolding rowLines
   from-rows d [] l h = absurd h
-  from-rows d (r ∷ rs) l h = go (has-split (one r) (rowLines document01 m rs) l h) (from-rows d rs l)
+  from-rows d (r ∷ rs) l h = go (has-split (one r) (rowLines (rulesOf PresentLenient) m rs) l h) (from-rows d rs l)
     where
-      go : Has (one r) l ⊎ Has (rowLines document01 m rs) l → (Has (rowLines document01 m rs) l → (j : ℕ) × (j < length rs) × Has (one (getD rs j d)) l) → (j : ℕ) × (j < length (r ∷ rs)) × Has (one (getD (r ∷ rs) j d)) l
+      go : Has (one r) l ⊎ Has (rowLines (rulesOf PresentLenient) m rs) l → (Has (rowLines (rulesOf PresentLenient) m rs) l → (j : ℕ) × (j < length rs) × Has (one (getD rs j d)) l) → (j : ℕ) × (j < length (r ∷ rs)) × Has (one (getD (r ∷ rs) j d)) l
       go (inl x) ih = (0, omega arith, x)
       go (inr x) ih = let w = ih x in (suc (w .0), omega (arith, w .1), w .2)
 
-  to-rows : (d : Row) (rs : List Row) (j : ℕ) (l : Line) → j < length rs → Has (one (getD rs j d)) l → Has (rowLines document01 m rs) l
+  to-rows : (d : Row) (rs : List Row) (j : ℕ) (l : Line) → j < length rs → Has (one (getD rs j d)) l → Has (rowLines (rulesOf PresentLenient) m rs) l
   unfolding rowLines
   to-rows d [] j l h x = absurd (omega arith)
-  to-rows d (r ∷ rs) zero l h x = has-left (one r) (rowLines document01 m rs) l x
-  to-rows d (r ∷ rs) (suc j) l h x = has-right (one r) (rowLines document01 m rs) l (to-rows d rs j l (omega arith) x)
+  to-rows d (r ∷ rs) zero l h x = has-left (one r) (rowLines (rulesOf PresentLenient) m rs) l x
+  to-rows d (r ∷ rs) (suc j) l h x = has-right (one r) (rowLines (rulesOf PresentLenient) m rs) l (to-rows d rs j l (omega arith) x)
 
   -- a line says the kind, or the number of carried parameters, or what counts
-  pub every-line : (l : Line) → Has (linesOf document01 m) l → (l ≡ kindLine (m .kind)) ⊎ ((l ≡ carriedLine (carriedIn document01 (m .parameters))) ⊎ ((i : ℕ) × (i < rowCount) × LineAt i l))
+  pub every-line : (l : Line) → Has (linesOf (rulesOf PresentLenient) m) l → (l ≡ kindLine (m .kind)) ⊎ ((l ≡ carriedLine (carriedIn (rulesOf PresentLenient) (m .parameters))) ⊎ ((i : ℕ) × (i < rowCount) × LineAt i l))
   unfolding linesOf rowAt
   every-line l (inl e) = inl e
-  every-line l (inr h) = inr (go (has-split (rowLines document01 m (document01 .rows)) (carriedLine (carriedIn document01 (m .parameters)) ∷ []) l h))
+  every-line l (inr h) = inr (go (has-split (rowLines (rulesOf PresentLenient) m ((rulesOf PresentLenient) .rows)) (carriedLine (carriedIn (rulesOf PresentLenient) (m .parameters)) ∷ []) l h))
     where
-      go : Has (rowLines document01 m (document01 .rows)) l ⊎ Has (carriedLine (carriedIn document01 (m .parameters)) ∷ []) l → (l ≡ carriedLine (carriedIn document01 (m .parameters))) ⊎ ((i : ℕ) × (i < rowCount) × LineAt i l)
-      go (inl x) = let w = from-rows noRow (document01 .rows) l x in inr (w .0, omega (arith, w .1, row-count), for-row (rowAt (w .0)) _ l (w .2))
+      go : Has (rowLines (rulesOf PresentLenient) m ((rulesOf PresentLenient) .rows)) l ⊎ Has (carriedLine (carriedIn (rulesOf PresentLenient) (m .parameters)) ∷ []) l → (l ≡ carriedLine (carriedIn (rulesOf PresentLenient) (m .parameters))) ⊎ ((i : ℕ) × (i < rowCount) × LineAt i l)
+      go (inl x) = let w = from-rows noRow ((rulesOf PresentLenient) .rows) l x in inr (w .0, omega (arith, w .1, row-count), for-row (rowAt (w .0)) _ l (w .2))
       go (inr (inl e)) = inl e
       go (inr (inr x)) = absurd x
 
   -- and the line of each type that counts is there
-  pub line-there : (i : ℕ) (l : Line) → i < rowCount → LineAt i l → Has (linesOf document01 m) l
+  pub line-there : (i : ℕ) (l : Line) → i < rowCount → LineAt i l → Has (linesOf (rulesOf PresentLenient) m) l
   unfolding linesOf rowAt
   line-there i l h w =
-      inr (has-left (rowLines document01 m (document01 .rows)) (carriedLine (carriedIn document01 (m .parameters)) ∷ []) l
-      (to-rows noRow (document01 .rows) i l (omega (arith, row-count)) (subst (Has (one (rowAt i))) (sym (w .2)) (row-for (rowAt i) _ (w .0) (w .1)))))
+      inr (has-left (rowLines (rulesOf PresentLenient) m ((rulesOf PresentLenient) .rows)) (carriedLine (carriedIn (rulesOf PresentLenient) (m .parameters)) ∷ []) l
+      (to-rows noRow ((rulesOf PresentLenient) .rows) i l (omega (arith, row-count)) (subst (Has (one (rowAt i))) (sym (w .2)) (row-for (rowAt i) _ (w .0) (w .1)))))
 
   key-of : (i : ℕ) (x : List ℕ) (l : Line) → (record { key = rowAt i .key; value = x }) ≡ l → rowAt i .key ≡ l .key
   key-of i x l e = ap (λ (k : Line). k .key) e
 
   -- a row's key has a line with the value x exactly when its type counts and x is its value's text
-  pub line-iff : (i : ℕ) (x : List ℕ) → i < rowCount → Has (linesOf document01 m) (record { key = rowAt i .key; value = x }) ↔ ((v : List ℕ) × (counted document01 m (rowAt i .kind) ≡ some v) × (x ≡ printed (styleOf (classOf document01 (rowAt i .kind))) v))
+  pub line-iff : (i : ℕ) (x : List ℕ) → i < rowCount → Has (linesOf (rulesOf PresentLenient) m) (record { key = rowAt i .key; value = x }) ↔ ((v : List ℕ) × (counted (rulesOf PresentLenient) m (rowAt i .kind) ≡ some v) × (x ≡ printed (styleOf (classOf (rulesOf PresentLenient) (rowAt i .kind))) v))
   unfolding lineOf kindLine carriedLine
   line-iff i x h = (
     λ t. go (every-line _ t),
     λ w. line-there i _ h (w .0, w .1, ap (λ (y : List ℕ). record { key = rowAt i .key; value = y }) (w .2)),
   )
     where
-      at : (j : ℕ) → i ≡ j → LineAt j (record { key = rowAt i .key; value = x }) → (v : List ℕ) × (counted document01 m (rowAt i .kind) ≡ some v) × (x ≡ printed (styleOf (classOf document01 (rowAt i .kind))) v)
-      at j e w = (w .0, ap (λ (k : ℕ). counted document01 m (rowAt k .kind)) e ∙ w .1, ap (λ (k : Line). k .value) (w .2) ∙ ap (λ (k : ℕ). printed (styleOf (classOf document01 (rowAt k .kind))) (w .0)) (sym e))
+      at : (j : ℕ) → i ≡ j → LineAt j (record { key = rowAt i .key; value = x }) → (v : List ℕ) × (counted (rulesOf PresentLenient) m (rowAt i .kind) ≡ some v) × (x ≡ printed (styleOf (classOf (rulesOf PresentLenient) (rowAt i .kind))) v)
+      at j e w = (w .0, ap (λ (k : ℕ). counted (rulesOf PresentLenient) m (rowAt k .kind)) e ∙ w .1, ap (λ (k : Line). k .value) (w .2) ∙ ap (λ (k : ℕ). printed (styleOf (classOf (rulesOf PresentLenient) (rowAt k .kind))) (w .0)) (sym e))
 
-      go : ((record { key = rowAt i .key; value = x }) ≡ kindLine (m .kind)) ⊎ (((record { key = rowAt i .key; value = x }) ≡ carriedLine (carriedIn document01 (m .parameters))) ⊎ ((j : ℕ) × (j < rowCount) × LineAt j (record { key = rowAt i .key; value = x }))) → (v : List ℕ) × (counted document01 m (rowAt i .kind) ≡ some v) × (x ≡ printed (styleOf (classOf document01 (rowAt i .kind))) v)
+      go : ((record { key = rowAt i .key; value = x }) ≡ kindLine (m .kind)) ⊎ (((record { key = rowAt i .key; value = x }) ≡ carriedLine (carriedIn (rulesOf PresentLenient) (m .parameters))) ⊎ ((j : ℕ) × (j < rowCount) × LineAt j (record { key = rowAt i .key; value = x }))) → (v : List ℕ) × (counted (rulesOf PresentLenient) m (rowAt i .kind) ≡ some v) × (x ≡ printed (styleOf (classOf (rulesOf PresentLenient) (rowAt i .kind))) v)
       go (inl e) = absurd (not-kind i h (key-of i x _ e))
       go (inr (inl e)) = absurd (not-carried i h (key-of i x _ e))
       go (inr (inr w)) = at (w .0) (key-tells i h (w .0) (w .1) (key-of i x _ (w .2 .2))) (w .2)
 
   -- the number of carried parameters stands last, in every listing
-  pub carried-last : linesOf document01 m ≡ (kindLine (m .kind) ∷ rowLines document01 m (document01 .rows)) ++ carriedLine (carriedIn document01 (m .parameters)) ∷ []
+  pub carried-last : linesOf (rulesOf PresentLenient) m ≡ (kindLine (m .kind) ∷ rowLines (rulesOf PresentLenient) m ((rulesOf PresentLenient) .rows)) ++ carriedLine (carriedIn (rulesOf PresentLenient) (m .parameters)) ∷ []
   unfolding linesOf
   carried-last = refl

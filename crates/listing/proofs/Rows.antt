@@ -10,7 +10,8 @@ use lib.ListN.{length, length-append, getD, take, drop, take-append-drop}
 use lib.Seq.{take-suc}
 use Rattle.rules.specs.Message.{most}
 use Rattle.rules.specs.Tests.{pick}
-use Rattle.rules.specs.Table.{Row, document01, listed, ascii}
+use Rattle.rules.specs.Table.{Row, rulesOf, listed, ascii}
+use Rattle.rules.specs.declared.Book.the-variants.{PresentLenient}
 use Rattle.rules.specs.Counting.{carriedIn}
 use Rattle.rules.specs.declared.Fault.{Fault}
 use Rattle.message.specs.declared.Found.the-variants.{Parameter, Nothing}
@@ -25,50 +26,50 @@ use Rattle.listing.specs.Listing.{lineText, written, written-one, writte
 use Rattle.listing.proofs.Keys.{kinds, key-at}
 
 -- ---- where contents stand, they lie inside
-pub part-inside : (o : List ℕ) (t : ℕ) (p : Part) (s n : ℕ) → p ≡ countedAt o t → p ≡ At s n → s + n ≤ length o
-part-inside o t p s n e q = omega (arith, counted-inside o t s n (sym e ∙ q))
+pub part-inside : (o : List ℕ) (t : ℕ) (p : Part) (s n : ℕ) → p ≡ countedAt (rulesOf PresentLenient) o t → p ≡ At s n → s + n ≤ length o
+part-inside o t p s n e q = omega (arith, counted-inside o (rulesOf PresentLenient) t s n (sym e ∙ q))
 
 -- ---- the line of a row
-module _ (o : List ℕ) (i : ℕ) (h : i < rowCount) (p : Part) (e : p ≡ countedAt o (getD kinds i 0)) where
-  stands : partLines document01 o (rowAt i) ≡ linesFor document01 (rowAt i) (partOf o p)
+module _ (o : List ℕ) (i : ℕ) (h : i < rowCount) (p : Part) (e : p ≡ countedAt (rulesOf PresentLenient) o (getD kinds i 0)) where
+  stands : partLines (rulesOf PresentLenient) o (rowAt i) ≡ linesFor (rulesOf PresentLenient) (rowAt i) (partOf o p)
   unfolding partLines
-  stands = ap (λ (x : Part). linesFor document01 (rowAt i) (partOf o x)) (ap (countedAt o) (sym (key-at i h .kind)) ∙ sym e)
+  stands = ap (λ (x : Part). linesFor (rulesOf PresentLenient) (rowAt i) (partOf o x)) (ap (countedAt (rulesOf PresentLenient) o) (sym (key-at i h .kind)) ∙ sym e)
 
-  pub row-line : (s n : ℕ) → p ≡ At s n → lineText (lineOf document01 (rowAt i) (take (s + n - s) (drop s o))) ≡ written (partLines document01 o (rowAt i))
+  pub row-line : (s n : ℕ) → p ≡ At s n → lineText (lineOf (rulesOf PresentLenient) (rowAt i) (take (s + n - s) (drop s o))) ≡ written (partLines (rulesOf PresentLenient) o (rowAt i))
   unfolding linesFor partOf
   row-line s n q =
       let z : s + n - s ≡ n = omega arith in
-      ap (λ (k : ℕ). lineText (lineOf document01 (rowAt i) (take k (drop s o)))) z
-      ∙ sym (written-one (lineOf document01 (rowAt i) (take n (drop s o))))
-      ∙ ap written (sym (stands ∙ ap (λ (x : Part). linesFor document01 (rowAt i) (partOf o x)) q))
+      ap (λ (k : ℕ). lineText (lineOf (rulesOf PresentLenient) (rowAt i) (take k (drop s o)))) z
+      ∙ sym (written-one (lineOf (rulesOf PresentLenient) (rowAt i) (take n (drop s o))))
+      ∙ ap written (sym (stands ∙ ap (λ (x : Part). linesFor (rulesOf PresentLenient) (rowAt i) (partOf o x)) q))
 
-  pub row-none : p ≡ Nowhere → [] ≡ written (partLines document01 o (rowAt i))
+  pub row-none : p ≡ Nowhere → [] ≡ written (partLines (rulesOf PresentLenient) o (rowAt i))
   unfolding linesFor partOf written
-  row-none q = ap written (sym (stands ∙ ap (λ (x : Part). linesFor document01 (rowAt i) (partOf o x)) q))
+  row-none q = ap written (sym (stands ∙ ap (λ (x : Part). linesFor (rulesOf PresentLenient) (rowAt i) (partOf o x)) q))
 
 -- ---- line after line
 abbrev rows : List Row
-rows = document01 .rows
+rows = (rulesOf PresentLenient) .rows
 
 module _ (o : List ℕ) where
   -- the text of some rows
   abbrev textAt : List Row → List ℕ
-  textAt rs = written (rowsAt document01 o rs)
+  textAt rs = written (rowsAt (rulesOf PresentLenient) o rs)
 
   rows-append : (a b : List Row) → textAt (a ++ b) ≡ textAt a ++ textAt b
   unfolding rowsAt written
   rows-append [] b = refl
   rows-append (r ∷ a) b =
-      written-append (partLines document01 o r) (rowsAt document01 o (a ++ b))
-      ∙ ap (λ (v : List ℕ). written (partLines document01 o r) ++ v) (rows-append a b)
-      ∙ sym (append-assoc (written (partLines document01 o r)) (textAt a) (textAt b))
-      ∙ ap (λ (v : List ℕ). v ++ textAt b) (sym (written-append (partLines document01 o r) (rowsAt document01 o a)))
+      written-append (partLines (rulesOf PresentLenient) o r) (rowsAt (rulesOf PresentLenient) o (a ++ b))
+      ∙ ap (λ (v : List ℕ). written (partLines (rulesOf PresentLenient) o r) ++ v) (rows-append a b)
+      ∙ sym (append-assoc (written (partLines (rulesOf PresentLenient) o r)) (textAt a) (textAt b))
+      ∙ ap (λ (v : List ℕ). v ++ textAt b) (sym (written-append (partLines (rulesOf PresentLenient) o r) (rowsAt (rulesOf PresentLenient) o a)))
 
-  row-alone : (r : Row) → textAt (r ∷ []) ≡ written (partLines document01 o r)
+  row-alone : (r : Row) → textAt (r ∷ []) ≡ written (partLines (rulesOf PresentLenient) o r)
   unfolding rowsAt
-  row-alone r = ap written (append-nil (partLines document01 o r))
+  row-alone r = ap written (append-nil (partLines (rulesOf PresentLenient) o r))
 
-  pub row-next : (i : ℕ) → i < rowCount → textAt (take (i + 1) rows) ≡ textAt (take i rows) ++ written (partLines document01 o (rowAt i))
+  pub row-next : (i : ℕ) → i < rowCount → textAt (take (i + 1) rows) ≡ textAt (take i rows) ++ written (partLines (rulesOf PresentLenient) o (rowAt i))
   unfolding rowAt
   row-next i h =
       ap (λ (n : ℕ). textAt (take n rows)) (add-one i)
@@ -82,25 +83,25 @@ module _ (o : List ℕ) where
     no-rows = put-none at old
 
     module _ (i : ℕ) (h : i < rowCount) (end : ℕ) (now : List ℕ) (p : Put (textAt (take i rows)) at old end now) where
-      pub row-room : Room (textAt rows) at old → Room (written (partLines document01 o (rowAt i))) end now
+      pub row-room : Room (textAt rows) at old → Room (written (partLines (rulesOf PresentLenient) o (rowAt i))) end now
       unfolding Room
       row-room r =
           let a = ap length (sym (rows-append (take (i + 1) rows) (drop (i + 1) rows)) ∙ ap textAt (take-append-drop (i + 1) rows)) in
           let b = length-append (textAt (take (i + 1) rows)) (textAt (drop (i + 1) rows)) in
-          let d = ap length (row-next i h) ∙ length-append (textAt (take i rows)) (written (partLines document01 o (rowAt i))) in
+          let d = ap length (row-next i h) ∙ length-append (textAt (take i rows)) (written (partLines (rulesOf PresentLenient) o (rowAt i))) in
           omega (arith, p .ends, p .long)
 
-      pub row-more : (last : ℕ) (next : List ℕ) → Put (written (partLines document01 o (rowAt i))) end now last next → Put (textAt (take (i + 1) rows)) at old last next
+      pub row-more : (last : ℕ) (next : List ℕ) → Put (written (partLines (rulesOf PresentLenient) o (rowAt i))) end now last next → Put (textAt (take (i + 1) rows)) at old last next
       row-more last next q = put-same _ _ at old last next (sym (row-next i h)) (put-then _ _ at old end now last next p q)
 
     pub all-rows : (i end : ℕ) (now : List ℕ) → i ≤ rowCount → rowCount ≤ i → Put (textAt (take i rows)) at old end now → Put (textAt rows) at old end now
-    unfolding document01
+    unfolding rulesOf
     all-rows i end now a b p = let z : i ≡ rowCount = omega arith in put-same _ _ at old end now (ap (λ (n : ℕ). textAt (take n rows)) z) p
 
 -- ---- how many are carried
 module _ (o : List ℕ) where
   abbrev pub Counted : ℕ → ℕ → ℕ → Type 0
-  Counted count at turns = (count + carriedIn document01 (parametersFrom turns o at) ≡ carriedIn document01 (parametersIn o)) × (count + turns ≤ most)
+  Counted count at turns = (count + carriedIn (rulesOf PresentLenient) (parametersFrom turns o at) ≡ carriedIn (rulesOf PresentLenient) (parametersIn o)) × (count + turns ≤ most)
 
   pub none-counted : Counted 0 2 most
   unfolding parametersIn
@@ -117,35 +118,35 @@ module _ (o : List ℕ) where
   few false = omega arith
 
   module _ (count at turns : ℕ) (i : Counted count at turns) where
-    module _ (h : 0 < turns) (k s n x : ℕ) (e : Parameter k s n ≡ parameterAt o at) (d : x ≡ pick (listed document01 k) 0 1) where
+    module _ (h : 0 < turns) (k s n x : ℕ) (e : Parameter k s n ≡ parameterAt o at) (d : x ≡ pick (listed (rulesOf PresentLenient) k) 0 1) where
       pub counted-small : count + x ≤ most
-      counted-small = omega (arith, few (listed document01 k), i .1)
+      counted-small = omega (arith, few (listed (rulesOf PresentLenient) k), i .1)
 
       pub counted-more : Counted (count + x) (s + n) (turns - 1)
       unfolding carriedIn
       counted-more =
-          let p = ap (carriedIn document01) (one-here turns o at h k s n e) ∙ one-more (listed document01 k) (carriedIn document01 (parametersFrom (turns - 1) o (s + n))) in
-          (omega (arith, i .0), omega (arith, i .1, few (listed document01 k)))
+          let p = ap (carriedIn (rulesOf PresentLenient)) (one-here turns o at h k s n e) ∙ one-more (listed (rulesOf PresentLenient) k) (carriedIn (rulesOf PresentLenient) (parametersFrom (turns - 1) o (s + n))) in
+          (omega (arith, i .0), omega (arith, i .1, few (listed (rulesOf PresentLenient) k)))
 
-    pub counted-none : 0 < turns → Nothing ≡ parameterAt o at → count ≡ carriedIn document01 (parametersIn o)
+    pub counted-none : 0 < turns → Nothing ≡ parameterAt o at → count ≡ carriedIn (rulesOf PresentLenient) (parametersIn o)
     unfolding carriedIn
-    counted-none h e = let p = ap (carriedIn document01) (none-here turns o at h e) in omega (arith, i .0)
+    counted-none h e = let p = ap (carriedIn (rulesOf PresentLenient)) (none-here turns o at h e) in omega (arith, i .0)
 
-    pub counted-end : turns ≤ 0 → count ≡ carriedIn document01 (parametersIn o)
+    pub counted-end : turns ≤ 0 → count ≡ carriedIn (rulesOf PresentLenient) (parametersIn o)
     unfolding carriedIn
-    counted-end h = let p = ap (carriedIn document01) (no-more turns o at h) in omega (arith, i .0)
+    counted-end h = let p = ap (carriedIn (rulesOf PresentLenient)) (no-more turns o at h) in omega (arith, i .0)
 
 -- ---- the whole text
 pub carried-line : (n : ℕ) → numberLine (ascii "carried=") n ≡ written (carriedLine n ∷ [])
 unfolding numberLine written carriedLine lineText ascii
 carried-line n = sym (append-nil (ascii "carried=" ++ decimal n ++ ascii "\n"))
 
-pub message-text : (o : List ℕ) (x n : ℕ) → x ≡ getD o 0 0 → n ≡ carriedIn document01 (parametersIn o) → lineText (kindLine x) ++ written (rowsAt document01 o rows) ++ numberLine (ascii "carried=") n ≡ written (linesAt document01 o)
+pub message-text : (o : List ℕ) (x n : ℕ) → x ≡ getD o 0 0 → n ≡ carriedIn (rulesOf PresentLenient) (parametersIn o) → lineText (kindLine x) ++ written (rowsAt (rulesOf PresentLenient) o rows) ++ numberLine (ascii "carried=") n ≡ written (linesAt (rulesOf PresentLenient) o)
 unfolding linesAt written
 message-text o x n e d =
-    append-assoc (lineText (kindLine x)) (written (rowsAt document01 o rows)) (numberLine (ascii "carried=") n)
+    append-assoc (lineText (kindLine x)) (written (rowsAt (rulesOf PresentLenient) o rows)) (numberLine (ascii "carried=") n)
     ∙ ap₂ (λ (k : ℕ) (v : List ℕ). lineText (kindLine k) ++ v) e
-    (ap (λ (v : List ℕ). written (rowsAt document01 o rows) ++ v) (ap (λ (k : ℕ). numberLine (ascii "carried=") k) d ∙ carried-line (carriedIn document01 (parametersIn o))) ∙ sym (written-append (rowsAt document01 o rows) (carriedLine (carriedIn document01 (parametersIn o)) ∷ [])))
+    (ap (λ (v : List ℕ). written (rowsAt (rulesOf PresentLenient) o rows) ++ v) (ap (λ (k : ℕ). numberLine (ascii "carried=") k) d ∙ carried-line (carriedIn (rulesOf PresentLenient) (parametersIn o))) ∙ sym (written-append (rowsAt (rulesOf PresentLenient) o rows) (carriedLine (carriedIn (rulesOf PresentLenient) (parametersIn o)) ∷ [])))
 
 pub refusal-text : (f : Fault) → numberLine (ascii "refused=") (f .number) ++ numberLine (ascii "at=") (f .place) ≡ written (refusal f)
 unfolding refusal written lineText numberLine ascii

@@ -8,16 +8,18 @@ use native.Mathlib.Omega.{arith}
 use lib.ListN.{length, getD, drop, replicate, length-replicate, replicate-append-replicate}
 use lib.Seq.{drop-at}
 use Rattle.rules.specs.Octets.{Octets}
-use Rattle.rules.specs.Table.{Row, document01}
-use Rattle.rules.specs.ContentLaw.{document01-sound}
+use Rattle.rules.specs.Table.{Row, rulesOf}
+use Rattle.rules.specs.declared.Book.the-variants.{PresentLenient}
+use Rattle.rules.specs.ContentLaw.{sound-rules}
 use Rattle.rules.specs.Message as message
 use Rattle.rules.specs.Message.{octets, LegalMessage, Accepts}
 use Rattle.rules.specs.Counting.{counted, carriedIn}
 use Rattle.rules.specs.declared.Fault.{Fault}
+use Rattle.rules.specs.Calls.{spoken-of}
 use Rattle.message.specs.declared.Verdict.{Verdict}
 use Rattle.message.specs.declared.Verdict.the-variants.{Accepted, Declined}
 use Rattle.message.specs.Verdict.{verdictOf}
-use Rattle.message.specs.Judges.{judges}
+use Rattle.message.specs.Judges.{judges-of, told-small}
 use Rattle.message.specs.Walking.{countedAt, partOf}
 use Rattle.message.specs.Searching.{counted-part}
 use Rattle.message.specs.Parameters.{parametersIn, messageIn, message-in}
@@ -26,44 +28,44 @@ use Rattle.listing.specs.Listing.{Line, written, kindLine, carriedLine, 
 use Rattle.listing.proofs.Longest.{longest, refusal-short}
 
 -- ---- the rows from the octets, and from the message
-rows-same : (o : List ℕ) (m : message.Message) → ((t : ℕ) → partOf o (countedAt o t) ≡ counted document01 m t) → (rs : List Row) → rowsAt document01 o rs ≡ rowLines document01 m rs
+rows-same : (o : List ℕ) (m : message.Message) → ((t : ℕ) → partOf o (countedAt (rulesOf PresentLenient) o t) ≡ counted (rulesOf PresentLenient) m t) → (rs : List Row) → rowsAt (rulesOf PresentLenient) o rs ≡ rowLines (rulesOf PresentLenient) m rs
 unfolding rowsAt rowLines partLines
 rows-same o m e [] = refl
-rows-same o m e (r ∷ rs) = ap₂ (λ (x : Option (List ℕ)) (ls : List Line). linesFor document01 r x ++ ls) (e (r .kind)) (rows-same o m e rs)
+rows-same o m e (r ∷ rs) = ap₂ (λ (x : Option (List ℕ)) (ls : List Line). linesFor (rulesOf PresentLenient) r x ++ ls) (e (r .kind)) (rows-same o m e rs)
 
-lines-same : (m : message.Message) → LegalMessage document01 m → linesAt document01 (octets m) ≡ linesOf document01 (messageIn (octets m))
+lines-same : (m : message.Message) → LegalMessage (rulesOf PresentLenient) m → linesAt (rulesOf PresentLenient) (octets m) ≡ linesOf (rulesOf PresentLenient) (messageIn (octets m))
 unfolding linesAt linesOf messageIn
 lines-same m l =
-    ap (λ (ls : List Line). kindLine (getD (octets m) 0 0) ∷ (ls ++ carriedLine (carriedIn document01 (parametersIn (octets m))) ∷ []))
-    (rows-same (octets m) (messageIn (octets m)) (λ t. counted-part m t ∙ ap (λ (x : message.Message). counted document01 x t) (sym (message-in document01 document01-sound m l))) (document01 .rows))
+    ap (λ (ls : List Line). kindLine (getD (octets m) 0 0) ∷ (ls ++ carriedLine (carriedIn (rulesOf PresentLenient) (parametersIn (octets m))) ∷ []))
+    (rows-same (octets m) (messageIn (octets m)) (λ t. counted-part (rulesOf PresentLenient) m t ∙ ap (λ (x : message.Message). counted (rulesOf PresentLenient) x t) (sym (message-in (rulesOf PresentLenient) (sound-rules PresentLenient) m l))) ((rulesOf PresentLenient) .rows))
 
 pub record Lists (o v : List ℕ) : Type 0 where
-  pub is : v ≡ listingOf document01 o
+  pub is : v ≡ listingOf (rulesOf PresentLenient) o
   pub short : length v ≤ bufferSize
 
-module _ (o : List ℕ) (q : Octets o) (v : Verdict) (e : v ≡ verdictOf document01 o) where
-  pub lists-message : (n : ℕ) → v ≡ Accepted n → Lists o (written (linesAt document01 o))
+module _ (o : List ℕ) (q : Octets o) (v : Verdict) (e : v ≡ verdictOf (rulesOf PresentLenient) o) where
+  pub lists-message : (n : ℕ) → v ≡ Accepted n → Lists o (written (linesAt (rulesOf PresentLenient) o))
   unfolding listingOf listed
-  lists-message n d = go (judges o q .accepted n .0 (sym e ∙ d) .1)
+  lists-message n d = go (judges-of PresentLenient o q .accepted n .0 (sym e ∙ d) .1)
     where
-      go : Accepts document01 o → Lists o (written (linesAt document01 o))
+      go : Accepts (rulesOf PresentLenient) o → Lists o (written (linesAt (rulesOf PresentLenient) o))
       go a =
           let m = a .0 in
           let l = a .1 in
-          let s : linesAt document01 o ≡ linesOf document01 (messageIn o) = subst (λ (x : List ℕ). linesAt document01 x ≡ linesOf document01 (messageIn x)) (a .2) (lines-same m l) in
-          let k : messageIn o ≡ m = ap messageIn (sym (a .2)) ∙ message-in document01 document01-sound m l in
+          let s : linesAt (rulesOf PresentLenient) o ≡ linesOf (rulesOf PresentLenient) (messageIn o) = subst (λ (x : List ℕ). linesAt (rulesOf PresentLenient) x ≡ linesOf (rulesOf PresentLenient) (messageIn x)) (a .2) (lines-same m l) in
+          let k : messageIn o ≡ m = ap messageIn (sym (a .2)) ∙ message-in (rulesOf PresentLenient) (sound-rules PresentLenient) m l in
           record {
-            is = ap written s ∙ ap (λ (x : Verdict). written (listed document01 o x)) (sym d ∙ e);
-            short = omega (arith, longest m l, ap (λ (ls : List Line). length (written ls)) (s ∙ ap (linesOf document01) k));
+            is = ap written s ∙ ap (λ (x : Verdict). written (listed (rulesOf PresentLenient) o x)) (sym d ∙ e);
+            short = omega (arith, longest m l, ap (λ (ls : List Line). length (written ls)) (s ∙ ap (linesOf (rulesOf PresentLenient)) k));
           }
 
   pub lists-refusal : (f : Fault) → v ≡ Declined f → Lists o (written (refusal f))
   unfolding listingOf listed
   lists-refusal f d =
-      let j = judges o q in
+      let j = judges-of PresentLenient o q in
       record {
-        is = ap (λ (x : Verdict). written (listed document01 o x)) (sym d ∙ e);
-        short = refusal-short f (omega (arith, j .numbers f (sym e ∙ d) .1)) (omega (arith, j .near f (sym e ∙ d)));
+        is = ap (λ (x : Verdict). written (listed (rulesOf PresentLenient) o x)) (sym d ∙ e);
+        short = refusal-short f (omega (arith, told-small (spoken-of PresentLenient) _ (j .numbers f (sym e ∙ d)) .1)) (omega (arith, j .near f (sym e ∙ d)));
       }
 
 -- ---- in the buffer
@@ -77,7 +79,7 @@ module _ (o v : List ℕ) (l : Lists o v) where
   unfolding Room
   listing-room = omega (arith, l .short, length-replicate {A = ℕ} bufferSize 0)
 
-  pub listing-text : (end : ℕ) (new : List ℕ) → Put v 0 (replicate bufferSize 0) end new → (record { octets = new; length = end }) ≡ textOf (listingOf document01 o)
+  pub listing-text : (end : ℕ) (new : List ℕ) → Put v 0 (replicate bufferSize 0) end new → (record { octets = new; length = end }) ≡ textOf (listingOf (rulesOf PresentLenient) o)
   unfolding textOf
   listing-text end new p =
       let n : end ≡ length v = omega (arith, p .ends) in

@@ -7,11 +7,12 @@ use mathlib.Core.List.{List, [], _∷_}
 use lib.ListN.{length, replicate}
 use Rattle.rules.specs.Tests.{_≤?_, _=?_, _and_, _or_, pick}
 use Rattle.rules.specs.Octets.{total, checksum}
-use Rattle.rules.specs.Contents.{within, inSet, lengths, lengthFits, digit}
-use Rattle.rules.specs.Table.{ascii, rowIn, rowOf, listedIn, listed, classOf, shapeOf, rivalOf, typeFault, shape01, styleOf, document01}
+use Rattle.rules.specs.Contents.{within, inSet, digit, someLength}
+use Rattle.rules.specs.Table.{ascii, rowIn, rowOf, listedIn, listed, classOf, rivalOf, typeFault, classFault, styleOf, rulesOf, whole}
+use Rattle.rules.specs.declared.Book.the-variants.{PresentLenient}
 use Rattle.rules.specs.Message.{Parameter, Message, body, octets, messageKind}
 use Rattle.rules.specs.Counting.{firstOf, counted, carriedIn}
-use Rattle.rules.specs.ContentJudge.{opens, tensFit, onesFit, pairAt, columnAt, okAt, remember}
+use Rattle.rules.specs.ContentJudge.{opens, tensFit, onesFit, pairAt, columnAt, judgeOf}
 use Rattle.rules.specs.Machine.{step, run}
 use Rattle.rules.specs.Judge.{roomFits, rangePossible, somePossible, possible, final, fits, contents, after, fault, machine}
 use Rattle.message.specs.Verdict.{judged, verdictOf}
@@ -28,7 +29,7 @@ Row = List ℕ × String
 -- what is printed of each
 unfoldable pub listings : List Row → List (List ℕ)
 listings [] = []
-listings (r ∷ rs) = listingOf document01 (r .0) ∷ listings rs
+listings (r ∷ rs) = listingOf (rulesOf PresentLenient) (r .0) ∷ listings rs
 
 -- what each row says
 unfoldable pub texts : List Row → List (List ℕ)
@@ -79,8 +80,8 @@ long = record {
 
 pub record Claim : Type 0 where
   pub printed : listings rows ≡ texts rows
-  pub longest : length (listingOf document01 (octets long)) ≡ bufferSize
+  pub longest : length (listingOf (rulesOf PresentLenient) (octets long)) ≡ bufferSize
 
 pub examples : Claim
-unfolding ascii _≤?_ _=?_ _and_ _or_ pick total checksum within inSet lengths lengthFits digit rowIn rowOf listedIn listed classOf shapeOf rivalOf typeFault shape01 styleOf document01 body octets messageKind firstOf counted carriedIn opens tensFit onesFit pairAt columnAt okAt remember step run roomFits rangePossible somePossible possible final fits contents after fault machine judged verdictOf parameterAt found parametersFrom parametersIn messageIn digitsBy decimal hexDigit hex half clock lampWord stateWord reference printed lineText written lineOf linesFor rowLines kindLine carriedLine linesOf refusal listing.listed listingOf listings texts
+unfolding ascii _≤?_ _=?_ _and_ _or_ pick total checksum within inSet whole digit rowIn rowOf listedIn listed classOf rivalOf typeFault classFault someLength styleOf rulesOf body octets messageKind firstOf counted carriedIn opens tensFit onesFit pairAt columnAt judgeOf step run roomFits rangePossible somePossible possible final fits contents after fault machine judged verdictOf parameterAt found parametersFrom parametersIn messageIn digitsBy decimal hexDigit hex half clock lampWord stateWord reference printed lineText written lineOf linesFor rowLines kindLine carriedLine linesOf refusal listing.listed listingOf listings texts
 examples = record { printed = refl; longest = refl }

@@ -6,7 +6,8 @@ use mathlib.Core.List.{List, [], _∷_, _++_, append-assoc, append-nil}
 use mathlib.Core.Option.{Option, none, some}
 use lib.ListN.{length, getD, replicate}
 use Rattle.rules.specs.Tests.{_=?_, pick}
-use Rattle.rules.specs.Table.{Rules, Row, Style, clock as clockStyle, verbatim, switch, reference as referenceStyle, decimal as decimalStyle, hex as hexStyle, numbered, styleOf, classOf, ascii, document01}
+use Rattle.rules.specs.Table.{Rules, Row, Style, clock as clockStyle, verbatim, switch, reference as referenceStyle, decimal as decimalStyle, hex as hexStyle, numbered, styleOf, classOf, ascii, rulesOf}
+use Rattle.rules.specs.declared.Book.the-variants.{PresentLenient}
 use Rattle.rules.specs.Message.{Message}
 use Rattle.rules.specs.Counting.{counted, carriedIn}
 use Rattle.rules.specs.declared.Fault.{Fault}
@@ -121,18 +122,18 @@ abbrev pub noRow : Row
 noRow = record { kind = 0; class = Carried; rival = 0; key = [] }
 
 unfoldable pub rowAt : ℕ → Row
-rowAt i = getD (document01 .rows) i noRow
+rowAt i = getD ((rulesOf PresentLenient) .rows) i noRow
 
 abbrev pub rowCount : ℕ
 rowCount = 14
 
-pub row-count : length (document01 .rows) ≡ rowCount
-unfolding document01
+pub row-count : length ((rulesOf PresentLenient) .rows) ≡ rowCount
+unfolding rulesOf
 row-count = refl
 
 -- its line, from where its contents stand
 unfoldable pub partLines : Rules → List ℕ → Row → List Line
-partLines R o r = linesFor R r (partOf o (countedAt o (r .kind)))
+partLines R o r = linesFor R r (partOf o (countedAt R o (r .kind)))
 
 -- the lines of some rows
 unfoldable pub rowsAt : Rules → List ℕ → List Row → List Line

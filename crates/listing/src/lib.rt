@@ -3,6 +3,7 @@
 use message::Found;
 use message::Part;
 use message::Verdict;
+use rules::Book;
 use rules::Class;
 use rules::Fault;
 ghost use mathlib.Core.Path.{_≡_};
@@ -10,7 +11,8 @@ ghost use mathlib.Core.List.{[], _∷_, _++_};
 ghost use Prim.Native.Nat.{_<_, _≤_};
 ghost use lib.ListN.{length, getD};
 ghost use Rattle.rules.specs.Tests.{pick};
-ghost use Rattle.rules.specs.Table.{document01, listed, styleOf, ascii};
+ghost use Rattle.rules.specs.Table.{rulesOf, listed, styleOf, ascii};
+ghost use Rattle.rules.specs.declared.Book.the-variants as book;
 ghost use Rattle.rules.specs.Counting.{carriedIn};
 ghost use Rattle.message.specs.Parameters.{parametersIn};
 ghost use Rattle.listing.specs.Numerals.{hexDigit, hex, decimal};
@@ -185,6 +187,11 @@ fn put_value(class: Class, contents: &[u8], out: &mut [u8], at: usize) -> usize
         Class::Forwarded => put_hex(message::octet(contents, 0), out, at),
         Class::User => put_hex(message::octet(contents, 0), out, at),
         Class::Carried => at,
+        Class::OldNumber => put(contents, out, at),
+        Class::ShortText => put(contents, out, at),
+        Class::OldForwarded => put_hex(message::octet(contents, 0), out, at),
+        Class::OldUser => put_hex(message::octet(contents, 0), out, at),
+        Class::Unlisted => at,
     }
 }
 
@@ -207,10 +214,10 @@ fn put_key(i: usize, out: &mut [u8], at: usize) -> usize
 }
 
 fn put_line(i: usize, contents: &[u8], out: &mut [u8], at: usize) -> usize
-    requires { ⌜ (i < rowCount) × Room (lineText (lineOf document01 (rowAt i) (now contents))) at (now out) ⌝ }
-    ensures { λ r. ⌜ Put (lineText (lineOf document01 (rowAt i) (now (contents .entry)))) at (now (out .entry)) r (now (out .exit)) ⌝ }
+    requires { ⌜ (i < rowCount) × Room (lineText (lineOf (rulesOf book.PresentLenient) (rowAt i) (now contents))) at (now out) ⌝ }
+    ensures { λ r. ⌜ Put (lineText (lineOf (rulesOf book.PresentLenient) (rowAt i) (now (contents .entry)))) at (now (out .entry)) r (now (out .exit)) ⌝ }
 {
-    let class = rules::class_of(KINDS[i]);
+    let class = rules::class_of(Book::PresentLenient, KINDS[i]);
     let key = put_key(i, out, at);
     let value = put_value(class, contents, out, key);
     put_octet(b'\n', out, value)
@@ -218,10 +225,10 @@ fn put_line(i: usize, contents: &[u8], out: &mut [u8], at: usize) -> usize
 
 // The line of a row, if its type counts.
 fn put_row(octets: &[u8], i: usize, out: &mut [u8], at: usize) -> usize
-    requires { ⌜ (i < rowCount) × Room (written (partLines document01 (now octets) (rowAt i))) at (now out) ⌝ }
-    ensures { λ r. ⌜ Put (written (partLines document01 (now (octets .entry)) (rowAt i))) at (now (out .entry)) r (now (out .exit)) ⌝ }
+    requires { ⌜ (i < rowCount) × Room (written (partLines (rulesOf book.PresentLenient) (now octets) (rowAt i))) at (now out) ⌝ }
+    ensures { λ r. ⌜ Put (written (partLines (rulesOf book.PresentLenient) (now (octets .entry)) (rowAt i))) at (now (out .entry)) r (now (out .exit)) ⌝ }
 {
-    let part = message::counted(octets, KINDS[i]);
+    let part = message::counted(Book::PresentLenient, octets, KINDS[i]);
     match part {
         Part::At { start, length } => {
             let end = start + length as usize;
@@ -232,8 +239,8 @@ fn put_row(octets: &[u8], i: usize, out: &mut [u8], at: usize) -> usize
 }
 
 fn put_rows(octets: &[u8], out: &mut [u8], at: usize) -> usize
-    requires { ⌜ Room (written (rowsAt document01 (now octets) (document01 .rows))) at (now out) ⌝ }
-    ensures { λ r. ⌜ Put (written (rowsAt document01 (now (octets .entry)) (document01 .rows))) at (now (out .entry)) r (now (out .exit)) ⌝ }
+    requires { ⌜ Room (written (rowsAt (rulesOf book.PresentLenient) (now octets) ((rulesOf book.PresentLenient) .rows))) at (now out) ⌝ }
+    ensures { λ r. ⌜ Put (written (rowsAt (rulesOf book.PresentLenient) (now (octets .entry)) ((rulesOf book.PresentLenient) .rows))) at (now (out .entry)) r (now (out .exit)) ⌝ }
 {
     let mut end = at;
     let mut i: usize = 0;
@@ -268,14 +275,18 @@ fn put_kind(x: u8, out: &mut [u8], at: usize) -> usize
 // ---- the listing
 
 fn one_if_carried(kind: u8) -> u16
-    ensures { λ r. ⌜ r ≡ pick (listed document01 kind) 0 1 ⌝ }
+    ensures { λ r. ⌜ r ≡ pick (listed (rulesOf book.PresentLenient) kind) 0 1 ⌝ }
 {
-    if rules::is_listed(kind) { 0 } else { 1 }
+    if rules::is_listed(Book::PresentLenient, kind) {
+        0
+    } else {
+        1
+    }
 }
 
 // How many parameters are carried, repeats too.
 fn carried(octets: &[u8]) -> u16
-    ensures { λ r. ⌜ r ≡ carriedIn document01 (parametersIn (now (octets .entry))) ⌝ }
+    ensures { λ r. ⌜ r ≡ carriedIn (rulesOf book.PresentLenient) (parametersIn (now (octets .entry))) ⌝ }
 {
     let mut count: u16 = 0;
     let mut at: usize = 2;
@@ -301,8 +312,8 @@ fn carried(octets: &[u8]) -> u16
 }
 
 fn put_message(octets: &[u8], out: &mut [u8]) -> usize
-    requires { ⌜ Room (written (linesAt document01 (now octets))) 0 (now out) ⌝ }
-    ensures { λ r. ⌜ Put (written (linesAt document01 (now (octets .entry)))) 0 (now (out .entry)) r (now (out .exit)) ⌝ }
+    requires { ⌜ Room (written (linesAt (rulesOf book.PresentLenient) (now octets))) 0 (now out) ⌝ }
+    ensures { λ r. ⌜ Put (written (linesAt (rulesOf book.PresentLenient) (now (octets .entry)))) 0 (now (out .entry)) r (now (out .exit)) ⌝ }
 {
     let kind = put_kind(message::octet(octets, 0), out, 0);
     let rows = put_rows(octets, out, kind);
@@ -319,10 +330,10 @@ fn put_refusal(fault: Fault, out: &mut [u8]) -> usize
 
 // What showmsg prints of any octets.
 pub fn listing(octets: &[u8]) -> Text
-    ensures { λ r. ⌜ r ≡ textOf (listingOf document01 (now (octets .entry))) ⌝ }
+    ensures { λ r. ⌜ r ≡ textOf (listingOf (rulesOf book.PresentLenient) (now (octets .entry))) ⌝ }
 {
     let mut out = [0u8; LONGEST];
-    let verdict = message::judge(octets);
+    let verdict = message::judge(Book::PresentLenient, octets);
     match verdict {
         Verdict::Accepted { size: _ } => {
             let length = put_message(octets, &mut out);

@@ -7,7 +7,7 @@ use native.Mathlib.Omega.{arith}
 use lib.ListN.{length, length-append}
 use Rattle.rules.specs.Tests.{pick-yes, picked-by, clash}
 use Rattle.rules.specs.Octets.{total, checksum}
-use Rattle.rules.specs.Table.{document01, rivalOf}
+use Rattle.rules.specs.Table.{Rules, rivalOf}
 use Rattle.rules.specs.Message as message
 use Rattle.rules.specs.Message.{body, front, octets}
 use Rattle.rules.specs.Counting.{NoneOf, First, Counts}
@@ -34,16 +34,16 @@ search-at o c t u p a k (q ∷ b) n turns at h e =
     ∙ ap (λ (i : ℕ). At i (length (p .contents))) z
 
 -- the contents that count are found at their place, with their length
-pub counted-at : (m : message.Message) (t : ℕ) (v : List ℕ) (c : Counts document01 m t v) → countedAt (octets m) t ≡ At (contentsAt (c .first)) (length v)
+pub counted-at : (R : Rules) (m : message.Message) (t : ℕ) (v : List ℕ) (c : Counts R m t v) → countedAt R (octets m) t ≡ At (contentsAt (c .first)) (length v)
 unfolding countedAt octets
-counted-at m t v c =
+counted-at R m t v c =
     let f = c .first in
     let k = checksum (total (front m)) in
     let z : 2 + length (body (f .before)) + 2 ≡ length (body (f .before)) + 4 = omega arith in
     let l = length-append (f .before) (f .p ∷ f .after) in
     let w = length-append (body (m .parameters)) (k ∷ []) in
     pick-yes _ _ _ (c .listed)
-    ∙ search-at (octets m) k t (rivalOf document01 t) (f .p) (f .after) (f .kind) (f .before) (f .none) (length (octets m)) 2
+    ∙ search-at (octets m) k t (rivalOf R t) (f .p) (f .after) (f .kind) (f .before) (f .none) (length (octets m)) 2
     (omega (arith, ap length (f .is), enough (m .parameters)))
     (ap (λ (ps : List message.Parameter). body ps ++ k ∷ []) (sym (f .is)))
     ∙ (λ i. At (z i) (length (f .contents i)))
@@ -66,7 +66,7 @@ module _ (o : List ℕ) where
   search-inside zero t u at start n e = clash cc
   search-inside (suc turns) t u at start n e = matched-inside t u at (parameterAt o at) refl (searchFrom turns t u o) (search-inside turns t u) start n e
 
-  pub counted-inside : (t : ℕ) → Within (countedAt o t)
+  pub counted-inside : (R : Rules) (t : ℕ) → Within (countedAt R o t)
   unfolding countedAt
-  counted-inside t start n e =
-      picked-by (start + n < length o) _ _ _ _ e (λ _ d. search-inside (length o) t (rivalOf document01 t) 2 start n d) (λ _ d. clash cc)
+  counted-inside R t start n e =
+      picked-by (start + n < length o) _ _ _ _ e (λ _ d. search-inside (length o) t (rivalOf R t) 2 start n d) (λ _ d. clash cc)

@@ -11,7 +11,7 @@ use lib.ListN.{length, length-append, length-drop, take, drop, getD}
 use lib.Seq.{getD-drop, drop-drop, take-append-seam, drop-append-seam}
 use Rattle.rules.specs.Tests.{_=?_, pick, pick-yes, pick-not, picked-by, of-eq, eq-of, of-le, le-of, clash}
 use Rattle.rules.specs.Octets.{total, checksum}
-use Rattle.rules.specs.Table.{document01, listed, rivalOf}
+use Rattle.rules.specs.Table.{Rules, listed, rivalOf}
 use Rattle.rules.specs.Message as message
 use Rattle.rules.specs.Message.{body, front, octets}
 use Rattle.rules.specs.Counting.{firstOf, counted}
@@ -140,11 +140,11 @@ enough [] = omega arith
 enough (p ∷ ps) = omega (arith, enough ps, length-append (p .contents) (body ps))
 
 -- of a message's octets the part found holds the contents that count, and there is one exactly where some count
-pub counted-part : (m : message.Message) (t : ℕ) → partOf (octets m) (countedAt (octets m) t) ≡ counted document01 m t
+pub counted-part : (R : Rules) (m : message.Message) (t : ℕ) → partOf (octets m) (countedAt R (octets m) t) ≡ counted R m t
 unfolding countedAt counted octets
-counted-part m t =
+counted-part R m t =
     let c = checksum (total (front m)) in
     let n = length-append (body (m .parameters)) (c ∷ []) in
-    part-pick (octets m) c (listed document01 t) _ Nowhere
-    ∙ ap (λ (x : Option (List ℕ)). pick (listed document01 t) x (partOf (octets m) Nowhere)) (search-counts (octets m) c (length (octets m)) t (rivalOf document01 t) 2 (m .parameters) refl (omega (arith, enough (m .parameters))))
-    ∙ nowhere (octets m) (listed document01 t) _
+    part-pick (octets m) c (listed R t) _ Nowhere
+    ∙ ap (λ (x : Option (List ℕ)). pick (listed R t) x (partOf (octets m) Nowhere)) (search-counts (octets m) c (length (octets m)) t (rivalOf R t) 2 (m .parameters) refl (omega (arith, enough (m .parameters))))
+    ∙ nowhere (octets m) (listed R t) _

@@ -5,7 +5,8 @@ use mathlib.Core.Path.{_≡_}
 use mathlib.Core.List.{List}
 use lib.ListN.{length, drop}
 use Rattle.rules.specs.Tests.{_=?_, pick}
-use Rattle.rules.specs.Table.{Rules, document01}
+use Rattle.rules.specs.Table.{Rules}
+use Rattle.rules.specs.Refusals.{noted}
 use Rattle.rules.specs.Machine.{run, answer}
 use Rattle.rules.specs.Judge.{machine}
 use Rattle.rules.specs.declared.Stage.{Stage}
@@ -21,10 +22,10 @@ use Rattle.message.specs.declared.Head.the-variants as head
 use Rattle.message.specs.declared.Body.{Body}
 use Rattle.message.specs.declared.Body.the-variants as body
 
--- 8 at the number of octets while a message can still be completed; a message, or 7 at its size where octets follow; 1 to 6 as the machine gives them
+-- 8 at the number of octets while a message can still be completed; a message, or 7 at its size where octets follow; 1 to 6 and 10 as the machine gives them
 unfoldable pub judged : List ℕ → State → Verdict
-judged o (Waiting s q) = Declined (record { number = 8; place = length o })
-judged o (Message n) = pick (length o =? n) (Accepted n) (Declined (record { number = 7; place = n }))
+judged o (Waiting s q) = Declined (noted 8 (length o))
+judged o (Message n) = pick (length o =? n) (Accepted n) (Declined (noted 7 n))
 judged o (Refused f) = Declined f
 
 unfoldable pub verdictOf : Rules → List ℕ → Verdict
@@ -36,14 +37,14 @@ endOf (Waiting s q) = Early
 endOf (Message n) = Whole n
 endOf (Refused f) = Spoilt f
 
-unfoldable pub endFrom : Stage → ℕ → ℕ → List ℕ → End
-endFrom st sum at s = endOf (run (machine document01) (Waiting st (record { sum = sum; place = at })) (drop at s))
+unfoldable pub endFrom : Rules → Stage → ℕ → ℕ → List ℕ → End
+endFrom R st sum at s = endOf (run (machine R) (Waiting st (record { sum = sum; place = at })) (drop at s))
 
 -- what follows the header of a parameter
-unfoldable pub onHead : Head → ℕ → List ℕ → End
-onHead (head.Good c n r sum) at s = endFrom (stage.Content c n 0 0 r) sum at s
-onHead (head.Wrong f) at s = Spoilt f
-onHead head.Short at s = Early
+unfoldable pub onHead : Rules → Head → ℕ → List ℕ → End
+onHead R (head.Good c n r sum) at s = endFrom R (stage.Content c n 0 0 r) sum at s
+onHead R (head.Wrong f) at s = Spoilt f
+onHead R head.Short at s = Early
 
 -- a parameter and the room after it fill the room
 unfoldable pub HeadFits : Head → ℕ → Type 0
@@ -52,7 +53,7 @@ HeadFits (head.Wrong f) room = Unit {0}
 HeadFits head.Short room = Unit {0}
 
 -- what follows its contents
-unfoldable pub onBody : Body → ℕ → ℕ → List ℕ → End
-onBody (body.Fine sum) room at s = endFrom (stage.Header room) sum at s
-onBody (body.Wrong f) room at s = Spoilt f
-onBody body.Short room at s = Early
+unfoldable pub onBody : Rules → Body → ℕ → ℕ → List ℕ → End
+onBody R (body.Fine sum) room at s = endFrom R (stage.Header room) sum at s
+onBody R (body.Wrong f) room at s = Spoilt f
+onBody R body.Short room at s = Early

@@ -5,7 +5,7 @@ use mathlib.Core.List.{List}
 use mathlib.Core.Option.{Option, none, some}
 use lib.ListN.{length, take, drop, getD}
 use Rattle.rules.specs.Tests.{_≤?_, _=?_, pick}
-use Rattle.rules.specs.Table.{document01, listed, rivalOf}
+use Rattle.rules.specs.Table.{Rules, listed, rivalOf}
 use Rattle.message.specs.declared.Found.{Found}
 use Rattle.message.specs.declared.Found.the-variants.{Parameter, Nothing}
 use Rattle.message.specs.declared.Part.{Part}
@@ -29,8 +29,8 @@ searchFrom zero t u o at = Nowhere
 searchFrom (suc turns) t u o at = matched t u (parameterAt o at) (searchFrom turns t u o)
 
 -- where the contents of type t that count stand; carried types never count
-unfoldable pub countedAt : List ℕ → ℕ → Part
-countedAt o t = pick (listed document01 t) (searchFrom (length o) t (rivalOf document01 t) o 2) Nowhere
+unfoldable pub countedAt : Rules → List ℕ → ℕ → Part
+countedAt R o t = pick (listed R t) (searchFrom (length o) t (rivalOf R t) o 2) Nowhere
 
 -- the octets of a part
 unfoldable pub partOf : List ℕ → Part → Option (List ℕ)

@@ -1,10 +1,11 @@
 // Whole messages on a slice: the verdict on any octets (document 01, The message and Numbers), in the form that the paper names: one function takes a
 // parameter header, the other its contents, and they call each other while the room falls.
+use rules::Book;
 use rules::Class;
 use rules::Fault;
 ghost use mathlib.Core.Path.{_≡_};
 ghost use Prim.Native.Nat.{_+_, _≤_};
-ghost use Rattle.rules.specs.Table.{document01};
+ghost use Rattle.rules.specs.Table.{Rules, rulesOf};
 ghost use Rattle.rules.specs.declared.Stage.the-variants as stage;
 ghost use lib.ListN.{length, getD};
 ghost use Rattle.message.specs.Walking.{parameterAt, searchFrom, countedAt};
@@ -41,9 +42,10 @@ enum Body {
     Short,
 }
 
+// The checksum. It, a length and contents go alike in any rules.
 fn check(s: &[u8], at: usize, sum: u8) -> End
     requires { ⌜ at ≤ 257 ⌝ }
-    ensures { λ r. ⌜ r ≡ endFrom (stage.Header 0) sum at (now (s .entry)) ⌝ }
+    ensures { λ r. ⌜ ((R : Rules) → r ≡ endFrom R (stage.Header 0) sum at (now (s .entry))) ⌝ }
 {
     if s.len() <= at {
         return End::Early;
@@ -51,16 +53,13 @@ fn check(s: &[u8], at: usize, sum: u8) -> End
     if s[at] == std::num::wrapping_sub_u8(0, sum) {
         End::Whole(at as u16 + 1)
     } else {
-        End::Spoilt(Fault {
-            number: 6,
-            place: at as u16,
-        })
+        End::Spoilt(rules::noted(6, at as u16))
     }
 }
 
 fn length_at(s: &[u8], at: usize, class: Class, room: u8, sum: u8) -> Head
     requires { ⌜ at + room ≤ 258 ⌝ }
-    ensures goes { λ r. ⌜ endFrom (stage.Length class room) sum at (now (s .entry)) ≡ onHead r (at + 1) (now (s .entry)) ⌝ }
+    ensures goes { λ r. ⌜ ((R : Rules) → endFrom R (stage.Length class room) sum at (now (s .entry)) ≡ onHead R r (at + 1) (now (s .entry))) ⌝ }
     ensures fits { λ r. ⌜ HeadFits r room ⌝ }
 {
     if s.len() <= at {
@@ -84,21 +83,21 @@ fn length_at(s: &[u8], at: usize, class: Class, room: u8, sum: u8) -> Head
 }
 
 // The type and the length of one parameter.
-fn ahead(s: &[u8], at: usize, room: u8, sum: u8) -> Head
+fn ahead(book: Book, s: &[u8], at: usize, room: u8, sum: u8) -> Head
     requires { ⌜ (at + room ≤ 257) × (1 ≤ room) ⌝ }
-    ensures goes { λ r. ⌜ endFrom (stage.Header room) sum at (now (s .entry)) ≡ onHead r (at + 2) (now (s .entry)) ⌝ }
+    ensures goes { λ r. ⌜ endFrom (rulesOf book) (stage.Header room) sum at (now (s .entry)) ≡ onHead (rulesOf book) r (at + 2) (now (s .entry)) ⌝ }
     ensures fits { λ r. ⌜ HeadFits r room ⌝ }
 {
     if s.len() <= at {
         return Head::Short;
     }
     let t = s[at];
-    let class = rules::class_of(t);
+    let class = rules::class_of(book, t);
     if rules::possible(class, room) {
         length_at(s, at + 1, class, room, std::num::wrapping_add_u8(sum, t))
     } else {
         Head::Wrong(Fault {
-            number: 3,
+            number: rules::class_fault(class),
             place: at as u16,
         })
     }
@@ -107,7 +106,7 @@ fn ahead(s: &[u8], at: usize, room: u8, sum: u8) -> Head
 // The contents of one parameter, `length` octets of a class from `at`.
 fn inside(s: &[u8], at: usize, class: Class, length: u8, room: u8, sum: u8) -> Body
     requires { ⌜ (at + length + room ≤ 257) × (1 ≤ length) ⌝ }
-    ensures { λ r. ⌜ endFrom (stage.Content class length 0 0 room) sum at (now (s .entry)) ≡ onBody r room (at + length) (now (s .entry)) ⌝ }
+    ensures { λ r. ⌜ ((R : Rules) → endFrom R (stage.Content class length 0 0 room) sum at (now (s .entry)) ≡ onBody R r room (at + length) (now (s .entry))) ⌝ }
 {
     let mut total = sum;
     let mut memory: u8 = 0;
@@ -132,85 +131,79 @@ fn inside(s: &[u8], at: usize, class: Class, length: u8, room: u8, sum: u8) -> B
     Body::Fine(total)
 }
 
-fn header(s: &[u8], at: usize, room: u8, sum: u8) -> End
+fn header(book: Book, s: &[u8], at: usize, room: u8, sum: u8) -> End
     requires { ⌜ at + room ≤ 257 ⌝ }
-    ensures { λ r. ⌜ r ≡ endFrom (stage.Header room) sum at (now (s .entry)) ⌝ }
+    ensures { λ r. ⌜ r ≡ endFrom (rulesOf book) (stage.Header room) sum at (now (s .entry)) ⌝ }
 {
     if room == 0 {
         return check(s, at, sum);
     }
-    let found = ahead(s, at, room, sum);
+    let found = ahead(book, s, at, room, sum);
     match found {
         Head::Good {
             class,
             length,
             room: left,
             sum: total,
-        } => contents(s, at + 2, class, length, left, total),
+        } => contents(book, s, at + 2, class, length, left, total),
         Head::Wrong(fault) => End::Spoilt(fault),
         Head::Short => End::Early,
     }
 }
 
-fn contents(s: &[u8], at: usize, class: Class, length: u8, room: u8, sum: u8) -> End
+fn contents(book: Book, s: &[u8], at: usize, class: Class, length: u8, room: u8, sum: u8) -> End
     requires { ⌜ (at + length + room ≤ 257) × (1 ≤ length) ⌝ }
-    ensures { λ r. ⌜ r ≡ endFrom (stage.Content class length 0 0 room) sum at (now (s .entry)) ⌝ }
+    ensures { λ r. ⌜ r ≡ endFrom (rulesOf book) (stage.Content class length 0 0 room) sum at (now (s .entry)) ⌝ }
 {
     let went = inside(s, at, class, length, room, sum);
     match went {
-        Body::Fine(total) => header(s, at + length as usize, room, total),
+        Body::Fine(total) => header(book, s, at + length as usize, room, total),
         Body::Wrong(fault) => End::Spoilt(fault),
         Body::Short => End::Early,
     }
 }
 
 // L, and then the parameters.
-fn sized(s: &[u8], sum: u8) -> End
-    ensures { λ r. ⌜ r ≡ endFrom stage.Size sum 1 (now (s .entry)) ⌝ }
+fn sized(book: Book, s: &[u8], sum: u8) -> End
+    ensures { λ r. ⌜ r ≡ endFrom (rulesOf book) stage.Size sum 1 (now (s .entry)) ⌝ }
 {
     if s.len() <= 1 {
         return End::Early;
     }
     let size = s[1];
     if size < 3 {
-        End::Spoilt(Fault {
-            number: 2,
-            place: 1,
-        })
+        End::Spoilt(rules::noted(2, 1))
     } else {
-        header(s, 2, size, std::num::wrapping_add_u8(sum, size))
+        header(book, s, 2, size, std::num::wrapping_add_u8(sum, size))
     }
 }
 
 // The message type, and then what follows it.
-fn whole(s: &[u8]) -> End
-    ensures { λ r. ⌜ r ≡ endFrom stage.Kind 0 0 (now (s .entry)) ⌝ }
+fn whole(book: Book, s: &[u8]) -> End
+    ensures { λ r. ⌜ r ≡ endFrom (rulesOf book) stage.Kind 0 0 (now (s .entry)) ⌝ }
 {
     if s.len() == 0 {
         return End::Early;
     }
     let kind = s[0];
     if rules::message_kind(kind) {
-        sized(s, kind)
+        sized(book, s, kind)
     } else {
-        End::Spoilt(Fault {
-            number: 1,
-            place: 0,
-        })
+        End::Spoilt(rules::noted(1, 0))
     }
 }
 
-// The verdict on any octets: 1 to 6 as the listener gives them; 8 where they end early; 7 where octets follow the message.
-pub fn judge(s: &[u8]) -> Verdict
-    ensures { λ r. ⌜ r ≡ verdictOf document01 (now (s .entry)) ⌝ }
+// The verdict on any octets: 1 to 6 and 10 as the listener gives them; 8 where they end early; 7 where octets follow the message.
+pub fn judge(book: Book, s: &[u8]) -> Verdict
+    ensures { λ r. ⌜ r ≡ verdictOf (rulesOf book) (now (s .entry)) ⌝ }
 {
-    let end = whole(s);
+    let end = whole(book, s);
     match end {
         End::Early => {
             // fewer than 258 octets, where a message can still be completed
             let place = (s.len() % 65536) as u16;
             Verdict::Declined {
-                fault: Fault { number: 8, place },
+                fault: rules::noted(8, place),
             }
         }
         End::Whole(size) => {
@@ -218,10 +211,7 @@ pub fn judge(s: &[u8]) -> Verdict
                 Verdict::Accepted { size }
             } else {
                 Verdict::Declined {
-                    fault: Fault {
-                        number: 7,
-                        place: size,
-                    },
+                    fault: rules::noted(7, size),
                 }
             }
         }
@@ -302,11 +292,11 @@ fn search(s: &[u8], t: u8, rival: u8) -> Part
 }
 
 // Where the contents of a type that count stand, in an accepted message.
-pub fn counted(s: &[u8], t: u8) -> Part
-    ensures { λ r. ⌜ r ≡ countedAt (now (s .entry)) t ⌝ }
+pub fn counted(book: Book, s: &[u8], t: u8) -> Part
+    ensures { λ r. ⌜ r ≡ countedAt (rulesOf book) (now (s .entry)) t ⌝ }
 {
-    if rules::is_listed(t) {
-        search(s, t, rules::rival_of(t))
+    if rules::is_listed(book, t) {
+        search(s, t, rules::rival_of(book, t))
     } else {
         Part::Nowhere
     }

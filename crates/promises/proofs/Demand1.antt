@@ -4,25 +4,28 @@
 -- Assumes nothing.
 use Prim.Native.Nat.{ℕ, _≤_}
 use mathlib.Core.Path.{_≡_, refl, _∙_, ap}
-use mathlib.Core.Logic.{_⊎_, inl, inr}
+use mathlib.Core.Logic.{_⊎_, inl, inr, _↔_}
 use native.Mathlib.Omega.{arith}
 use lib.ListN.{length}
 use lib.Dec.{T}
-use Rattle.rules.specs.Tests.{_=?_, clash, decide, eq-of, of-eq}
+use Rattle.rules.specs.Tests.{_=?_, either, clash, decide, eq-of, of-eq, _≤?_, _or_, not-le, le-of, left, right}
 use Rattle.rules.specs.Octets.{Octets}
-use Rattle.rules.specs.Contents.{within}
-use Rattle.rules.specs.InRange.{low, high}
+use Rattle.rules.specs.Table.{rulesOf}
+use Rattle.rules.specs.declared.Book.the-variants.{PresentLenient}
 use Rattle.rules.specs.declared.Fault.{Fault}
+use Rattle.rules.specs.Refusals.{noted}
+use Rattle.rules.specs.Language.{languageOf}
 use Rattle.listener.specs.declared.Answer.the-variants as listened
 use Rattle.listener.proofs.Hearing as hearing
 use Rattle.listener.proofs.listen.Reads as listen
 use Rattle.message.specs.declared.Verdict.the-variants.{Declined as Judged}
+use Rattle.message.specs.Judges.{verdictNumber, verdict-lenient}
 use Rattle.message.proofs.Judging.{verdicts}
 use Rattle.message.proofs.judge.Reads as judge
 use Rattle.draft.specs.Draft.{emptyOf}
 use Rattle.reader.specs.declared.Packed.{Packed}
 use Rattle.reader.specs.declared.Packed.the-variants as packed
-use Rattle.reader.specs.Reads.{numberOf}
+use Rattle.reader.specs.Reads.{numberOf, readNumber}
 use Rattle.reader.proofs.Readings.{reads}
 use Rattle.reader.proofs.read.Reads as read
 use Rattle.writer.specs.declared.Written.{Written}
@@ -43,6 +46,8 @@ use Rattle.walker.proofs.step_at.Reads as step-at
 use Rattle.firmware.specs.Word.{wordNumber}
 use Rattle.firmware.specs.RecordHears.{Sound, Seventeen}
 use Rattle.firmware.specs.RecordReads.{RecordReads}
+use Rattle.rules.specs.ContentLaw.{lenient-others}
+use Rattle.rules.specs.InRange.{given-lenient}
 use Rattle.firmware.proofs.Hearing as records
 use Rattle.firmware.proofs.Readings.{seventeen, record-read}
 use Rattle.firmware.proofs.Settlings as settlings
@@ -54,26 +59,22 @@ use Rattle.firmware.proofs.anthercup_settle.Reads as anthercup-settle
 abbrev pub From : ℕ → ℕ → ℕ → Type 0
 From a b k = (a ≤ k) × (k ≤ b)
 
--- the listener: 1 to 6; or 17 at 0 for one out of range, which comes back as it was
-pub listen-refuses : (κs : _) (a : _) (r : _) (s : _) → listen.Post κs a r s → Octets (a .1 .0 .now) → (f : Fault) → r .answer ≡ listened.Refused f → From 1 6 (f .number) ⊎ (f ≡ record { number = 17; place = 0 })
-listen-refuses κs a r s p o f e = go (hearing.numbers κs a r s p o f e)
-  where
-    go : T (within (1, 6) (f .number)) ⊎ (f ≡ record { number = 17; place = 0 }) → From 1 6 (f .number) ⊎ (f ≡ record { number = 17; place = 0 })
-    go (inl t) = inl (low 1 6 (f .number) t, high 1 6 (f .number) t)
-    go (inr q) = inr q
+-- the listener: 1 to 6, and 10 where its book is strict; or 17 at 0 for one out of range, which comes back as it was
+pub listen-refuses : (κs : _) (a : _) (r : _) (s : _) → listen.Post κs a r s → Octets (a .1 .0 .now) → (f : Fault) → r .answer ≡ listened.Refused f → T (languageOf (a .0 .book) .given (f .number)) ⊎ (f ≡ noted 17 0)
+listen-refuses κs a r s p o f e = hearing.numbers κs a r s p o f e
 
--- the whole read: 1 to 9; the area stays, the draft is empty
-pub read-refuses : (κs : _) (a : _) (r : _) (s : _) → read.Post κs a r s → Octets (a .0 .now) → (f : Fault) → r .answer ≡ packed.Refused f → From 1 9 (f .number) × (s .1 .0 .now ≡ a .1 .0 .now) × (r .draft ≡ emptyOf 0)
-read-refuses κs a r s p o f e = let x = reads κs a r s p o .refused f e in ((x .2, x .3), x .0, x .1)
+-- the whole read: 1 to 9, and 10 where the book is strict; the area stays, the draft is empty
+pub read-refuses : (κs : _) (a : _) (r : _) (s : _) → read.Post κs a r s → Octets (a .1 .0 .now) → (f : Fault) → r .answer ≡ packed.Refused f → T (readNumber (rulesOf (a .0)) (f .number)) × (s .1 .1 .0 .now ≡ a .1 .1 .0 .now) × (r .draft ≡ emptyOf 0)
+read-refuses κs a r s p o f e = let x = reads κs a r s p o .refused f e in (x .2, x .0, x .1)
 
 -- the writer: 11 to 15; the output stays
-pub write-refuses : (κs : _) (a : _) (r : _) (s : _) → write.Post κs a r s → (f : Fault) → r ≡ Declined f → From 11 15 (f .number) × (s .1 .1 .0 .now ≡ a .1 .1 .0 .now)
-write-refuses κs a r s p f e = (go r (answer-iff _ _ _ r .0 (p .0)) e, refusal-keeps κs a r s p f e)
+pub write-refuses : (κs : _) (a : _) (r : _) (s : _) → write.Post κs a r s → (f : Fault) → r ≡ Declined f → From 11 15 (f .number) × (s .1 .1 .1 .0 .now ≡ a .1 .1 .1 .0 .now)
+write-refuses κs a r s p f e = (go r (answer-iff (a .0) _ _ _ r .0 (p .0)) e, refusal-keeps κs a r s p f e)
   where
     fault-of : (g h : Fault) → Declined g ≡ Declined h → g .number ≡ h .number
     fault-of g h q = let z : g ≡ h = cc in ap (λ (x : Fault). x .number) z
 
-    go : (w : Written) → Went (a .0) (a .1 .0 .now) (length (a .1 .1 .0 .now)) w → w ≡ Declined f → From 11 15 (f .number)
+    go : (w : Written) → Went (rulesOf (a .0)) (a .1 .0) (a .1 .1 .0 .now) (length (a .1 .1 .1 .0 .now)) w → w ≡ Declined f → From 11 15 (f .number)
     go w (kind-is-none n) q = (omega (arith, fault-of _ _ q), omega (arith, fault-of _ _ q))
     go w (no-entries k z) q = (omega (arith, fault-of _ _ q), omega (arith, fault-of _ _ q))
     go w (many-entries k m) q = (omega (arith, fault-of _ _ q), omega (arith, fault-of _ _ q))
@@ -82,19 +83,38 @@ write-refuses κs a r s p f e = (go r (answer-iff _ _ _ r .0 (p .0)) e, refusal-
     go w (too-tight b m l g) q = (omega (arith, fault-of _ _ q), omega (arith, fault-of _ _ q))
     go w (fits b m l g) q = clash cc
 
--- the desk: 1 to 8, 17 or 21; it comes back as it was
-pub settle-refuses : (κs : _) (a : _) (r : _) (s : _) → settle.Post κs a r s → Octets (a .1 .0 .now) → (f : Fault) → r .answer ≡ settled.Refused f → (From 1 8 (f .number) ⊎ ((f .number ≡ 17) ⊎ (f .number ≡ 21))) × (r .desk ≡ a .0)
+-- the desk: 1 to 8, and 10 where the book is strict, 17 or 21; it comes back as it was
+pub settle-refuses : (κs : _) (a : _) (r : _) (s : _) → settle.Post κs a r s → Octets (a .1 .1 .0 .now) → (f : Fault) → r .answer ≡ settled.Refused f → (T (verdictNumber (languageOf (a .0)) (f .number)) ⊎ ((f .number ≡ 17) ⊎ (f .number ≡ 21))) × (r .desk ≡ a .1 .0)
 settle-refuses κs a r s p o f e = let x = settling κs a r s p o in (x .numbers f e, x .refusal-stays f e)
 
--- the verdict, the caption and the walker: 1 to 8; nothing is lent for writing
-pub judge-refuses : (κs : _) (a : _) (r : _) (s : _) → judge.Post κs a r s → Octets (a .0 .now) → (f : Fault) → r ≡ Judged f → From 1 8 (f .number)
+-- the verdict, the caption and the walker: 1 to 8, and 10 where the book is strict; nothing is lent for writing
+pub judge-refuses : (κs : _) (a : _) (r : _) (s : _) → judge.Post κs a r s → Octets (a .1 .0 .now) → (f : Fault) → r ≡ Judged f → T (verdictNumber (languageOf (a .0)) (f .number))
 judge-refuses κs a r s p o f e = verdicts κs a r s p o .numbers f e
 
-pub find-refuses : (κs : _) (a : _) (r : _) (s : _) → find.Post κs a r s → Octets (a .0 .now) → (f : Fault) → r ≡ found.Refused f → From 1 8 (f .number)
+pub find-refuses : (κs : _) (a : _) (r : _) (s : _) → find.Post κs a r s → Octets (a .1 .0 .now) → (f : Fault) → r ≡ found.Refused f → T (verdictNumber (languageOf (a .0)) (f .number))
 find-refuses κs a r s p o f e = let x = finding κs a r s p o in x .judged .numbers f (x .refused f .0 e)
 
-pub step-refuses : (κs : _) (a : _) (r : _) (s : _) → step-at.Post κs a r s → Octets (a .0 .now) → (f : Fault) → r ≡ step.Refused f → From 1 8 (f .number)
+pub step-refuses : (κs : _) (a : _) (r : _) (s : _) → step-at.Post κs a r s → Octets (a .1 .0 .now) → (f : Fault) → r ≡ step.Refused f → T (verdictNumber (languageOf (a .0)) (f .number))
 step-refuses κs a r s p o f e = let x = stepping κs a r s p o in x .judged .numbers f (x .refused f .0 e)
+
+-- by the book of the exports and programs the numbers are document 01's: 1 to 6, 1 to 8, 1 to 9, and 10 is none of them
+pub six-lenient : (k : ℕ) → T (languageOf PresentLenient .given k) ↔ From 1 6 k
+six-lenient k = given-lenient (rulesOf PresentLenient) k lenient-others
+
+pub eight-lenient : (k : ℕ) → T (verdictNumber (languageOf PresentLenient) k) ↔ From 1 8 k
+eight-lenient k = verdict-lenient (rulesOf PresentLenient) k lenient-others
+
+pub nine-lenient : (k : ℕ) → T (readNumber (rulesOf PresentLenient) k) ↔ From 1 9 k
+unfolding readNumber
+nine-lenient k = (λ t. to (either _ _ t), λ d. of (d .0) (d .1) (decide (k ≤? 8)))
+  where
+    to : T (verdictNumber (languageOf PresentLenient) k) ⊎ T (k =? 9) → From 1 9 k
+    to (inl u) = let d = eight-lenient k .0 u in (d .0, omega (arith, d .1))
+    to (inr u) = let e = eq-of _ _ u in (omega arith, omega arith)
+
+    of : 1 ≤ k → k ≤ 9 → T (k ≤? 8) ⊎ (T (k ≤? 8) → ⊥) → T (verdictNumber (languageOf PresentLenient) k or k =? 9)
+    of a b (inl t) = left _ _ (eight-lenient k .1 (a, le-of _ _ t))
+    of a b (inr n) = let h = not-le _ _ n in right _ _ (of-eq _ _ (omega arith))
 
 -- ---- the exports, on any record at all
 -- listening: a sound record gets 0 or 1 to 6; any other 17, and stays
@@ -117,7 +137,7 @@ anthercup-read-refuses κs a r s p o = go (decide (length (a .1 .0 .now) =? 688)
     read-so y (packed.Refused f) e =
         let z = y .word .number ∙ ap numberOf e in
         let k = y .reads .refused f e in
-        (inl (omega (arith, z, k .3)), λ h. (y .refused f e, k .0))
+        (inl (omega (arith, z, nine-lenient _ .0 (k .2) .1)), λ h. (y .refused f e, k .0))
 
     go : T (length (a .1 .0 .now) =? 688) ⊎ (T (length (a .1 .0 .now) =? 688) → ⊥) →
         ((wordNumber r ≤ 9) ⊎ (wordNumber r ≡ 17)) × (1 ≤ wordNumber r → (s .1 .0 .now ≡ a .1 .0 .now) × (s .1 .1 .0 .now ≡ a .1 .1 .0 .now))

@@ -8,16 +8,18 @@ use mathlib.Core.Option.{Option, none, some}
 use lib.ListN.{length, replicate}
 use Rattle.rules.specs.Tests.{_≤?_, _=?_, _and_, _or_, pick}
 use Rattle.rules.specs.Octets.{checksum}
-use Rattle.rules.specs.Contents.{within, inSet, lengths, lengthFits, digit}
-use Rattle.rules.specs.Table.{document01, rowIn, rowOf, listedIn, listed, classOf, shapeOf, rivalOf, typeFault, shape01}
+use Rattle.rules.specs.Contents.{within, inSet, digit, someLength}
+use Rattle.rules.specs.Table.{rulesOf, classFault, rowIn, rowOf, listedIn, listed, classOf, rivalOf, typeFault, whole}
+use Rattle.rules.specs.declared.Book.the-variants.{PresentLenient}
 use Rattle.rules.specs.Message.{messageKind}
-use Rattle.rules.specs.ContentJudge.{opens, tensFit, onesFit, pairAt, columnAt, okAt, remember}
+use Rattle.rules.specs.ContentJudge.{opens, tensFit, onesFit, pairAt, columnAt, judgeOf}
+use Rattle.rules.specs.Refusals.{noted}
 use Rattle.rules.specs.Machine.{step, run}
 use Rattle.rules.specs.Judge.{roomFits, rangePossible, somePossible, possible, final, fits, contents, after, fault, machine, inRange}
 use Rattle.listener.specs.declared.Answer.{Answer}
 use Rattle.listener.specs.declared.Answer.the-variants as answer
 use Rattle.listener.specs.declared.Heard.{Heard}
-use Rattle.listener.specs.Heard.{newListener, heardOf, answerOf, taken, stopped}
+use Rattle.listener.specs.Heard.{newListener, heardIn, heardOf, answerOf, taken, stopped}
 use Rattle.listener.proofs.listen.Reads as listen
 use Rattle.message.specs.declared.Verdict.the-variants.{Declined}
 use Rattle.message.specs.Verdict.{judged, verdictOf}
@@ -38,35 +40,35 @@ use Rattle.desk.proofs.settle.Reads as settle
 -- ---- what a row claims, of every outcome that a promise allows
 -- a new listener that hears the octets in one run answers w
 abbrev pub Heard-as : List ℕ → Answer → Type 0
-Heard-as o w = (κs : _) (a : _) (r : _) (s : _) → listen.Post κs a r s → a .0 ≡ newListener → a .1 .0 .now ≡ o → r .answer ≡ w
+Heard-as o w = (κs : _) (a : _) (r : _) (s : _) → listen.Post κs a r s → a .0 ≡ newListener PresentLenient → a .1 .0 .now ≡ o → r .answer ≡ w
 
 -- a whole read of the octets, whatever the area, is refused with k at p
 abbrev pub Read-as : List ℕ → ℕ → ℕ → Type 0
-Read-as o k p = (κs : _) (a : _) (r : _) (s : _) → read.Post κs a r s → a .0 .now ≡ o → r .answer ≡ packed.Refused (record { number = k; place = p })
+Read-as o k p = (κs : _) (a : _) (r : _) (s : _) → read.Post κs a r s → a .0 ≡ PresentLenient → a .1 .0 .now ≡ o → r .answer ≡ packed.Refused (noted k p)
 
 -- the contents of type t that count in the octets
 abbrev pub Counted-as : List ℕ → ℕ → Option (List ℕ) → Type 0
-Counted-as o t v = (κs : _) (a : _) (r : _) (s : _) → counted.Post κs a r s → a .0 .now ≡ o → a .1 .0 ≡ t → partOf o r ≡ v
+Counted-as o t v = (κs : _) (a : _) (r : _) (s : _) → counted.Post κs a r s → a .0 ≡ PresentLenient → a .1 .0 .now ≡ o → a .1 .1 .0 ≡ t → partOf o r ≡ v
 
 -- settled on a new desk, the octets leave the desk d
 abbrev pub Settled-as : List ℕ → Desk → Type 0
-Settled-as o d = (κs : _) (a : _) (r : _) (s : _) → settle.Post κs a r s → a .0 ≡ newDesk → a .1 .0 .now ≡ o → r ≡ record { desk = d; answer = settled.Done }
+Settled-as o d = (κs : _) (a : _) (r : _) (s : _) → settle.Post κs a r s → a .0 ≡ PresentLenient → a .1 .0 ≡ newDesk → a .1 .1 .0 .now ≡ o → r ≡ record { desk = d; answer = settled.Done }
 
-hears : (o : List ℕ) (w : Answer) → heardOf document01 newListener o .answer ≡ w → Heard-as o w
-hears o w e κs a r s p l q = ap (λ (h : Heard). h .answer) (p ∙ (λ i. heardOf document01 (l i) (q i))) ∙ e
+hears : (o : List ℕ) (w : Answer) → heardOf (newListener PresentLenient) o .answer ≡ w → Heard-as o w
+hears o w e κs a r s p l q = ap (λ (h : Heard). h .answer) (p ∙ (λ i. heardOf (l i) (q i))) ∙ e
 
-reads : (o : List ℕ) (k p : ℕ) → verdictOf document01 o ≡ Declined (record { number = k; place = p }) → Read-as o k p
+reads : (o : List ℕ) (k p : ℕ) → verdictOf (rulesOf PresentLenient) o ≡ Declined (noted k p) → Read-as o k p
 unfolding readOf packOf packFrom
-reads o k n e κs a r s p q = ap (λ (x : Reading). x .answer) (p .0) ∙ ap (λ (x : List ℕ). packOf document01 x (length (a .1 .0 .now))) q ∙ ap (packFrom document01 o (length (a .1 .0 .now))) e
+reads o k n e κs a r s p b q = ap (λ (x : Reading). x .answer) (p .0) ∙ (λ i. packOf (rulesOf (b i)) (q i) (length (a .1 .1 .0 .now))) ∙ ap (packFrom (rulesOf PresentLenient) o (length (a .1 .1 .0 .now))) e
 
-counts : (o : List ℕ) (t : ℕ) (v : Option (List ℕ)) → partOf o (countedAt o t) ≡ v → Counted-as o t v
-counts o t v e κs a r s p q k = ap (partOf o) (p ∙ (λ i. countedAt (q i) (k i))) ∙ e
+counts : (o : List ℕ) (t : ℕ) (v : Option (List ℕ)) → partOf o (countedAt (rulesOf PresentLenient) o t) ≡ v → Counted-as o t v
+counts o t v e κs a r s p b q k = ap (partOf o) (p ∙ (λ i. countedAt (rulesOf (b i)) (q i) (k i))) ∙ e
 
-settles : (o : List ℕ) (d : Desk) → settleOf document01 newDesk o ≡ (record { desk = d; answer = settled.Done }) → Settled-as o d
-settles o d e κs a r s p n q = p ∙ (λ i. settleOf document01 (n i) (q i)) ∙ e
+settles : (o : List ℕ) (d : Desk) → settleOf (rulesOf PresentLenient) newDesk o ≡ (record { desk = d; answer = settled.Done }) → Settled-as o d
+settles o d e κs a r s p b n q = p ∙ (λ i. settleOf (rulesOf (b i)) (n i) (q i)) ∙ e
 
 abbrev pub refused : ℕ → ℕ → Answer
-refused k p = answer.Refused (record { number = k; place = p })
+refused k p = answer.Refused (noted k p)
 
 -- ---- the rows
 pub record Claim : Type 0 where
@@ -97,7 +99,7 @@ pub record Claim : Type 0 where
   pub no-caller : Counted-as (0x80 ∷ 0x06 ∷ 0x04 ∷ 0x01 ∷ 0x50 ∷ 0x02 ∷ 0x01 ∷ 0x37 ∷ 0xEB ∷ []) 0x02 none
 
 pub rows : Claim
-unfolding _≤?_ _=?_ _and_ _or_ pick checksum within inSet lengths lengthFits digit rowIn rowOf listedIn listed classOf shapeOf rivalOf typeFault shape01 document01 messageKind opens tensFit onesFit pairAt columnAt okAt remember step run roomFits rangePossible somePossible possible final fits contents after fault machine inRange newListener heardOf answerOf taken stopped judged verdictOf parameterAt matched searchFrom countedAt partOf waitingAfter lampAfter changeIn changeOf noticed countedIn settledNotice settledMessage settledUnder refusedWith settleOf firstOf absent mayStand placesFit changeBy isFull placesAfter
+unfolding _≤?_ _=?_ _and_ _or_ pick checksum within inSet whole digit rowIn rowOf listedIn listed classOf rivalOf typeFault classFault someLength rulesOf messageKind opens tensFit onesFit pairAt columnAt judgeOf step run roomFits rangePossible somePossible possible final fits contents after fault machine inRange newListener heardIn answerOf taken stopped judged verdictOf parameterAt matched searchFrom countedAt partOf waitingAfter lampAfter changeIn changeOf noticed countedIn settledNotice settledMessage settledUnder refusedWith settleOf firstOf absent mayStand placesFit changeBy isFull placesAfter
 rows = record {
   none-waits = hears _ _ refl;
   none-read = reads _ _ _ refl;

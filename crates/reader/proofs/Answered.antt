@@ -1,25 +1,27 @@
 -- A read says and leaves what is promised: by the verdict on the octets, the room for the texts, and the draft of the message that accepted octets are.
 -- Assumes nothing.
 use Prim.Native.Nat.{ℕ, _≤_, _<_}
-use mathlib.Core.Path.{_≡_, refl, sym, _∙_, ap}
+use mathlib.Core.Path.{_≡_, refl, sym, _∙_, ap, subst}
 use mathlib.Core.Logic.{_↔_, Iff·trans}
 use mathlib.Core.List.{List}
 use native.Mathlib.Omega.{arith}
 use lib.ListN.{length, drop}
-use Rattle.rules.specs.Tests.{_≤?_, pick-case, pick-yes, pick-not, picked-by, le-of, of-le, not-le, clash}
+use lib.Dec.{T}
+use Rattle.rules.specs.Tests.{_≤?_, left, right, of-eq, pick-case, pick-yes, pick-not, picked-by, le-of, of-le, not-le, clash}
 use Rattle.rules.specs.Octets.{Octets}
-use Rattle.rules.specs.Table.{document01}
-use Rattle.rules.specs.ContentLaw.{document01-sound}
+use Rattle.rules.specs.Table.{Rules}
+use Rattle.rules.specs.ContentLaw.{SoundRules}
 use Rattle.rules.specs.Sizes.{some-parameter}
 use Rattle.rules.specs.Message.{Message, Parameter, octets, LegalMessage, Accepts}
-use Rattle.rules.specs.Unique.{document01-told}
+use Rattle.rules.specs.Refusals.{noted}
+use Rattle.rules.specs.Language.{calls}
+use Rattle.rules.specs.Calls.{spoken, accepted-size}
 use Rattle.rules.specs.declared.Fault.{Fault}
 use Rattle.message.specs.declared.Verdict.{Verdict}
 use Rattle.message.specs.declared.Verdict.the-variants.{Accepted, Declined}
 use Rattle.message.specs.Verdict.{verdictOf}
-use Rattle.message.specs.Judges.{Judges, judges}
+use Rattle.message.specs.Judges.{Judges, judges-calls, given-apart, told-small, verdictNumber}
 use Rattle.message.specs.Parameters.{parametersIn, messageIn, message-in}
-use Rattle.draft.proofs.Meaning.{document01-drawn}
 use Rattle.draft.specs.Draft.{emptyOf, messageOf}
 use Rattle.rules.specs.Laying.{laid}
 use Rattle.draft.specs.Packing.{textsOf, draftOf}
@@ -27,11 +29,11 @@ use Rattle.draft.proofs.Packing.{draft-stands}
 use Rattle.reader.specs.declared.Packed.the-variants.{Texts, Refused}
 use Rattle.reader.proofs.Taking.{texts-in-body, size-within}
 use Rattle.reader.specs.Read.{textSize, packFrom, packOf, areaFrom, areaAfter, draftFrom, readOf}
-use Rattle.reader.specs.Reads.{numberOf, placeOf, sizeOf, Near, texts, Reads}
+use Rattle.reader.specs.Reads.{numberOf, placeOf, sizeOf, Near, texts, readNumber, Reads}
 
 -- 253 octets are always enough for them
-pub area-enough : (m : Message) → LegalMessage document01 m → length (texts m) ≤ 253
-area-enough m l = omega (arith, texts-in-body document01 (m .parameters), some-parameter (m .parameters) (l .long), l .short)
+pub area-enough : (R : Rules) (m : Message) → LegalMessage R m → length (texts R m) ≤ 253
+area-enough R m l = omega (arith, texts-in-body R (m .parameters), some-parameter (m .parameters) (l .long), l .short)
 
 number-is : (f g : Fault) → Refused f ≡ Refused g → f .number ≡ g .number
 number-is f g e = let z : f ≡ g = cc in ap (λ (x : Fault). x .number) z
@@ -39,133 +41,134 @@ number-is f g e = let z : f ≡ g = cc in ap (λ (x : Fault). x .number) z
 place-is : (f g : Fault) → Refused f ≡ Refused g → f .place ≡ g .place
 place-is f g e = let z : f ≡ g = cc in ap (λ (x : Fault). x .place) z
 
-module _ (o : List ℕ) (room : ℕ) where
-  -- ---- which verdict is behind an answer
-  declined-iff : (v : Verdict) (f : Fault) → f .number ≤ 8 → (packFrom document01 o room v ≡ Refused f) ↔ (v ≡ Declined f)
-  unfolding packFrom
-  declined-iff (Accepted n) f l = (
-    λ e. picked-by _ _ _ _ _ e (λ _ d. clash cc) (λ _ d. absurd (omega (arith, number-is _ _ d))),
-    λ e. clash cc,
-  )
-  declined-iff (Declined g) f l = (λ e. let z : g ≡ f = cc in ap Declined z, λ e. let z : g ≡ f = cc in ap Refused z)
+module _ (R : Rules) (S : SoundRules R) where
+  module _ (o : List ℕ) (room : ℕ) where
+    -- ---- which verdict is behind an answer
+    declined-iff : (v : Verdict) (f : Fault) → (f .number ≡ 9 → ⊥) → (packFrom R o room v ≡ Refused f) ↔ (v ≡ Declined f)
+    unfolding packFrom
+    declined-iff (Accepted n) f l = (
+      λ e. picked-by _ _ _ _ _ e (λ _ d. clash cc) (λ _ d. absurd (l (sym (number-is _ _ d)))),
+      λ e. clash cc,
+    )
+    declined-iff (Declined g) f l = (λ e. let z : g ≡ f = cc in ap Declined z, λ e. let z : g ≡ f = cc in ap Refused z)
 
-  short-iff : (v : Verdict) (p : ℕ) → ((f : Fault) → v ≡ Declined f → f .number ≤ 8) →
-      (packFrom document01 o room v ≡ Refused (record { number = 9; place = p })) ↔ ((n : ℕ) × (v ≡ Accepted n) × (p ≡ textSize document01 o) × (room < p))
-  unfolding packFrom
-  short-iff (Accepted n) p l = (
-    λ e. picked-by _ _ _ _ _ e (λ _ d. clash cc)
-        (λ t d. let z = place-is _ _ d in (n, refl, sym z, omega (arith, not-le _ _ t))),
-    λ e. pick-not _ _ _ (λ t. omega (arith, le-of _ _ t, e .2, e .3)) ∙ ap (λ (k : ℕ). Refused (record { number = 9; place = k })) (sym (e .2)),
-  )
-  short-iff (Declined g) p l = (
-    λ e. let z : g ≡ (record { number = 9; place = p }) = cc in absurd (omega (arith, l g refl, ap (λ (x : Fault). x .number) z)),
-    λ e. clash (cc (e .1)),
-  )
+    short-iff : (v : Verdict) (p : ℕ) → ((f : Fault) → v ≡ Declined f → f .number ≡ 9 → ⊥) →
+        (packFrom R o room v ≡ Refused (noted 9 p)) ↔ ((n : ℕ) × (v ≡ Accepted n) × (p ≡ textSize R o) × (room < p))
+    unfolding packFrom
+    short-iff (Accepted n) p l = (
+      λ e. picked-by _ _ _ _ _ e (λ _ d. clash cc)
+          (λ t d. let z = place-is _ _ d in (n, refl, sym z, omega (arith, not-le _ _ t))),
+      λ e. pick-not _ _ _ (λ t. omega (arith, le-of _ _ t, e .2, e .3)) ∙ ap (λ (k : ℕ). Refused (noted 9 k)) (sym (e .2)),
+    )
+    short-iff (Declined g) p l = (
+      λ e. let z : g ≡ (noted 9 p) = cc in absurd (l g refl (ap (λ (x : Fault). x .number) z)),
+      λ e. clash (cc (e .1)),
+    )
 
-  texts-verdict : (v : Verdict) (n : ℕ) → packFrom document01 o room v ≡ Texts n → (k : ℕ) × (v ≡ Accepted k)
-  unfolding packFrom
-  texts-verdict (Accepted k) n e = (k, refl)
-  texts-verdict (Declined g) n e = clash cc
+    texts-verdict : (v : Verdict) (n : ℕ) → packFrom R o room v ≡ Texts n → (k : ℕ) × (v ≡ Accepted k)
+    unfolding packFrom
+    texts-verdict (Accepted k) n e = (k, refl)
+    texts-verdict (Declined g) n e = clash cc
 
-  whole-is : (v : Verdict) (n : ℕ) → v ≡ Accepted n → textSize document01 o ≤ room → packFrom document01 o room v ≡ Texts (textSize document01 o)
-  unfolding packFrom
-  whole-is v n e h = ap (packFrom document01 o room) e ∙ pick-yes _ _ _ (of-le _ _ h)
+    whole-is : (v : Verdict) (n : ℕ) → v ≡ Accepted n → textSize R o ≤ room → packFrom R o room v ≡ Texts (textSize R o)
+    unfolding packFrom
+    whole-is v n e h = ap (packFrom R o room) e ∙ pick-yes _ _ _ (of-le _ _ h)
 
--- the message that accepted octets are
-in-octets : (m : Message) (o : List ℕ) → LegalMessage document01 m → octets m ≡ o → messageIn o ≡ m
-in-octets m o l e = ap messageIn (sym e) ∙ message-in document01 document01-sound m l
+  -- the message that accepted octets are
+  in-octets : (m : Message) (o : List ℕ) → LegalMessage R m → octets m ≡ o → messageIn o ≡ m
+  in-octets m o l e = ap messageIn (sym e) ∙ message-in R S m l
 
-parameters-in : (m : Message) (o : List ℕ) → LegalMessage document01 m → octets m ≡ o → parametersIn o ≡ m .parameters
-unfolding messageIn
-parameters-in m o l e = ap (λ (x : Message). x .parameters) (in-octets m o l e)
+  parameters-in : (m : Message) (o : List ℕ) → LegalMessage R m → octets m ≡ o → parametersIn o ≡ m .parameters
+  unfolding messageIn
+  parameters-in m o l e = ap (λ (x : Message). x .parameters) (in-octets m o l e)
 
-size-of : (m : Message) (o : List ℕ) → LegalMessage document01 m → octets m ≡ o → textSize document01 o ≡ length (texts m)
-unfolding textSize
-size-of m o l e = ap (λ (ps : List Parameter). length (textsOf document01 ps)) (parameters-in m o l e)
+  size-of : (m : Message) (o : List ℕ) → LegalMessage R m → octets m ≡ o → textSize R o ≡ length (texts R m)
+  unfolding textSize
+  size-of m o l e = ap (λ (ps : List Parameter). length (textsOf R ps)) (parameters-in m o l e)
 
-module _ (o old : List ℕ) (q : Octets o) where
-  abbrev v : Verdict
-  v = verdictOf document01 o
+  module _ (o old : List ℕ) (q : Octets o) where
+    abbrev v : Verdict
+    v = verdictOf R o
 
-  abbrev room : ℕ
-  room = length old
+    abbrev room : ℕ
+    room = length old
 
-  j : Judges o v
-  j = judges o q
+    j : Judges (calls R) o v
+    j = judges-calls R S o q
 
-  accepted : (m : Message) → LegalMessage document01 m → octets m ≡ o → v ≡ Accepted (length o)
-  accepted m l e = j .accepted (length o) .1 (refl, (m, l, e))
+    accepted : (m : Message) → LegalMessage R m → octets m ≡ o → v ≡ Accepted (length o)
+    accepted m l e = j .accepted (length o) .1 (refl, (m, l, e))
 
-  declined : (f : Fault) → f .number ≤ 8 → (packOf document01 o room ≡ Refused f) ↔ (v ≡ Declined f)
-  unfolding packOf
-  declined f l = declined-iff o room v f l
-
-  short-message : (p : ℕ) → (packOf document01 o room ≡ Refused (record { number = 9; place = p })) ↔ ((m : Message) × LegalMessage document01 m × (octets m ≡ o) × (p ≡ length (texts m)) × (room < p))
-  unfolding packOf
-  short-message p =
-      let d = short-iff o room v p (λ f e. j .numbers f e .1) in (
-        λ e. let x = d .0 e in let a = j .accepted (x .0) .0 (x .1) .1 in (a .0, a .1, a .2, x .2 ∙ size-of (a .0) o (a .1) (a .2), x .3),
-        λ e. d .1 (length o, accepted (e .0) (e .1) (e .2), e .3 ∙ sym (size-of (e .0) o (e .1) (e .2)), e .4),
-      )
-
-  module _ (m : Message) (l : LegalMessage document01 m) (e : octets m ≡ o) (h : length (texts m) ≤ room) where
-    packs : packOf document01 o room ≡ Texts (length (texts m))
+    declined : (f : Fault) → (f .number ≡ 9 → ⊥) → (packOf R o room ≡ Refused f) ↔ (v ≡ Declined f)
     unfolding packOf
-    packs = whole-is o room v (length o) (accepted m l e) (omega (arith, size-of m o l e)) ∙ ap Texts (size-of m o l e)
+    declined f l = declined-iff o room v f l
 
-    reads : readOf document01 o room ≡ (record { answer = Texts (length (texts m)); draft = draftOf document01 m })
-    unfolding readOf draftFrom
-    reads =
-        let z : draftFrom document01 o (packOf document01 o room) ≡ draftOf document01 m = ap (draftFrom document01 o) packs ∙ ap (draftOf document01) (in-octets m o l e) in
-        λ i. record { answer = packs i; draft = z i }
+    short-message : (p : ℕ) → (packOf R o room ≡ Refused (noted 9 p)) ↔ ((m : Message) × LegalMessage R m × (octets m ≡ o) × (p ≡ length (texts R m)) × (room < p))
+    unfolding packOf
+    short-message p =
+        let d = short-iff o room v p (λ f e. told-small (spoken R S) _ (j .numbers f e) .2) in (
+          λ e. let x = d .0 e in let a = j .accepted (x .0) .0 (x .1) .1 in (a .0, a .1, a .2, x .2 ∙ size-of (a .0) o (a .1) (a .2), x .3),
+          λ e. d .1 (length o, accepted (e .0) (e .1) (e .2), e .3 ∙ sym (size-of (e .0) o (e .1) (e .2)), e .4),
+        )
 
-    area-is : areaAfter document01 o old ≡ laid (texts m) old
-    unfolding areaAfter areaFrom
-    area-is = ap (areaFrom document01 o old) packs ∙ ap (λ (ps : List Parameter). laid (textsOf document01 ps) old) (parameters-in m o l e)
+    module _ (m : Message) (l : LegalMessage R m) (e : octets m ≡ o) (h : length (texts R m) ≤ room) where
+      packs : packOf R o room ≡ Texts (length (texts R m))
+      unfolding packOf
+      packs = whole-is o room v (length o) (accepted m l e) (omega (arith, size-of m o l e)) ∙ ap Texts (size-of m o l e)
 
-    stands : messageOf (draftOf document01 m) (laid (texts m) old) ≡ m
-    unfolding laid
-    stands = draft-stands document01 document01-sound document01-drawn m (drop (length (texts m)) old) l
+      reads : readOf R o room ≡ (record { answer = Texts (length (texts R m)); draft = draftOf R m })
+      unfolding readOf draftFrom
+      reads =
+          let z : draftFrom R o (packOf R o room) ≡ draftOf R m = ap (draftFrom R o) packs ∙ ap (draftOf R) (in-octets m o l e) in
+          λ i. record { answer = packs i; draft = z i }
 
-  refused-all : (f : Fault) → packOf document01 o room ≡ Refused f → (areaAfter document01 o old ≡ old) × (readOf document01 o room .draft ≡ emptyOf 0)
-  unfolding areaAfter areaFrom readOf draftFrom
-  refused-all f e = (ap (areaFrom document01 o old) e, ap (draftFrom document01 o) e)
+      area-is : areaAfter R o old ≡ laid (texts R m) old
+      unfolding areaAfter areaFrom
+      area-is = ap (areaFrom R o old) packs ∙ ap (λ (ps : List Parameter). laid (textsOf R ps) old) (parameters-in m o l e)
 
-  numbers-of : (w : Verdict) (f : Fault) → ((g : Fault) → w ≡ Declined g → (1 ≤ g .number) × (g .number ≤ 8)) → packFrom document01 o room w ≡ Refused f → (1 ≤ f .number) × (f .number ≤ 9)
-  unfolding packFrom
-  numbers-of (Accepted n) f b e = picked-by _ _ _ _ _ e (λ _ d. clash cc) (λ _ d. (omega (arith, number-is _ _ d), omega (arith, number-is _ _ d)))
-  numbers-of (Declined g) f b e = let x = b g refl in (omega (arith, number-is _ _ e, x .0), omega (arith, number-is _ _ e, x .1))
+      stands : messageOf (draftOf R m) (laid (texts R m) old) ≡ m
+      unfolding laid
+      stands = draft-stands R m (drop (length (texts R m)) old) l
 
-  refused-number : (f : Fault) → packOf document01 o room ≡ Refused f → (1 ≤ f .number) × (f .number ≤ 9)
-  unfolding packOf
-  refused-number f e = numbers-of v f (j .numbers) e
+    refused-all : (f : Fault) → packOf R o room ≡ Refused f → (areaAfter R o old ≡ old) × (readOf R o room .draft ≡ emptyOf 0)
+    unfolding areaAfter areaFrom readOf draftFrom
+    refused-all f e = (ap (areaFrom R o old) e, ap (draftFrom R o) e)
 
-  -- numbers, places and sizes are small: a word has room for them
-  near-of : (w : Verdict) → ((g : Fault) → w ≡ Declined g → (g .number ≤ 8) × (g .place ≤ 258)) → ((n : ℕ) → w ≡ Accepted n → length o ≤ 258) → Near (packFrom document01 o room w)
-  unfolding packFrom numberOf placeOf sizeOf
-  near-of (Accepted n) b l =
-      let z = size-within document01 o in
-      let k = l n refl in
-      pick-case Near (textSize document01 o ≤? room) _ _ (λ _. record { number = omega arith; place = omega arith; size = omega arith }) (λ _. record { number = omega arith; place = omega arith; size = omega arith })
-  near-of (Declined g) b l = let x = b g refl in record { number = omega (arith, x .0); place = x .1; size = omega arith }
+    numbers-of : (w : Verdict) (f : Fault) → ((g : Fault) → w ≡ Declined g → T (verdictNumber (calls R) (g .number))) → packFrom R o room w ≡ Refused f → T (readNumber R (f .number))
+    unfolding packFrom readNumber
+    numbers-of (Accepted n) f b e = picked-by _ _ _ _ _ e (λ _ d. clash cc) (λ _ d. right _ _ (of-eq _ _ (sym (number-is _ _ d))))
+    numbers-of (Declined g) f b e = left _ _ (subst (λ (k : ℕ). T (verdictNumber (calls R) k)) (number-is _ _ e) (b g refl))
 
-  pub near : Near (packOf document01 o room)
-  unfolding packOf
-  near = near-of v (λ g e. (j .numbers g e .1, j .near g e)) (λ n e. document01-told .size o (j .accepted n .0 e .1) .1)
+    refused-number : (f : Fault) → packOf R o room ≡ Refused f → T (readNumber R (f .number))
+    unfolding packOf
+    refused-number f e = numbers-of v f (j .numbers) e
 
-  only-message : (n : ℕ) → packOf document01 o room ≡ Texts n → Accepts document01 o
-  unfolding packOf
-  only-message n e = let x = texts-verdict o room v n e in j .accepted (x .0) .0 (x .1) .1
+    -- numbers, places and sizes are small: a word has room for them
+    near-of : (w : Verdict) → ((g : Fault) → w ≡ Declined g → (g .number ≤ 10) × (g .place ≤ 258)) → ((n : ℕ) → w ≡ Accepted n → length o ≤ 258) → Near (packFrom R o room w)
+    unfolding packFrom numberOf placeOf sizeOf
+    near-of (Accepted n) b l =
+        let z = size-within R o in
+        let k = l n refl in
+        pick-case Near (textSize R o ≤? room) _ _ (λ _. record { number = omega arith; place = omega arith; size = omega arith }) (λ _. record { number = omega arith; place = omega arith; size = omega arith })
+    near-of (Declined g) b l = let x = b g refl in record { number = omega (arith, x .0); place = x .1; size = omega arith }
 
-  pub reads-of : Reads o old (readOf document01 o room) (areaAfter document01 o old)
-  unfolding readOf
-  reads-of = record {
-    spoilt = λ f l. Iff·trans (declined f (omega arith)) (j .spoilt f l);
-    as-the-listener = λ f l. Iff·trans (declined f (omega arith)) (j .as-the-listener f l);
-    early = λ p. Iff·trans (declined (record { number = 8; place = p }) (omega arith)) (j .early p);
-    followed = λ p. Iff·trans (declined (record { number = 7; place = p }) (omega arith)) (j .followed p);
-    short = short-message;
-    drafted = λ m l e h. (reads m l e h, area-is m l e h, (λ i. messageOf (reads m l e h i .draft) (area-is m l e h i)) ∙ stands m l e h);
-    only = only-message;
-    refused = λ f e. (refused-all f e .0, refused-all f e .1, refused-number f e .0, refused-number f e .1);
-  }
+    pub near : Near (packOf R o room)
+    unfolding packOf
+    near = near-of v (λ g e. (told-small (spoken R S) _ (j .numbers g e) .1, j .near g e)) (λ n e. accepted-size R o (j .accepted n .0 e .1) .1)
+
+    only-message : (n : ℕ) → packOf R o room ≡ Texts n → Accepts R o
+    unfolding packOf
+    only-message n e = let x = texts-verdict o room v n e in j .accepted (x .0) .0 (x .1) .1
+
+    pub reads-of : Reads R o old (readOf R o room) (areaAfter R o old)
+    unfolding readOf
+    reads-of = record {
+      spoilt = λ f l. Iff·trans (declined f (given-apart (spoken R S) _ l .2)) (j .spoilt f l);
+      as-the-listener = λ f l. Iff·trans (declined f (given-apart (spoken R S) _ l .2)) (j .as-the-listener f l);
+      early = λ p. Iff·trans (declined (noted 8 p) (λ x. omega arith)) (j .early p);
+      followed = λ p. Iff·trans (declined (noted 7 p) (λ x. omega arith)) (j .followed p);
+      short = short-message;
+      drafted = λ m l e h. (reads m l e h, area-is m l e h, (λ i. messageOf (reads m l e h i .draft) (area-is m l e h i)) ∙ stands m l e h);
+      only = only-message;
+      refused = λ f e. (refused-all f e .0, refused-all f e .1, refused-number f e);
+    }

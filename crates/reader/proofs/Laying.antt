@@ -19,6 +19,7 @@ use Rattle.draft.specs.declared.Entry.{Entry}
 use Rattle.draft.specs.declared.Draft.{Draft}
 use Rattle.draft.specs.Draft.{noEntry, emptyOf}
 use Rattle.rules.specs.Laying.{laid, laidAt, laid-front, laid-behind, laid-length}
+use Rattle.rules.specs.Refusals.{noted}
 use Rattle.draft.specs.Packing.{textsOf, entriesOf, draftOf}
 use Rattle.draft.proofs.Packing.{entries-length}
 use Rattle.reader.specs.declared.Packed.{Packed}
@@ -191,17 +192,17 @@ module _ (R : Rules) (o old : List ℕ) (v : Verdict) (e : v ≡ verdictOf R o) 
   packs-declined f q = after (packed.Refused f) old (ap (packFrom R o (length old)) (sym q ∙ e)) refl
 
   module _ (n : ℕ) (q : v ≡ Accepted n) where
-    pub packs-short : (s : ℕ) → s ≡ textSize R o → length old < s → Packs (packed.Refused (record { number = 9; place = s })) old
+    pub packs-short : (s : ℕ) → s ≡ textSize R o → length old < s → Packs (packed.Refused (noted 9 s)) old
     unfolding packOf packFrom areaFrom
     packs-short s z h =
-        after (packed.Refused (record { number = 9; place = s })) old
-        (ap (λ (k : ℕ). packed.Refused (record { number = 9; place = k })) z ∙ sym (pick-not (textSize R o ≤? length old) (packed.Texts (textSize R o)) (packed.Refused (record { number = 9; place = textSize R o })) (λ t. omega (arith, le-of _ _ t))) ∙ ap (packFrom R o (length old)) (sym q ∙ e)) refl
+        after (packed.Refused (noted 9 s)) old
+        (ap (λ (k : ℕ). packed.Refused (noted 9 k)) z ∙ sym (pick-not (textSize R o ≤? length old) (packed.Texts (textSize R o)) (packed.Refused (noted 9 (textSize R o))) (λ t. omega (arith, le-of _ _ t))) ∙ ap (packFrom R o (length old)) (sym q ∙ e)) refl
 
     pub packs-whole : (s : ℕ) (area : List ℕ) → s ≡ textSize R o → s ≤ length old → area ≡ laid (textsOf R (parametersIn o)) old → Packs (packed.Texts s) area
     unfolding packOf packFrom areaFrom
     packs-whole s area z h a =
         after (packed.Texts s) area
-        (ap packed.Texts z ∙ sym (pick-yes (textSize R o ≤? length old) (packed.Texts (textSize R o)) (packed.Refused (record { number = 9; place = textSize R o })) (of-le _ _ (omega arith))) ∙ ap (packFrom R o (length old)) (sym q ∙ e)) a
+        (ap packed.Texts z ∙ sym (pick-yes (textSize R o ≤? length old) (packed.Texts (textSize R o)) (packed.Refused (noted 9 (textSize R o))) (of-le _ _ (omega arith))) ∙ ap (packFrom R o (length old)) (sym q ∙ e)) a
 
     pub size-small : (s : ℕ) → s ≡ textSize R o → s ≤ n
     size-small s z = omega (arith, accepted-long R o n (sym q ∙ e), size-within R o)

@@ -1,4 +1,4 @@
--- What a read answers, and what the text area then holds (document 01, Drafts; Numbers: 1 to 6, then 8, then 7, then 9).
+-- What a read answers, and what the text area then holds (document 01, Drafts; Numbers: 1 to 6, then 8, then 7, then 9; document 02, Q-11: 10).
 -- Assumes nothing.
 use Prim.Native.Nat.{ℕ, _+_}
 use mathlib.Core.Bool.{Bool, true, false}
@@ -19,6 +19,7 @@ use Rattle.message.specs.declared.Found.the-variants as found
 use Rattle.draft.specs.declared.Draft.{Draft}
 use Rattle.draft.specs.Draft.{emptyOf}
 use Rattle.rules.specs.Laying.{laid}
+use Rattle.rules.specs.Refusals.{noted}
 use Rattle.draft.specs.Packing.{entryOf, textOf, textsOf, draftOf}
 use Rattle.reader.specs.declared.Packed.{Packed}
 use Rattle.reader.specs.declared.Packed.the-variants as packed
@@ -35,7 +36,7 @@ textSize R o = length (textsOf R (parametersIn o))
 
 -- an accepted message's texts, if the area has room for them; else 9 with the text octets needed. Other octets are declined as the verdict says
 unfoldable pub packFrom : Rules → List ℕ → ℕ → Verdict → Packed
-packFrom R o room (Accepted n) = pick (textSize R o ≤? room) (packed.Texts (textSize R o)) (packed.Refused (record { number = 9; place = textSize R o }))
+packFrom R o room (Accepted n) = pick (textSize R o ≤? room) (packed.Texts (textSize R o)) (packed.Refused (noted 9 (textSize R o)))
 packFrom R o room (Declined f) = packed.Refused f
 
 unfoldable pub packOf : Rules → List ℕ → ℕ → Packed

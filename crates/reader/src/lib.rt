@@ -5,6 +5,7 @@ use draft::Entry;
 use draft::Value;
 use message::Found;
 use message::Verdict;
+use rules::Book;
 use rules::Fault;
 use rules::Form;
 use rules::MOST;
@@ -13,7 +14,7 @@ ghost use Prim.Native.Nat.{_+_, _≤_};
 ghost use lib.ListN.{length, take, drop};
 ghost use lib.ListN.{length as long};
 ghost use Rattle.rules.specs.Tests.{pick};
-ghost use Rattle.rules.specs.Table.{document01};
+ghost use Rattle.rules.specs.Table.{rulesOf};
 ghost use Rattle.rules.specs.declared.Form.the-variants as form;
 ghost use Rattle.message.specs.Parameters.{parametersIn, messageIn};
 ghost use Rattle.draft.specs.Meaning.{kindOf, numberOf, pairAt, meant};
@@ -21,7 +22,7 @@ ghost use Rattle.rules.specs.Laying.{laid, laidAt};
 ghost use Rattle.draft.specs.Packing.{packed, draftOf, textsOf};
 ghost use Rattle.reader.specs.Read.{hasText, textSize, textAt, entryAt, packOf, areaAfter, readOf};
 
-// What becomes of the octets: how many text octets were laid down; or a number from 1 to 9 with its place.
+// What becomes of the octets: how many text octets were laid down; or a number from 1 to 10 with its place.
 pub enum Packed {
     Texts { octets: u16 },
     Refused { fault: Fault },
@@ -126,25 +127,25 @@ fn has_text(kind: Form) -> bool
 }
 
 // The kind of a type's value.
-fn form_at(kind: u8) -> Form
-    ensures { λ r. ⌜ r ≡ kindOf document01 kind ⌝ }
+fn form_at(book: Book, kind: u8) -> Form
+    ensures { λ r. ⌜ r ≡ kindOf (rulesOf book) kind ⌝ }
 {
-    rules::form_of(rules::class_of(kind))
+    rules::form_of(rules::class_of(book, kind))
 }
 
 // How long the text of a parameter is: its contents, or nothing.
-fn text_length(kind: u8, length: u8) -> usize
-    ensures { λ r. ⌜ r ≡ pick (hasText (kindOf document01 kind)) length 0 ⌝ }
+fn text_length(book: Book, kind: u8, length: u8) -> usize
+    ensures { λ r. ⌜ r ≡ pick (hasText (kindOf (rulesOf book) kind)) length 0 ⌝ }
 {
-    if has_text(form_at(kind)) {
+    if has_text(form_at(book, kind)) {
         length as usize
     } else {
         0
     }
 }
 
-fn text_at(octets: &[u8], at: usize) -> Text
-    ensures { λ r. ⌜ r ≡ textAt document01 (now (octets .entry)) at ⌝ }
+fn text_at(book: Book, octets: &[u8], at: usize) -> Text
+    ensures { λ r. ⌜ r ≡ textAt (rulesOf book) (now (octets .entry)) at ⌝ }
 {
     let found = message::parameter(octets, at);
     match found {
@@ -154,7 +155,7 @@ fn text_at(octets: &[u8], at: usize) -> Text
             length,
         } => Text::At {
             start,
-            length: text_length(kind, length),
+            length: text_length(book, kind, length),
             place: start + length as usize,
         },
         Found::Nothing => Text::End,
@@ -162,14 +163,14 @@ fn text_at(octets: &[u8], at: usize) -> Text
 }
 
 // The text octets of all parameters: repeats, those that do not count, carried contents too.
-fn text_size(octets: &[u8]) -> usize
-    ensures { λ r. ⌜ r ≡ textSize document01 (now (octets .entry)) ⌝ }
+fn text_size(book: Book, octets: &[u8]) -> usize
+    ensures { λ r. ⌜ r ≡ textSize (rulesOf book) (now (octets .entry)) ⌝ }
 {
     let mut at: usize = 2;
     let mut size: usize = 0;
     let mut count: usize = 0;
     while count < MOST {
-        let text = text_at(octets, at);
+        let text = text_at(book, octets, at);
         match text {
             Text::At {
                 start: _,
@@ -198,15 +199,15 @@ fn lay_text(octets: &[u8], start: usize, length: usize, area: &mut [u8], at: usi
 }
 
 // Each text behind the one before it, from octet 0 of the area on.
-fn lay_texts(octets: &[u8], area: &mut [u8])
-    requires { ⌜ textSize document01 (now octets) ≤ length (now area) ⌝ }
-    ensures { λ r. ⌜ now (area .exit) ≡ laid (textsOf document01 (parametersIn (now (octets .entry)))) (now (area .entry)) ⌝ }
+fn lay_texts(book: Book, octets: &[u8], area: &mut [u8])
+    requires { ⌜ textSize (rulesOf book) (now octets) ≤ length (now area) ⌝ }
+    ensures { λ r. ⌜ now (area .exit) ≡ laid (textsOf (rulesOf book) (parametersIn (now (octets .entry)))) (now (area .entry)) ⌝ }
 {
     let mut at: usize = 2;
     let mut used: usize = 0;
     let mut count: usize = 0;
     while count < MOST {
-        let text = text_at(octets, at);
+        let text = text_at(book, octets, at);
         match text {
             Text::At {
                 start,
@@ -226,21 +227,21 @@ fn lay_texts(octets: &[u8], area: &mut [u8])
 }
 
 // The verdict, then 9, and only then the texts: with a refusal the area is not touched.
-pub fn pack(octets: &[u8], area: &mut [u8]) -> Packed
-    ensures answer { λ r. ⌜ r ≡ packOf document01 (now (octets .entry)) (length (now (area .entry))) ⌝ }
-    ensures area { λ r. ⌜ now (area .exit) ≡ areaAfter document01 (now (octets .entry)) (now (area .entry)) ⌝ }
+pub fn pack(book: Book, octets: &[u8], area: &mut [u8]) -> Packed
+    ensures answer { λ r. ⌜ r ≡ packOf (rulesOf book) (now (octets .entry)) (length (now (area .entry))) ⌝ }
+    ensures area { λ r. ⌜ now (area .exit) ≡ areaAfter (rulesOf book) (now (octets .entry)) (now (area .entry)) ⌝ }
 {
-    let verdict = message::judge(octets);
+    let verdict = message::judge(book, octets);
     match verdict {
         Verdict::Accepted { size: whole } => {
-            let size = text_size(octets);
+            let size = text_size(book, octets);
             let place = size as u16;
             if area.len() < size {
                 return Packed::Refused {
-                    fault: Fault { number: 9, place },
+                    fault: rules::noted(9, place),
                 };
             }
-            lay_texts(octets, area);
+            lay_texts(book, octets, area);
             Packed::Texts { octets: place }
         }
         Verdict::Declined { fault } => Packed::Refused { fault },
@@ -248,8 +249,8 @@ pub fn pack(octets: &[u8], area: &mut [u8]) -> Packed
 }
 
 // The entry of the parameter at a place of a message, its text to be packed at a place of the area.
-pub fn entry(octets: &[u8], at: usize, used: usize) -> Taken
-    ensures { λ r. ⌜ r ≡ entryAt document01 (now (octets .entry)) at used ⌝ }
+pub fn entry(book: Book, octets: &[u8], at: usize, used: usize) -> Taken
+    ensures { λ r. ⌜ r ≡ entryAt (rulesOf book) (now (octets .entry)) at used ⌝ }
 {
     let found = message::parameter(octets, at);
     match found {
@@ -259,10 +260,10 @@ pub fn entry(octets: &[u8], at: usize, used: usize) -> Taken
             length,
         } => {
             let place = start + length as usize;
-            let value = value_of(form_at(kind), &octets[start..place], used);
+            let value = value_of(form_at(book, kind), &octets[start..place], used);
             Taken::Next {
                 entry: Entry { kind, value },
-                text: text_length(kind, length),
+                text: text_length(book, kind, length),
                 place,
             }
         }
@@ -271,8 +272,8 @@ pub fn entry(octets: &[u8], at: usize, used: usize) -> Taken
 }
 
 // An entry for each parameter; the other places are not used.
-fn draft_of(octets: &[u8]) -> Draft
-    ensures { λ r. ⌜ r ≡ draftOf document01 (messageIn (now (octets .entry))) ⌝ }
+fn draft_of(book: Book, octets: &[u8]) -> Draft
+    ensures { λ r. ⌜ r ≡ draftOf (rulesOf book) (messageIn (now (octets .entry))) ⌝ }
 {
     let none = draft::no_entry();
     let mut entries = [none; MOST];
@@ -281,7 +282,7 @@ fn draft_of(octets: &[u8]) -> Draft
     let mut used: usize = 0;
     let mut count: usize = 0;
     while count < MOST {
-        let taken = entry(octets, at, used);
+        let taken = entry(book, octets, at, used);
         match taken {
             Taken::Next { entry, text, place } => {
                 entries[count] = entry;
@@ -305,16 +306,16 @@ fn draft_of(octets: &[u8]) -> Draft
     }
 }
 
-// A whole read: the draft of the message, or one of 1 to 9 with its place.
-pub fn read(octets: &[u8], area: &mut [u8]) -> Reading
-    ensures answer { λ r. ⌜ r ≡ readOf document01 (now (octets .entry)) (length (now (area .entry))) ⌝ }
-    ensures area { λ r. ⌜ now (area .exit) ≡ areaAfter document01 (now (octets .entry)) (now (area .entry)) ⌝ }
+// A whole read: the draft of the message, or one of 1 to 10 with its place.
+pub fn read(book: Book, octets: &[u8], area: &mut [u8]) -> Reading
+    ensures answer { λ r. ⌜ r ≡ readOf (rulesOf book) (now (octets .entry)) (length (now (area .entry))) ⌝ }
+    ensures area { λ r. ⌜ now (area .exit) ≡ areaAfter (rulesOf book) (now (octets .entry)) (now (area .entry)) ⌝ }
 {
-    let answer = pack(octets, area);
+    let answer = pack(book, octets, area);
     match answer {
         Packed::Texts { octets: _ } => Reading {
             answer,
-            draft: draft_of(octets),
+            draft: draft_of(book, octets),
         },
         Packed::Refused { fault: _ } => Reading {
             answer,

@@ -1,10 +1,12 @@
 // Every row of document 01's table and both sides of every limit: reads octets from standard input, each case behind its length in two octets, and prints
 // one line for each: the octets, their listing, what a new listener answers to them, and the verdict. What it must print was written by the second reader,
-// the table's rows by hand (tools/replay).
+// the table's rows by hand (tools/replay). The two upper bits of a length say by which book a case is heard and judged; a listing is of the present edition,
+// so the other books' cases have none, and what is said of them stands by hand too.
 use libc::STDIN_FILENO;
 use libc::STDOUT_FILENO;
 use listener::Answer;
 use message::Verdict;
+use rules::Book;
 ghost use Prim.Native.Nat.{_≤_};
 ghost use lib.ListN.{length};
 
@@ -51,8 +53,31 @@ fn say_listing(octets: &[u8]) {
     say(&lines[..length]);
 }
 
-fn say_heard(octets: &[u8]) {
-    let heard = listener::listen(listener::reset(), octets);
+// The book of a number; one of none is read as 0, which the exports go by.
+fn book_of(number: u8) -> Book {
+    if number == 1 {
+        Book::PresentStrict
+    } else if number == 2 {
+        Book::OldLenient
+    } else if number == 3 {
+        Book::OldStrict
+    } else {
+        Book::PresentLenient
+    }
+}
+
+// The listing, or the number of another book.
+fn say_title(number: u8, octets: &[u8]) {
+    if number == 0 {
+        say_listing(octets);
+    } else {
+        say_number(b"book ", number as u64);
+        say(b" ");
+    }
+}
+
+fn say_heard(book: Book, octets: &[u8]) {
+    let heard = listener::listen(listener::reset(book), octets);
     let answer = heard.answer;
     match answer {
         Answer::Waits => say(b"| L waits"),
@@ -65,8 +90,8 @@ fn say_heard(octets: &[u8]) {
     say_number(b", took ", heard.taken as u64);
 }
 
-fn say_verdict(octets: &[u8]) {
-    let verdict = message::judge(octets);
+fn say_verdict(book: Book, octets: &[u8]) {
+    let verdict = message::judge(book, octets);
     match verdict {
         Verdict::Accepted { size } => say_number(b" | read size ", size as u64),
         Verdict::Declined { fault } => {
@@ -77,12 +102,13 @@ fn say_verdict(octets: &[u8]) {
     say(b"\n");
 }
 
-fn show(octets: &[u8]) {
+fn show(number: u8, octets: &[u8]) {
+    let book = book_of(number);
     say_octets(octets);
     say(b"| ");
-    say_listing(octets);
-    say_heard(octets);
-    say_verdict(octets);
+    say_title(number, octets);
+    say_heard(book, octets);
+    say_verdict(book, octets);
 }
 
 fn fill(octets: &mut [u8], n: usize) -> usize
@@ -102,13 +128,14 @@ fn next() -> bool {
     if io::read_full(STDIN_FILENO, &mut size) < 2 {
         return false;
     }
-    let n = number(size[0], size[1]);
+    let book = size[0] / 64;
+    let n = number(size[0] % 64, size[1]);
     if 300 < n {
         return false;
     }
     let mut octets = [0u8; 300];
     let got = fill(&mut octets, n);
-    show(&octets[..got]);
+    show(book, &octets[..got]);
     true
 }
 

@@ -3,3 +3,4 @@ pub mod Table
 pub mod Rivals
 pub mod AtIndex
 pub mod Settled
+mod OtherLength

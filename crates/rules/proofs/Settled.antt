@@ -7,6 +7,9 @@ use Rattle.rules.proofs.code_of.Reads as code-of
 use Rattle.rules.proofs.form_of.Reads as form-of
 use Rattle.rules.proofs.rival_of.Reads as rival-of
 use Rattle.rules.proofs.is_listed.Reads as is-listed
+use Rattle.rules.proofs.is_strict.Reads as is-strict
+use Rattle.rules.proofs.class_fault.Reads as class-fault
+use Rattle.rules.proofs.noted.Reads as noted
 use Rattle.rules.proofs.length_fits.Reads as length-fits
 use Rattle.rules.proofs.possible.Reads as possible
 use Rattle.rules.proofs.message_kind.Reads as message-kind
@@ -49,3 +52,12 @@ rival-of-settled κs a r r' s s' p q = p ∙ sym q
 
 pub same-octets-settled : (κs : _) (a : _) (r r' : _) (s s' : _) → same-octets.Post κs a r s → same-octets.Post κs a r' s' → r ≡ r'
 same-octets-settled κs a r r' s s' p q = p ∙ sym q
+
+pub is-strict-settled : (κs : _) (a : _) (r r' : _) (s s' : _) → is-strict.Post κs a r s → is-strict.Post κs a r' s' → r ≡ r'
+is-strict-settled κs a r r' s s' p q = p ∙ sym q
+
+pub class-fault-settled : (κs : _) (a : _) (r r' : _) (s s' : _) → class-fault.Post κs a r s → class-fault.Post κs a r' s' → r ≡ r'
+class-fault-settled κs a r r' s s' p q = p ∙ sym q
+
+pub noted-settled : (κs : _) (a : _) (r r' : _) (s s' : _) → noted.Post κs a r s → noted.Post κs a r' s' → r ≡ r'
+noted-settled κs a r r' s s' p q = p ∙ sym q

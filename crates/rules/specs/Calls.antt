@@ -1,8 +1,8 @@
--- The grammar of call messages and notices under any sound rules; that its messages are those accepted, and its roles those of their octets.
+-- The language of call messages and notices under any sound rules: its grammar, whose messages are those accepted and whose roles are those of their octets.
 -- Assumes nothing.
-use Prim.Native.Nat.{ℕ, suc, _+_, _-_, _<_}
+use Prim.Native.Nat.{ℕ, suc, _+_, _-_, _≤_, _<_}
 use mathlib.Core.Path.{_≡_, refl, sym, _∙_, ap, subst}
-use mathlib.Core.Logic.{_⊎_, inl, inr, _↔_}
+use mathlib.Core.Logic.{_⊎_, inl, inr}
 use mathlib.Core.List.{List, [], _∷_, _++_}
 use native.Mathlib.Nat.{zero-add}
 use native.Mathlib.Omega.{arith}
@@ -10,15 +10,20 @@ use lib.ListN.{length, length-append}
 use lib.Dec.{T}
 use Rattle.rules.specs.Tests.{_=?_, either, eq-of}
 use Rattle.rules.specs.Octets.{Octets, total, checksum, octets-append}
-use Rattle.rules.specs.Table.{Rules, typeFault, shapeOf}
-use Rattle.rules.specs.ContentLaw.{fit-octets, SoundRules}
+use Rattle.rules.specs.Table.{Rules, rulesOf, classOf, typeFault}
+use Rattle.rules.specs.ClassLaw.{fit-octets}
+use Rattle.rules.specs.ContentLaw.{lawful, SoundRules, sound-rules}
 use Rattle.rules.specs.Message as message
 use Rattle.rules.specs.Message.{Parameter, AllLegal, messageKind, body, front, octets, Accepts}
 use Rattle.rules.specs.Roles.{Role, always, times, bodyRoles, roles}
 use Rattle.rules.specs.Judge.{contents, after, fault, machine}
-use Rattle.rules.specs.Remaining.{Whole, Body, forward, backward, nil-final, final-nil, lives, some-message, at-contents}
-use Rattle.rules.specs.Listening.{close, close-total, Grammar, Accepted}
-use Rattle.rules.specs.Numbers.{trace}
+use Rattle.rules.specs.Remaining.{Fronted, Body, forward, backward, nil-final, final-nil, lives, some-message, at-contents}
+use Rattle.rules.specs.Listening.{close, close-total, trace, Grammar}
+use Rattle.rules.specs.Sizes.{octets-length}
+use Rattle.rules.specs.InRange.{in-range-start, in-range-closed, within-258, message-size, refused-number, numbers-of}
+use Rattle.rules.specs.Language.{calls, languageOf, Spoken}
+use Rattle.rules.specs.Demand3.{Demand3, demand3}
+use Rattle.rules.specs.declared.Book.{Book}
 use Rattle.rules.specs.declared.Class.{Class}
 use Rattle.rules.specs.declared.Stage.{Stage}
 use Rattle.rules.specs.declared.Stage.the-variants.{Kind, Header}
@@ -60,13 +65,13 @@ module _ (R : Rules) where
 
 module _ (R : Rules) (S : SoundRules R) where
   body-octets : (ps : List Parameter) → AllLegal R ps → length (body ps) < 256 → Octets (body ps)
-  unfolding body shapeOf
+  unfolding body
   body-octets [] l n = tt
   body-octets (q ∷ ps) l n =
       let e = length-append (q .contents) (body ps) in
-      (l .0 .octet, (omega arith, octets-append (q .contents) (body ps) (fit-octets _ (S .classes _) (q .contents) (l .0 .fits)) (body-octets ps (l .1) (omega arith))))
+      (l .0 .octet, (omega arith, octets-append (q .contents) (body ps) (fit-octets (lawful (classOf R (q .kind))) (q .contents) (l .0 .fits)) (body-octets ps (l .1) (omega arith))))
 
-  pub front-octets : (b : List ℕ) → Whole R b → Octets b
+  pub front-octets : (b : List ℕ) → Fronted R b → Octets b
   front-octets b d = subst Octets (d .is) (kind-octet _ (d .legal .kind), (d .legal .short, body-octets (d .m .parameters) (d .legal .parameters) (d .legal .short)))
 
   unfoldable pub grammar : Grammar (machine R)
@@ -82,9 +87,27 @@ module _ (R : Rules) (S : SoundRules R) where
     some-message = some-message R S;
   }
 
-  pub accepts-iff : (o : List ℕ) → Accepted (machine R) grammar o ↔ Accepts R o
-  unfolding machine grammar
-  accepts-iff o = (
-    λ d. (d .1 .m, d .1 .legal, sym (closed (d .1 .m)) ∙ ap (close 0) (d .1 .is) ∙ d .2),
-    λ d. (front (d .0), record { m = d .0; legal = d .1; is = refl }, closed (d .0) ∙ d .2),
-  )
+pub accepted-size : (R : Rules) (o : List ℕ) → Accepts R o → (6 ≤ length o) × (length o ≤ 258)
+accepted-size R o d = let n = octets-length (d .0) in (omega (arith, ap length (d .2), d .1 .long), omega (arith, ap length (d .2), d .1 .short))
+
+pub spoken : (R : Rules) → SoundRules R → Spoken (calls R)
+unfolding machine grammar
+spoken R S = record {
+  grammar = grammar R S;
+  accepts = λ o d. (d .1 .m, d .1 .legal, sym (closed (d .1 .m)) ∙ ap (close 0) (d .1 .is) ∙ d .2);
+  words = λ o d. (front (d .0), record { m = d .0; legal = d .1; is = refl }, closed (d .0) ∙ d .2);
+  traced = λ o d. trace-front R (d .0);
+  size = accepted-size R;
+  in-range-start = in-range-start R S;
+  in-range-closed = in-range-closed R S;
+  within-258 = within-258 R S;
+  sized = message-size R;
+  refused = refused-number R;
+  numbers = numbers-of R;
+}
+
+pub spoken-of : (b : Book) → Spoken (languageOf b)
+spoken-of b = spoken (rulesOf b) (sound-rules b)
+
+pub demand3-of : (b : Book) → Demand3 (languageOf b)
+demand3-of b = demand3 (spoken-of b)

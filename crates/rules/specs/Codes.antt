@@ -1,11 +1,13 @@
--- A number for each class of contents: what the table of types and the record of a listener hold.
+-- What the code holds of a class: a number for each, in the table of types and in the record of a listener; and its lengths.
 -- Assumes nothing.
 use Prim.Native.Nat.{ℕ, zero, suc, _≤_}
 use mathlib.Core.Path.{_≡_, refl}
 use native.Mathlib.Omega.{arith}
+use mathlib.Core.List.{List, [], _∷_}
 use Rattle.rules.specs.Tests.{_=?_, pick}
+use Rattle.rules.specs.Contents.{Range, only}
 use Rattle.rules.specs.declared.Class.{Class}
-use Rattle.rules.specs.declared.Class.the-variants.{Date, Number, Absent, Name, Lamp, Identity, CallType, Waiting, Forwarded, User, Carried}
+use Rattle.rules.specs.declared.Class.the-variants.{Date, Number, Absent, Name, Lamp, Identity, CallType, Waiting, Forwarded, User, Carried, OldNumber, ShortText, OldForwarded, OldUser, Unlisted}
 
 unfoldable pub classCode : Class → ℕ
 classCode Carried = 0
@@ -19,6 +21,23 @@ classCode CallType = 7
 classCode Waiting = 8
 classCode Forwarded = 9
 classCode User = 10
+classCode OldNumber = 11
+classCode ShortText = 12
+classCode OldForwarded = 13
+classCode OldUser = 14
+classCode Unlisted = 15
+
+-- the classes of the present edition, unlisted types carried, have the codes up to this one
+abbrev pub lastPresent : ℕ
+lastPresent = 10
+
+-- in the strict way a carried class has no contents
+unfoldable pub strictClass : Class → Class
+strictClass c = pick (classCode c =? 0) Unlisted c
+
+-- the class of a code from 11 on
+unfoldable pub laterClass : ℕ → Class
+laterClass k = pick (k =? 11) OldNumber (pick (k =? 12) ShortText (pick (k =? 13) OldForwarded (pick (k =? 14) OldUser (pick (k =? 15) Unlisted Carried))))
 
 -- the class of a code; a code of none is read as carried
 unfoldable pub classCoded : ℕ → Class
@@ -32,10 +51,10 @@ classCoded k =
     (pick (k =? 7) CallType
     (pick (k =? 8) Waiting
     (pick (k =? 9) Forwarded
-    (pick (k =? 10) User Carried)))))))))
+    (pick (k =? 10) User (laterClass k))))))))))
 
 pub coded-code : (c : Class) → classCoded (classCode c) ≡ c
-unfolding classCoded classCode pick _=?_
+unfolding classCoded laterClass classCode pick _=?_
 coded-code Date = refl
 coded-code Number = refl
 coded-code Absent = refl
@@ -47,24 +66,15 @@ coded-code Waiting = refl
 coded-code Forwarded = refl
 coded-code User = refl
 coded-code Carried = refl
+coded-code OldNumber = refl
+coded-code ShortText = refl
+coded-code OldForwarded = refl
+coded-code OldUser = refl
+coded-code Unlisted = refl
 
--- the codes are 0 to 10
-pub code-small : (c : Class) → classCode c ≤ 10
-unfolding classCode
-code-small Date = omega arith
-code-small Number = omega arith
-code-small Absent = omega arith
-code-small Name = omega arith
-code-small Lamp = omega arith
-code-small Identity = omega arith
-code-small CallType = omega arith
-code-small Waiting = omega arith
-code-small Forwarded = omega arith
-code-small User = omega arith
-code-small Carried = omega arith
-
-pub code-coded : (k : ℕ) → k ≤ 10 → classCode (classCoded k) ≡ k
-unfolding classCoded classCode pick _=?_
+-- the codes are 0 to 15
+pub code-coded : (k : ℕ) → k ≤ 15 → classCode (classCoded k) ≡ k
+unfolding classCoded laterClass classCode pick _=?_
 code-coded zero h = refl
 code-coded (suc zero) h = refl
 code-coded (suc (suc zero)) h = refl
@@ -76,4 +86,14 @@ code-coded (suc (suc (suc (suc (suc (suc (suc zero))))))) h = refl
 code-coded (suc (suc (suc (suc (suc (suc (suc (suc zero)))))))) h = refl
 code-coded (suc (suc (suc (suc (suc (suc (suc (suc (suc zero))))))))) h = refl
 code-coded (suc (suc (suc (suc (suc (suc (suc (suc (suc (suc zero)))))))))) h = refl
-code-coded (suc (suc (suc (suc (suc (suc (suc (suc (suc (suc (suc k))))))))))) h = absurd (omega arith)
+code-coded (suc (suc (suc (suc (suc (suc (suc (suc (suc (suc (suc zero))))))))))) h = refl
+code-coded (suc (suc (suc (suc (suc (suc (suc (suc (suc (suc (suc (suc zero)))))))))))) h = refl
+code-coded (suc (suc (suc (suc (suc (suc (suc (suc (suc (suc (suc (suc (suc zero))))))))))))) h = refl
+code-coded (suc (suc (suc (suc (suc (suc (suc (suc (suc (suc (suc (suc (suc (suc zero)))))))))))))) h = refl
+code-coded (suc (suc (suc (suc (suc (suc (suc (suc (suc (suc (suc (suc (suc (suc (suc zero))))))))))))))) h = refl
+code-coded (suc (suc (suc (suc (suc (suc (suc (suc (suc (suc (suc (suc (suc (suc (suc (suc k)))))))))))))))) h = absurd (omega arith)
+
+-- ---- the lengths of a class as the code has them
+-- the lengths from the least to the most, and one other (0 where there is none)
+unfoldable pub ranges : ℕ → ℕ → ℕ → List Range
+ranges least most other = (least, most) ∷ pick (other =? 0) [] (only other)

@@ -1,12 +1,26 @@
--- The judge of single content octets: whether octet x may stand at index i of n where m is remembered, and what is remembered then.
+-- The judge of single content octets: whether octet x may stand at index i of n where m is remembered, and what is remembered then; one for each class.
 -- What is remembered is a code, the tens digit of a pair, and never an octet for its own sake.
 -- Assumes nothing.
 use Prim.Native.Nat.{ℕ, zero, suc, _+_, _*_, _-_}
 use mathlib.Core.Bool.{Bool, true}
 use mathlib.Core.List.{List, [], _∷_}
 use Rattle.rules.specs.Tests.{_≤?_, _and_}
-use Rattle.rules.specs.Contents.{Range, within, inSet, Shape, pairs, columns, text, digit}
+use Rattle.rules.specs.Contents.{Range, within, inSet, digit}
+use Rattle.rules.specs.Table.{dateRanges, numberSet, absentSet, nameSet, lampSet, identitySet, anyOctet, callTypeSet, forwardedSet, userSet, oldNumberSet, oldForwardedSet, oldUserSet}
+use Rattle.rules.specs.declared.Class.{Class}
+use Rattle.rules.specs.declared.Class.the-variants.{Date, Number, Absent, Name, Lamp, Identity, CallType, Waiting, Forwarded, User, Carried, OldNumber, ShortText, OldForwarded, OldUser, Unlisted}
 
+-- of n octets, at index i, where m is remembered, for octet x
+pub record Judge : Type 0 where
+  pub ok : ℕ → ℕ → ℕ → ℕ → Bool
+  pub keep : ℕ → ℕ → ℕ → ℕ → ℕ
+
+-- octet after octet
+unfoldable pub passes : Judge → ℕ → ℕ → ℕ → List ℕ → Bool
+passes j n i m [] = true
+passes j n i m (x ∷ v) = j .ok n i m x and passes j n (suc i) (j .keep n i m x) v
+
+-- ---- the judges of the three builders
 -- some number of the range has the tens m
 unfoldable pub opens : Range → ℕ → Bool
 opens r m = r .0 ≤? 10 * m + 9 and 10 * m ≤? r .1
@@ -25,22 +39,45 @@ pairAt (r ∷ rs) zero m x = tensFit r x
 pairAt (r ∷ rs) (suc zero) m x = onesFit r m x
 pairAt (r ∷ rs) (suc (suc i)) m x = pairAt rs i m x
 
+-- the tens are remembered
+abbrev pub pairsJudge : List Range → Judge
+pairsJudge rs = record { ok = λ n i m x. pairAt rs i m x; keep = λ n i m x. x - 48 }
+
 unfoldable pub columnAt : List (List Range) → ℕ → ℕ → Bool
 columnAt [] i x = x ≤? 255
 columnAt (s ∷ ss) zero x = inSet s x
 columnAt (s ∷ ss) (suc i) x = columnAt ss i x
 
-unfoldable pub okAt : Shape → ℕ → ℕ → ℕ → ℕ → Bool
-okAt (pairs rs) n i m x = pairAt rs i m x
-okAt (columns ss) n i m x = columnAt ss i x
-okAt (text ls s) n i m x = inSet s x
+abbrev pub columnsJudge : List (List Range) → Judge
+columnsJudge ss = record { ok = λ n i m x. columnAt ss i x; keep = λ n i m x. 0 }
 
-unfoldable pub remember : Shape → ℕ → ℕ → ℕ → ℕ → ℕ
-remember (pairs rs) n i m x = x - 48
-remember (columns ss) n i m x = 0
-remember (text ls s) n i m x = 0
+abbrev pub textJudge : List Range → Judge
+textJudge s = record { ok = λ n i m x. inSet s x; keep = λ n i m x. 0 }
 
--- octet after octet
-unfoldable pub fitsFrom : Shape → ℕ → ℕ → ℕ → List ℕ → Bool
-fitsFrom c n i m [] = true
-fitsFrom c n i m (x ∷ v) = okAt c n i m x and fitsFrom c n (suc i) (remember c n i m x) v
+-- ---- the judge of each class
+unfoldable pub judgeOf : Class → Judge
+judgeOf Date = pairsJudge dateRanges
+judgeOf Number = textJudge numberSet
+judgeOf Absent = columnsJudge (absentSet ∷ [])
+judgeOf Name = textJudge nameSet
+judgeOf Lamp = columnsJudge (lampSet ∷ [])
+judgeOf Identity = columnsJudge (identitySet ∷ anyOctet ∷ anyOctet ∷ [])
+judgeOf CallType = columnsJudge (callTypeSet ∷ [])
+judgeOf Waiting = columnsJudge (anyOctet ∷ [])
+judgeOf Forwarded = columnsJudge (forwardedSet ∷ [])
+judgeOf User = columnsJudge (userSet ∷ [])
+judgeOf Carried = textJudge anyOctet
+judgeOf OldNumber = textJudge oldNumberSet
+judgeOf ShortText = textJudge nameSet
+judgeOf OldForwarded = columnsJudge (oldForwardedSet ∷ [])
+judgeOf OldUser = columnsJudge (oldUserSet ∷ [])
+judgeOf Unlisted = textJudge anyOctet
+
+abbrev pub okAt : Class → ℕ → ℕ → ℕ → ℕ → Bool
+okAt c n i m x = judgeOf c .ok n i m x
+
+abbrev pub remember : Class → ℕ → ℕ → ℕ → ℕ → ℕ
+remember c n i m x = judgeOf c .keep n i m x
+
+abbrev pub fitsFrom : Class → ℕ → ℕ → ℕ → List ℕ → Bool
+fitsFrom c n i m v = passes (judgeOf c) n i m v

@@ -1,4 +1,5 @@
--- What the contents of a parameter may be: three shapes of contents, each a rule over whole contents (document 01, The message).
+-- What the contents of a parameter may be (document 01, The message). A class of contents is the lengths that they have and a rule over whole contents;
+-- three builders make such classes.
 -- Assumes nothing.
 use Rattle.rules.specs.Tests.{_≤?_, _and_, _or_}
 use Prim.Native.Nat.{ℕ, _+_, _*_, _-_}
@@ -18,23 +19,18 @@ unfoldable pub inSet : List Range → ℕ → Bool
 inSet [] x = false
 inSet (r ∷ s) x = within r x or inSet s x
 
--- pairs: two digits for a number out of each range; columns: one octet out of each set; text: octets out of a set, as many as one of the ranges of lengths has
-pub data Shape : Type 0 where
-  pairs : List Range → Shape
-  columns : List (List Range) → Shape
-  text : List Range → List Range → Shape
+-- a class of contents: the lengths that its contents have, and which contents fit
+pub record Whole : Type 0 where
+  pub lengths : List Range
+  pub fits : List ℕ → Bool
 
 abbrev pub only : ℕ → List Range
 only n = (n, n) ∷ []
 
--- the lengths that contents of a shape have
-unfoldable pub lengths : Shape → List Range
-lengths (pairs rs) = only (2 * length rs)
-lengths (columns ss) = only (length ss)
-lengths (text ls s) = ls
-
-unfoldable pub lengthFits : Shape → ℕ → Bool
-lengthFits c n = inSet (lengths c) n
+-- one of some ranges has a number
+unfoldable pub someLength : List Range → Bool
+someLength [] = false
+someLength (r ∷ s) = r .0 ≤? r .1 or someLength s
 
 -- 0 to 9
 unfoldable pub digit : ℕ → Bool
@@ -51,18 +47,24 @@ pairsFit (r ∷ rs) [] = false
 pairsFit (r ∷ rs) (a ∷ []) = false
 pairsFit (r ∷ rs) (a ∷ b ∷ v) = pairFits r a b and pairsFit rs v
 
+-- two digits for a number out of each range
+abbrev pub pairs : List Range → Whole
+pairs rs = record { lengths = only (2 * length rs); fits = pairsFit rs }
+
 unfoldable pub columnsFit : List (List Range) → List ℕ → Bool
 columnsFit [] [] = true
 columnsFit [] (x ∷ v) = false
 columnsFit (s ∷ ss) [] = false
 columnsFit (s ∷ ss) (x ∷ v) = inSet s x and columnsFit ss v
 
+-- one octet out of each set
+abbrev pub columns : List (List Range) → Whole
+columns ss = record { lengths = only (length ss); fits = columnsFit ss }
+
 unfoldable pub allIn : List Range → List ℕ → Bool
 allIn s [] = true
 allIn s (x ∷ v) = inSet s x and allIn s v
 
--- the rule over whole contents
-unfoldable pub contentsFit : Shape → List ℕ → Bool
-contentsFit (pairs rs) v = pairsFit rs v
-contentsFit (columns ss) v = columnsFit ss v
-contentsFit (text ls s) v = inSet ls (length v) and allIn s v
+-- octets out of a set, as many as one of the ranges of lengths has
+abbrev pub text : List Range → List Range → Whole
+text ls s = record { lengths = ls; fits = λ v. inSet ls (length v) and allIn s v }

@@ -7,8 +7,7 @@ use mathlib.Core.List.{List, [], _∷_, _++_}
 use mathlib.Core.Option.{Option, none, some}
 use lib.Dec.{T}
 use Rattle.rules.specs.Tests.{_=?_, pick, pick-yes, pick-not, picked, eq-of, of-eq, decide, clash}
-use Rattle.rules.specs.Contents.{contentsFit}
-use Rattle.rules.specs.Table.{Rules, listed, rivalOf, shapeOf}
+use Rattle.rules.specs.Table.{Rules, listed, rivalOf, contentsFit, classOf}
 use Rattle.rules.specs.Message.{Parameter, Message, LegalParameter, AllLegal, LegalMessage}
 
 -- the contents of the first parameter of type t, if none of type u stands before it
@@ -97,8 +96,8 @@ legal-in R [] p a l = l .0
 legal-in R (q ∷ b) p a l = legal-in R b p a (l .1)
 
 -- the contents that count are contents of their type
-pub legal-counts : (R : Rules) (m : Message) → LegalMessage R m → (t : ℕ) (v : List ℕ) → Counts R m t v → T (contentsFit (shapeOf R t) v)
+pub legal-counts : (R : Rules) (m : Message) → LegalMessage R m → (t : ℕ) (v : List ℕ) → Counts R m t v → T (contentsFit (classOf R t) v)
 legal-counts R m l t v c =
     let f = c .first in
     let p = legal-in R (f .before) (f .p) (f .after) (subst (AllLegal R) (sym (f .is)) (l .parameters)) in
-    subst (λ (w : List ℕ). T (contentsFit (shapeOf R t) w)) (f .contents) (subst (λ (k : ℕ). T (contentsFit (shapeOf R k) (f .p .contents))) (f .kind) (p .fits))
+    subst (λ (w : List ℕ). T (contentsFit (classOf R t) w)) (f .contents) (subst (λ (k : ℕ). T (contentsFit (classOf R k) (f .p .contents))) (f .kind) (p .fits))

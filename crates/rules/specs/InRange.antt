@@ -1,16 +1,16 @@
 -- In range is closed under step, and a new state is in range: so no octets lead out of it (document 01, Listening, its last sentences).
 -- Assumes nothing.
 use Prim.Native.Nat.{ℕ, suc, _+_, _-_, _≤_, _<_}
-use mathlib.Core.Path.{_≡_, refl}
-use mathlib.Core.List.{List, [], _∷_}
-use mathlib.Core.Logic.{_⊎_, inl, inr}
+use mathlib.Core.Path.{_≡_, refl, sym, subst}
+use mathlib.Core.Bool.{Bool}
+use mathlib.Core.Logic.{_⊎_, inl, inr, _↔_}
 use native.Mathlib.Omega.{arith}
 use lib.Dec.{T}
-use Rattle.rules.specs.Tests.{_=?_, both, join, either, left, right, le-of, of-le, eq-of, of-eq, pick-case, not-zero}
-use Rattle.rules.specs.Octets.{Octets}
+use Rattle.rules.specs.Tests.{_=?_, _and_, both, join, either, left, right, le-of, of-le, eq-of, of-eq, pick, pick-case, not-zero}
 use Rattle.rules.specs.Contents.{within}
-use Rattle.rules.specs.Table.{Rules, listed, typeFault, document01}
-use Rattle.rules.specs.Machine.{moved, step, run, start}
+use Rattle.rules.specs.Table.{Rules, listed, classFault}
+use Rattle.rules.specs.ContentLaw.{class-fault, SoundRules, type-fault}
+use Rattle.rules.specs.Machine.{moved, step, start}
 use Rattle.rules.specs.Judge.{final, fits, contents, after, fault, machine, given, inRange}
 use Rattle.rules.specs.Remaining.{fits-room, at-contents}
 use Rattle.rules.specs.Listening.{place, Step, seals, spoils, takes, declines, stepped}
@@ -34,7 +34,7 @@ pub inside : (a b x : ℕ) → a ≤ x → x ≤ b → T (within (a, b) x)
 unfolding within
 inside a b x l h = join _ _ (of-le _ _ l) (of-le _ _ h)
 
-module _ (R : Rules) where
+module _ (R : Rules) (S : SoundRules R) where
   -- no place of a message is beyond 257
   pub near : (s : Stage) (q : Spot) → T (inRange R (Waiting s q)) → q .place ≤ 257
   unfolding inRange
@@ -91,17 +91,25 @@ module _ (R : Rules) where
   unfolding given
   among-six k a b = left _ _ (inside _ _ _ a b)
 
-  given-unlisted : T (given R (R .unlisted))
+  ten : classFault (R .others) ≡ 10 → T (given R (classFault (R .others)))
   unfolding given
-  given-unlisted = right _ _ (of-eq _ _ refl)
+  ten f = right _ _ (join _ _ (of-eq _ _ f) (of-eq _ _ f))
+
+  -- of 10, only where the types without a row get it
+  by-others : (b : Bool) → T (given R (pick b 3 (classFault (R .others))))
+  by-others b = pick-case (λ (k : ℕ). T (given R k)) b 3 (classFault (R .others)) (λ _. among-six 3 (omega arith) (omega arith)) (λ _. others (class-fault (R .others)))
+    where
+      others : (classFault (R .others) ≡ 3) ⊎ (classFault (R .others) ≡ 10) → T (given R (classFault (R .others)))
+      others (inl f) = among-six _ (omega arith) (omega arith)
+      others (inr f) = ten f
 
   given-fault : (s : Stage) (x : ℕ) → T (given R (fault R s x))
-  unfolding fault typeFault
-  given-fault Kind x = among-six 1 (omega arith) (omega arith)
-  given-fault Size x = among-six 2 (omega arith) (omega arith)
-  given-fault (Header r) x = pick-case (λ (k : ℕ). T (given R k)) (listed R x) 3 (R .unlisted) (λ _. among-six 3 (omega arith) (omega arith)) (λ _. given-unlisted)
-  given-fault (Length c r) x = among-six 4 (omega arith) (omega arith)
-  given-fault (Content c n i m r) x = among-six 5 (omega arith) (omega arith)
+  unfolding fault
+  given-fault Kind x = among-six _ (omega arith) (omega arith)
+  given-fault Size x = among-six _ (omega arith) (omega arith)
+  given-fault (Header r) x = subst (λ (k : ℕ). T (given R k)) (sym (type-fault R S x)) (by-others (listed R x))
+  given-fault (Length c r) x = among-six _ (omega arith) (omega arith)
+  given-fault (Content c n i m r) x = among-six _ (omega arith) (omega arith)
 
   by : (s : Stage) (q : Spot) (x : ℕ) (r : State) → Step (machine R) s q x r → x < 256 → T (inRange R (Waiting s q)) → T (inRange R r)
   unfolding inRange machine
@@ -116,25 +124,38 @@ module _ (R : Rules) where
   in-range-closed (Message n) x o t = t
   in-range-closed (Refused f) x o t = t
 
-  pub in-range-run : (w : State) (h : List ℕ) → Octets h → T (inRange R w) → T (inRange R (run (machine R) w h))
-  unfolding run
-  in-range-run w [] o t = t
-  in-range-run w (x ∷ h) o t = in-range-run (step (machine R) w x) h (o .1) (in-range-closed w x (o .0) t)
-
   pub in-range-start : T (inRange R (start (machine R)))
   unfolding inRange machine
   in-range-start = of-eq _ _ refl
 
--- the numbers of document 01's rules are 1 to 6
-pub six : (k : ℕ) → T (given document01 k) → T (within (1, 6) k)
-unfolding given document01
-six k t = go (either _ _ t)
-  where
-    go : T (within (1, 6) k) ⊎ T (k =? 3) → T (within (1, 6) k)
-    go (inl u) = u
-    go (inr u) = let e = eq-of _ _ u in inside _ _ _ (omega arith) (omega arith)
-
--- a refusal in range has one of them
-pub refused-number : (f : Fault) → T (inRange document01 (Refused f)) → T (within (1, 6) (f .number))
+pub message-size : (R : Rules) (n : ℕ) → T (inRange R (Message n)) → (6 ≤ n) × (n ≤ 258)
 unfolding inRange
-refused-number f t = six _ (both _ _ t .0)
+message-size R n t = (low _ _ _ t, high _ _ _ t)
+
+-- a refusal in range has a number that is given
+pub refused-number : (R : Rules) (f : Fault) → T (inRange R (Refused f)) → T (given R (f .number)) × (f .place ≤ 257)
+unfolding inRange
+refused-number R f t = let d = both _ _ t in (d .0, le-of _ _ (d .1))
+
+-- the numbers given are 1 to 6, and 10
+pub numbers-of : (R : Rules) (k : ℕ) → T (given R k) → (1 ≤ k) × (k ≤ 10) × (T (within (7, 9) k) → ⊥)
+unfolding given
+numbers-of R k t = go (either _ _ t)
+  where
+    go : T (within (1, 6) k) ⊎ T (k =? 10 and classFault (R .others) =? 10) → (1 ≤ k) × (k ≤ 10) × (T (within (7, 9) k) → ⊥)
+    go (inl u) = let a = low _ _ _ u in let b = high _ _ _ u in (omega arith, omega arith, λ v. omega (arith, low _ _ _ v))
+    go (inr u) = let e = eq-of _ _ (both _ _ u .0) in (omega arith, omega arith, λ v. omega (arith, high _ _ _ v))
+
+-- where the types without a row are carried, 1 to 6
+pub given-lenient : (R : Rules) (k : ℕ) → classFault (R .others) ≡ 3 → T (given R k) ↔ ((1 ≤ k) × (k ≤ 6))
+unfolding given
+given-lenient R k e = (λ t. go (either _ _ t), λ d. left _ _ (inside 1 6 k (d .0) (d .1)))
+  where
+    go : T (within (1, 6) k) ⊎ T (k =? 10 and classFault (R .others) =? 10) → (1 ≤ k) × (k ≤ 6)
+    go (inl u) = (low _ _ _ u, high _ _ _ u)
+    go (inr u) = let h = eq-of _ _ (both _ _ u .1) in absurd (omega arith)
+
+-- and where they are refused, 10 too
+pub given-strict : (R : Rules) → classFault (R .others) ≡ 10 → T (given R 10)
+unfolding given
+given-strict R e = right _ _ (join _ _ (of-eq 10 10 refl) (of-eq _ _ e))

@@ -4,8 +4,8 @@ use Prim.Native.Nat.{ℕ, suc, _+_, _-_}
 use mathlib.Core.Bool.{Bool, false}
 use mathlib.Core.List.{List, [], _∷_}
 use Rattle.rules.specs.Tests.{_≤?_, _=?_, _and_, _or_, pick}
-use Rattle.rules.specs.Contents.{Range, within, Shape, lengths, lengthFits}
-use Rattle.rules.specs.Table.{Rules, classOf, shapeOf, typeFault}
+use Rattle.rules.specs.Contents.{Range, within}
+use Rattle.rules.specs.Table.{Rules, classOf, typeFault, classFault, whole, lengthFits}
 use Rattle.rules.specs.ContentJudge.{okAt, remember}
 use Rattle.rules.specs.Message.{messageKind}
 use Rattle.rules.specs.Machine.{Machine}
@@ -28,8 +28,8 @@ somePossible [] r = false
 somePossible (l ∷ ls) r = rangePossible l r or somePossible ls r
 
 -- a type is possible in a room if one of its lengths is
-unfoldable pub possible : Shape → ℕ → Bool
-possible c r = somePossible (lengths c) r
+unfoldable pub possible : Class → ℕ → Bool
+possible c r = somePossible (whole c .lengths) r
 
 -- the parameters fill L, and the checksum comes
 unfoldable pub final : Stage → Bool
@@ -43,9 +43,9 @@ final (Content c n i m r) = false
 unfoldable pub fits : Rules → Stage → ℕ → Bool
 fits R Kind x = messageKind x
 fits R Size x = 3 ≤? x
-fits R (Header r) x = possible (shapeOf R x) r
-fits R (Length c r) x = lengthFits (R .shape c) x and roomFits x r
-fits R (Content c n i m r) x = okAt (R .shape c) n i m x
+fits R (Header r) x = possible (classOf R x) r
+fits R (Length c r) x = lengthFits c x and roomFits x r
+fits R (Content c n i m r) x = okAt c n i m x
 
 -- the octet at index i of n is to come; after the last of them a header, or the checksum
 unfoldable pub contents : Class → ℕ → ℕ → ℕ → ℕ → Stage
@@ -56,7 +56,7 @@ after R Kind x = Size
 after R Size x = Header x
 after R (Header r) x = Length (classOf R x) r
 after R (Length c r) x = contents c x 0 0 (r - (x + 2))
-after R (Content c n i m r) x = contents c n (suc i) (remember (R .shape c) n i m x) r
+after R (Content c n i m r) x = contents c n (suc i) (remember c n i m x) r
 
 -- the number of a refusal, by the role of the octet
 unfoldable pub fault : Rules → Stage → ℕ → ℕ
@@ -71,7 +71,7 @@ machine R = record { first = Kind; final = final; fits = fits R; after = after R
 
 -- a number that the machine can give
 unfoldable pub given : Rules → ℕ → Bool
-given R k = within (1, 6) k or k =? R .unlisted
+given R k = within (1, 6) k or (k =? 10 and classFault (R .others) =? 10)
 
 -- The arithmetic on a state is exact: place and octets still to come make a message of 6 to 258 octets, the index is within the length,
 -- a size is one that a message has, a number one that is given.

@@ -13,6 +13,8 @@ use lib.Seq.{take-at, take-suc, length-take-le, take-length}
 use lib.Dec.{T}
 use Rattle.rules.specs.Tests.{_=?_, eq-of, of-eq, pick-case, clash}
 use Rattle.rules.specs.Octets.{Octets, total, checksum, checksum-octet, octets-right, octets-take}
+use Rattle.rules.specs.Roles.{Role}
+use Rattle.rules.specs.Endings.{Ending, Spoilt}
 use Rattle.rules.specs.Machine.{Machine, moved, declined, step, run, start, answer, Waits}
 use Rattle.rules.specs.declared.Stage.{Stage}
 use Rattle.rules.specs.declared.Spot.{Spot}
@@ -54,6 +56,11 @@ pub record Grammar (M : Machine) : Type 1 where
   pub final-nil : (s : Stage) (b : List ℕ) → T (M .final s) → Body s b → b ≡ []
   pub lives : (s : Stage) (x : ℕ) → (T (M .final s) → ⊥) → x < 256 → (b : List ℕ) × Body s b → T (M .fits s x) → (b : List ℕ) × Body (M .after s x) b
   pub some-message : (b : List ℕ) × Body (M .first) b
+
+-- the roles that a machine gives to some octets, from a stage on
+unfoldable pub trace : Machine → Stage → List ℕ → List Role
+trace M s [] = []
+trace M s (x ∷ b) = M .fault s ∷ trace M (M .after s x) b
 
 -- how many octets led to a state
 abbrev pub place : State → ℕ
@@ -152,19 +159,6 @@ module _ (M : Machine) (G : Grammar M) where
   Live (Message n) = Unit {0}
   Live (Refused f) = Unit {0}
 
-  pub record Ending (h : List ℕ) : Type 0 where
-    pub e : List ℕ
-    pub some : e ≢ []
-    pub octets : Octets e
-    pub accepted : Accepted (h ++ e)
-
-  -- the first p octets have an ending, the first p + 1 have none and are no message
-  pub record Spoilt (h : List ℕ) (p : ℕ) : Type 0 where
-    pub place : p < length h
-    pub before : Ending (take p h)
-    pub none : Accepted (take (suc p) h) → ⊥
-    pub hopeless : Ending (take (suc p) h) → ⊥
-
   module _ (s : Stage) (q : Spot) (x : ℕ) where
     at-end : T (M .final s) → (e : List ℕ) → Lang (Waiting s q) (x ∷ e) → (x ≡ checksum (q .sum)) × (e ≡ [])
     unfolding close
@@ -220,21 +214,21 @@ module _ (M : Machine) (G : Grammar M) where
   past h e r c d = reach-off (c .b ++ e) (c .reach) (rw (← append-assoc (c .a) (c .b) e, c .is) d)
 
   module _ (h : List ℕ) (o : Octets h) where
-    waits-ending : Waits (answer M h) → Ending h
+    waits-ending : Waits (answer M h) → Ending Accepted h
     waits-ending w = go (answer M h) (cut M (start M) h o) w
       where
-        go-on : (s : Stage) (q : Spot) (c : Cut M (start M) h (Waiting s q)) → Waits (Waiting s q) → Some s → Ending h
+        go-on : (s : Stage) (q : Spot) (c : Cut M (start M) h (Waiting s q)) → Waits (Waiting s q) → Some s → Ending Accepted h
         go-on s q c w l =
             let i : c .a ≡ h = sym (append-nil (c .a)) ∙ ap (λ (z : List ℕ). c .a ++ z) (sym (c .whole w)) ∙ c .is in
             let acc : Accepted (h ++ close (q .sum) (l .0)) = rw i at (reach-on (close (q .sum) (l .0)) (c .reach) (G .some-message) (l .0, l .1, refl)) in
             record { e = close (q .sum) (l .0); some = close-some (q .sum) (l .0); octets = octets-right h _ (accepted-octets _ acc); accepted = acc }
 
-        go : (r : State) → Cut M (start M) h r → Waits r → Ending h
+        go : (r : State) → Cut M (start M) h r → Waits r → Ending Accepted h
         go (Waiting s q) c w = go-on s q c w (reach-live (c .reach) (G .some-message))
         go (Message n) c w = absurd w
         go (Refused f) c w = absurd w
 
-    ending-waits : Ending h → Waits (answer M h)
+    ending-waits : Ending Accepted h → Waits (answer M h)
     ending-waits d = go (answer M h) (cut M (start M) h o)
       where
         go : (r : State) → Cut M (start M) h r → Waits r
@@ -243,7 +237,7 @@ module _ (M : Machine) (G : Grammar M) where
         go (Refused f) c = past h (d .e) (Refused f) c (d .accepted)
 
     -- (a)
-    pub waits-iff : Waits (answer M h) ↔ Ending h
+    pub waits-iff : Waits (answer M h) ↔ Ending Accepted h
     waits-iff = (waits-ending, ending-waits)
 
     pub taken : {r : State} (c : Cut M (start M) h r) → take (place r) h ≡ c .a
@@ -296,7 +290,7 @@ module _ (M : Machine) (G : Grammar M) where
             let p : suc (f .place) ≡ suc (g .place) = ap place y in
             omega (arith, reach-place M (c .reach), length-append (c .a) (c .b), ap length (c .is), length-take (f .place) h, min-le-left (f .place) (length h))
 
-    refused-spoilt : (f : Fault) → answer M h ≡ Refused f → Spoilt h (f .place)
+    refused-spoilt : (f : Fault) → answer M h ≡ Refused f → Spoilt Accepted h (f .place)
     refused-spoilt f e = record {
       place = long h o (rw e at (cut M (start M) h o));
       before = waits-iff (take (f .place) h) (octets-take (f .place) h o) .0 (waits-before f e);
@@ -307,7 +301,7 @@ module _ (M : Machine) (G : Grammar M) where
     abbrev pub RefusedAt : ℕ → Type 0
     RefusedAt p = (f : Fault) × (answer M h ≡ Refused f) × (f .place ≡ p)
 
-    spoilt-refused : (p : ℕ) → Spoilt h p → RefusedAt p
+    spoilt-refused : (p : ℕ) → Spoilt Accepted h p → RefusedAt p
     unfolding run
     spoilt-refused p d =
         outer (answer M (take p h)) (cut M (start M) (take p h) (octets-take p h o)) refl (waits-iff (take p h) (octets-take p h o) .1 (d .before))
@@ -341,5 +335,5 @@ module _ (M : Machine) (G : Grammar M) where
         outer (Refused f) c e w = absurd w
 
     -- (c)
-    pub refused-iff : (p : ℕ) → RefusedAt p ↔ Spoilt h p
-    refused-iff p = (λ d. subst (Spoilt h) (d .2) (refused-spoilt (d .0) (d .1)), spoilt-refused p)
+    pub refused-iff : (p : ℕ) → RefusedAt p ↔ Spoilt Accepted h p
+    refused-iff p = (λ d. subst (Spoilt Accepted h) (d .2) (refused-spoilt (d .0) (d .1)), spoilt-refused p)

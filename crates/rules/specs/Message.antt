@@ -8,8 +8,7 @@ use mathlib.Core.List.{List, [], _∷_, _++_}
 use lib.ListN.{length}
 use lib.Dec.{T}
 use Rattle.rules.specs.Octets.{total, checksum}
-use Rattle.rules.specs.Contents.{contentsFit}
-use Rattle.rules.specs.Table.{Rules, shapeOf}
+use Rattle.rules.specs.Table.{Rules, classOf, contentsFit}
 
 pub record Parameter : Type 0 where
   pub kind : ℕ
@@ -43,7 +42,7 @@ messageKind x = x =? 0x80 or x =? 0x82
 module _ (R : Rules) where
   pub record LegalParameter (p : Parameter) : Type 0 where
     pub octet : p .kind < 256
-    pub fits : T (contentsFit (shapeOf R (p .kind)) (p .contents))
+    pub fits : T (contentsFit (classOf R (p .kind)) (p .contents))
 
   abbrev pub AllLegal : List Parameter → Type 0
   AllLegal [] = Unit {0}

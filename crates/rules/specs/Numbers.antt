@@ -13,7 +13,7 @@ use Rattle.rules.specs.Tests.{pick, pick-yes, pick-not, clash}
 use Rattle.rules.specs.Octets.{Octets, octets-take}
 use Rattle.rules.specs.Roles.{Role, always, roleAt}
 use Rattle.rules.specs.Machine.{Machine, moved, step, run, start, answer, Waits}
-use Rattle.rules.specs.Listening.{close, Grammar, Step, seals, spoils, takes, declines, stepped, Reach, here, there, reach-run, Cut, cut, taken, long, run-append, waits-before}
+use Rattle.rules.specs.Listening.{close, trace, Grammar, Step, seals, spoils, takes, declines, stepped, Reach, here, there, reach-run, Cut, cut, taken, long, run-append, waits-before}
 use Rattle.rules.specs.declared.Stage.{Stage}
 use Rattle.rules.specs.declared.Spot.{Spot}
 use Rattle.rules.specs.declared.Fault.{Fault}
@@ -42,11 +42,6 @@ drop-tail (suc n) [] = refl
 drop-tail n (r ∷ rs) = refl
 
 module _ (M : Machine) where
-  -- the machine's roles along some octets
-  unfoldable pub trace : Stage → List ℕ → List Role
-  trace s [] = []
-  trace s (x ∷ b) = M .fault s ∷ trace (M .after s x) b
-
   -- the role of the octet that comes at a stage
   unfoldable pub role : Stage → Role
   role s = pick (M .final s) (always 6) (M .fault s)

@@ -10,10 +10,11 @@ use native.Mathlib.Omega.{arith}
 use lib.ListN.{length, length-append}
 use lib.Dec.{T}
 use Rattle.rules.specs.Tests.{_≤?_, _=?_, _and_, _or_, both, join, either, left, right, le-of, of-le, eq-of, of-eq, pick-case, clash}
-use Rattle.rules.specs.Contents.{Range, within, inSet, lengths, lengthFits, contentsFit}
-use Rattle.rules.specs.Table.{Rules, classOf, shapeOf}
-use Rattle.rules.specs.ContentJudge.{okAt, remember, fitsFrom}
-use Rattle.rules.specs.ContentLaw.{fit-length, fit-from, from-fit, begin, proceed, some-length, small, SoundRules}
+use Rattle.rules.specs.Contents.{Range, within, inSet}
+use Rattle.rules.specs.Table.{Rules, classOf, lengthFits, contentsFit, whole}
+use Rattle.rules.specs.ContentJudge.{okAt, remember, fitsFrom, passes}
+use Rattle.rules.specs.ClassLaw.{begin, proceed, fit-passes, passes-fit}
+use Rattle.rules.specs.ContentLaw.{lawful, small, SoundRules}
 use Rattle.rules.specs.Message.{Parameter, Message, body, front, messageKind, AllLegal, LegalMessage}
 use Rattle.rules.specs.Judge.{roomFits, rangePossible, somePossible, possible, final, fits, contents, after}
 use Rattle.rules.specs.declared.Class.{Class}
@@ -38,7 +39,7 @@ module _ (R : Rules) where
     pub rest : List ℕ
     pub room : ℕ
     pub tail : Params room rest
-    pub fits : T (contentsFit (R .shape c) v)
+    pub fits : T (contentsFit c v)
     pub is : length v ∷ v ++ rest ≡ b
     pub size : length v + 2 + room ≡ r
 
@@ -47,11 +48,11 @@ module _ (R : Rules) where
     pub v : List ℕ
     pub rest : List ℕ
     pub long : i + length v ≡ n
-    pub fits : T (fitsFrom (R .shape c) n i m v)
+    pub fits : T (fitsFrom c n i m v)
     pub tail : Params r rest
     pub is : v ++ rest ≡ b
 
-  pub record Whole (b : List ℕ) : Type 0 where
+  pub record Fronted (b : List ℕ) : Type 0 where
     pub m : Message
     pub legal : LegalMessage R m
     pub is : front m ≡ b
@@ -64,7 +65,7 @@ module _ (R : Rules) where
     pub is : length (body ps) ∷ body ps ≡ b
 
   abbrev pub Body : Stage → List ℕ → Type 0
-  Body Kind b = Whole b
+  Body Kind b = Fronted b
   Body Size b = Sized b
   Body (Header r) b = Params r b
   Body (Length c r) b = First c r b
@@ -133,7 +134,7 @@ at-contents P c n i m r f g = pick-case P _ _ _ (λ e. f (eq-of _ _ e)) (λ e. g
 module _ (R : Rules) (S : SoundRules R) where
   -- ---- a parameter stands first
   first-go : (t r : ℕ) (b : List ℕ) (ps : List Parameter) → AllLegal R ps → body ps ≡ t ∷ b → suc (length b) ≡ r → First R (classOf R t) r b
-  unfolding body shapeOf
+  unfolding body
   first-go t r b [] l e n = clash cc
   first-go t r b (q ∷ ps) l e n =
       let k : q .kind ≡ t = cc in
@@ -151,7 +152,7 @@ module _ (R : Rules) (S : SoundRules R) where
   first t r b d = first-go t r b (d .ps) (d .legal) (d .is) (d .long)
 
   first-back : (t r : ℕ) (b : List ℕ) → t < 256 → First R (classOf R t) r b → Params R r (t ∷ b)
-  unfolding body shapeOf
+  unfolding body
   first-back t r b o f =
       record {
         ps = (record { kind = t; contents = f .v }) ∷ f .tail .ps;
@@ -161,10 +162,10 @@ module _ (R : Rules) (S : SoundRules R) where
       }
 
   room-go : (ps : List Parameter) → AllLegal R ps → Fillable (length (body ps))
-  unfolding body shapeOf
+  unfolding body
   room-go [] l = inl refl
   room-go (q ∷ ps) l =
-      inr (omega (arith, length-append (q .contents) (body ps), some-length (R .shape (classOf R (q .kind))) (S .classes _) _ (fit-length _ (q .contents) (l .0 .fits))))
+      inr (omega (arith, length-append (q .contents) (body ps), lawful (classOf R (q .kind)) .least _ (lawful (classOf R (q .kind)) .fit-length (q .contents) (l .0 .fits))))
 
   room-of : (r : ℕ) (b : List ℕ) → Params R r b → Fillable r
   room-of r b d = rw (ap length (d .is) ∙ d .long) at (room-go (d .ps) (d .legal))
@@ -179,7 +180,7 @@ module _ (R : Rules) (S : SoundRules R) where
       none e (x ∷ v) l k = absurd (omega arith)
 
   chunk-out : (c : Class) (n i m r : ℕ) (b : List ℕ) → Body R (contents c n i m r) b → Chunk R c n i m r b
-  unfolding fitsFrom
+  unfolding passes
   chunk-out c n i m r b =
       at-contents (λ (s : Stage). Body R s b → Chunk R c n i m r b) c n i m r
       (λ e d. record { v = []; rest = b; long = omega arith; fits = tt; tail = d; is = refl })
@@ -190,29 +191,29 @@ module _ (R : Rules) (S : SoundRules R) where
   unfolding fits after
   off-length c r x b f =
       let n : length (f .v) ≡ x = cc in
-      let l : T (lengthFits (R .shape c) x) = rw n at (fit-length (R .shape c) (f .v) (f .fits)) in
+      let l : T (lengthFits c x) = rw n at (lawful c .fit-length (f .v) (f .fits)) in
       let q : f .room ≡ r - (x + 2) = omega (arith, f .size) in (
         join _ _ l (room-fits x r (f .room) (omega (arith, f .size)) (room-of _ _ (f .tail))),
         chunk-in c x 0 0 _ b (record {
           v = f .v;
           rest = f .rest;
           long = omega arith;
-          fits = fit-from (R .shape c) x (f .v) (f .fits);
+          fits = fit-passes (lawful c) x (f .v) n (f .fits);
           tail = rw q at (f .tail);
           is = cc;
         }),
       )
 
   off-content : (c : Class) (n i m r x : ℕ) (b : List ℕ) → i < n → Chunk R c n i m r (x ∷ b) → T (fits R (Content c n i m r) x) × Body R (after R (Content c n i m r) x) b
-  unfolding fits after fitsFrom
+  unfolding fits after passes
   off-content c n i m r x b h d = go (d .v) (d .long) (d .fits) (d .is)
     where
-      go : (v : List ℕ) → i + length v ≡ n → T (fitsFrom (R .shape c) n i m v) → v ++ d .rest ≡ x ∷ b → T (okAt (R .shape c) n i m x) × Body R (contents c n (suc i) (remember (R .shape c) n i m x) r) b
+      go : (v : List ℕ) → i + length v ≡ n → T (fitsFrom c n i m v) → v ++ d .rest ≡ x ∷ b → T (okAt c n i m x) × Body R (contents c n (suc i) (remember c n i m x) r) b
       go [] l f e = absurd (omega arith)
       go (y ∷ v) l f e =
           let j : y ≡ x = cc in (
             rw j at (both _ _ f .0),
-            chunk-in c n (suc i) (remember (R .shape c) n i m x) r b (record {
+            chunk-in c n (suc i) (remember c n i m x) r b (record {
               v = v;
               rest = d .rest;
               long = omega arith;
@@ -223,7 +224,7 @@ module _ (R : Rules) (S : SoundRules R) where
           )
 
   pub forward : (s : Stage) (x : ℕ) (b : List ℕ) → Body R s (x ∷ b) → T (fits R s x) × Body R (after R s x) b
-  unfolding fits after possible shapeOf lengthFits
+  unfolding fits after possible whole
   forward Kind x b d =
       let k : d .m .kind ≡ x = cc in (
         rw k at (d .legal .kind),
@@ -235,14 +236,14 @@ module _ (R : Rules) (S : SoundRules R) where
       (of-le _ _ (omega arith), record { ps = d .ps; legal = d .legal; is = e; long = rw e at k })
   forward (Header r) x b d = let f = first x r b d in (may-stand f, f)
     where
-      may-stand : First R (classOf R x) r b → T (somePossible (lengths (R .shape (classOf R x))) r)
-      may-stand f = possible-has _ (length (f .v)) r (fit-length _ _ (f .fits)) (room-fits _ _ (f .room) (f .size) (room-of _ _ (f .tail)))
+      may-stand : First R (classOf R x) r b → T (somePossible (whole (classOf R x) .lengths) r)
+      may-stand f = possible-has _ (length (f .v)) r (lawful (classOf R x) .fit-length (f .v) (f .fits)) (room-fits _ _ (f .room) (f .size) (room-of _ _ (f .tail)))
   forward (Length c r) x b d = off-length c r x b d
   forward (Content c n i m r) x b d = off-content c n i m r x b (d .0) (d .1)
 
   -- ---- and may be put back
   pub backward : (s : Stage) (x : ℕ) (b b₀ : List ℕ) → (T (final s) → ⊥) → x < 256 → Body R s b₀ → T (fits R s x) → Body R (after R s x) b → Body R s (x ∷ b)
-  unfolding fits after final fitsFrom
+  unfolding fits after final passes
   backward Kind x b b₀ f o l k d =
       record {
         m = record { kind = x; parameters = d .ps };
@@ -263,12 +264,12 @@ module _ (R : Rules) (S : SoundRules R) where
         rest = e .rest;
         room = r - (x + 2);
         tail = e .tail;
-        fits = from-fit (R .shape c) x (e .v) (both _ _ k .0) n (e .fits);
+        fits = passes-fit (lawful c) x (e .v) n (both _ _ k .0) (e .fits);
         is = cc;
         size = omega arith;
       }
   backward (Content c n i m r) x b b₀ f o l j d =
-      let e = chunk-out c n (suc i) (remember (R .shape c) n i m x) r b d in
+      let e = chunk-out c n (suc i) (remember c n i m x) r b d in
       (l .0, record { v = x ∷ e .v; rest = e .rest; long = omega (arith, e .long); fits = join _ _ j (e .fits); tail = e .tail; is = ap (λ (q : List ℕ). x ∷ q) (e .is) })
 
   -- ---- nothing more comes before the checksum, and only there
@@ -294,23 +295,22 @@ module _ (R : Rules) (S : SoundRules R) where
 
   -- ---- something can come after each octet that may come
   -- a parameter of any length of its class, before parameters
-  put : (c : Class) (n room r : ℕ) → n + 2 + room ≡ r → T (lengthFits (R .shape c) n) → Some R (Header room) → Some R (Length c r)
+  put : (c : Class) (n room r : ℕ) → n + 2 + room ≡ r → T (lengthFits c n) → Some R (Header room) → Some R (Length c r)
   put c n room r e l s =
-      let v = begin (R .shape c) (S .classes c) n n in (
+      let v = begin (lawful c) n n in (
         length (v .0) ∷ v .0 ++ s .0,
         record {
           v = v .0;
           rest = s .0;
           room = room;
           tail = s .1;
-          fits = from-fit (R .shape c) n (v .0) l (v .1) (v .2);
+          fits = passes-fit (lawful c) n (v .0) (v .1) l (v .2);
           is = refl;
           size = omega (arith, v .1);
         },
       )
 
   caller : (n room r : ℕ) → n + 2 + room ≡ r → 1 ≤ n → n ≤ 3 → Some R (Header room) → Some R (Header r)
-  unfolding shapeOf
   caller n room r e l m s = let d = put (classOf R 0x02) n room r e (small R S n l m) s in (0x02 ∷ d .0, first-back 0x02 r (d .0) (omega arith) (d .1))
 
   nothing : Some R (Header 0)
@@ -335,7 +335,7 @@ module _ (R : Rules) (S : SoundRules R) where
   least-body d = ap length (d .1 .is) ∙ d .1 .long
 
   pub lives : (s : Stage) (x : ℕ) → (T (final s) → ⊥) → x < 256 → Some R s → T (fits R s x) → Some R (after R s x)
-  unfolding fits after final possible shapeOf lengthFits
+  unfolding fits after final possible whole
   lives Kind x f o l k =
       let d = filler 3 (inr (omega arith)) in
       let e = least-body d in
@@ -343,14 +343,14 @@ module _ (R : Rules) (S : SoundRules R) where
   lives Size x f o l k = filler x (inr (le-of _ _ k))
   lives (Header r) x f o l k = go (has-possible _ r k)
     where
-      go : Fitting (lengths (R .shape (classOf R x))) r → Some R (Length (classOf R x) r)
+      go : Fitting (whole (classOf R x) .lengths) r → Some R (Length (classOf R x) r)
       go n = let e = fits-room (n .0) r (n .2) in put (classOf R x) (n .0) _ r (e .0) (n .1) (filler _ (e .1))
   lives (Length c r) x f o l k =
-      let v = begin (R .shape c) (S .classes c) x x in
+      let v = begin (lawful c) x x in
       let d = filler (r - (x + 2)) (fits-room x r (both _ _ k .1) .1) in
       (v .0 ++ d .0, chunk-in c x 0 0 _ _ (record { v = v .0; rest = d .0; long = omega (arith, v .1); fits = v .2; tail = d .1; is = refl }))
   lives (Content c n i m r) x f o l j =
-      let v = proceed (R .shape c) (S .classes c) n i m x (n - suc i) j in
+      let v = proceed (lawful c) n i m x (n - suc i) j in
       (v .0 ++ l .1 .1 .rest, chunk-in c n (suc i) _ r _ (record { v = v .0; rest = l .1 .1 .rest; long = omega (arith, v .1, l .1 .0); fits = v .2; tail = l .1 .1 .tail; is = refl }))
 
   -- there is a message

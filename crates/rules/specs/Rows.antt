@@ -6,12 +6,13 @@ use mathlib.Core.List.{List, [], _∷_}
 use mathlib.Core.Option.{none, some}
 use Rattle.rules.specs.Tests.{_≤?_, _=?_, _and_, _or_, pick}
 use Rattle.rules.specs.Octets.{total, checksum}
-use Rattle.rules.specs.Contents.{within, inSet, lengths, lengthFits, digit}
-use Rattle.rules.specs.Table.{Rules, rowIn, rowOf, listedIn, listed, classOf, shapeOf, rivalOf, typeFault, shape01, shapeNarrow, document01, narrow}
+use Rattle.rules.specs.Contents.{within, inSet, digit, someLength}
+use Rattle.rules.specs.Table.{Rules, rowIn, rowOf, listedIn, listed, classOf, rivalOf, typeFault, classFault, rulesOf, whole}
+use Rattle.rules.specs.declared.Book.the-variants.{PresentStrict, PresentLenient, OldStrict, OldLenient}
 use Rattle.rules.specs.Message as message
 use Rattle.rules.specs.Message.{Parameter, body, octets, messageKind}
 use Rattle.rules.specs.Counting.{firstOf, counted, carriedIn}
-use Rattle.rules.specs.ContentJudge.{opens, tensFit, onesFit, pairAt, columnAt, okAt, remember}
+use Rattle.rules.specs.ContentJudge.{opens, tensFit, onesFit, pairAt, columnAt, judgeOf}
 use Rattle.rules.specs.Machine.{step, run, answer}
 use Rattle.rules.specs.Judge.{roomFits, rangePossible, somePossible, possible, final, fits, contents, after, fault, machine}
 use Rattle.rules.specs.declared.State.{State}
@@ -68,13 +69,36 @@ listenerRows =
     (0x80 ∷ 0x11 ∷ 0x01 ∷ 0x08 ∷ 0x30 ∷ 0x36 ∷ 0x31 ∷ 0x35 ∷ 0x31 ∷ 0x34 ∷ 0x33 ∷ 0x30 ∷ 0x02 ∷ 0x05 ∷ 0x34 ∷ 0x30 ∷ 0x39 ∷ 0x31 ∷ 0x32 ∷ 0xCB ∷ [], size 20) ∷
     []
 
--- where the narrow rules say something else: an unlisted type, 19 digits, a sign that is no digit
-abbrev pub narrowRows : List Row
-narrowRows =
+-- where the other books say something else. In the strict way: a type without a row, whatever its room.
+abbrev pub strictRows : List Row
+strictRows =
     (0x80 ∷ 0x03 ∷ 0x05 ∷ [], refused 10 at 2) ∷
+    (0x80 ∷ 0x04 ∷ 0x05 ∷ [], refused 10 at 2) ∷
+    (0x80 ∷ 0x04 ∷ 0x04 ∷ [], refused 3 at 2) ∷
+    (0x82 ∷ 0x06 ∷ 0x13 ∷ 0x01 ∷ 0x02 ∷ 0x05 ∷ [], refused 10 at 5) ∷
+    (0x82 ∷ 0x03 ∷ 0x13 ∷ 0x01 ∷ 0x02 ∷ 0x65 ∷ [], size 6) ∷
+    []
+
+-- In the old edition: 19 digits, a sign that is no digit, a name of 21, a forwarding, a calling user; 08H of five octets is carried.
+abbrev pub oldRows : List Row
+oldRows =
     (0x80 ∷ 0x14 ∷ 0x02 ∷ 0x12 ∷ [], waits) ∷
     (0x80 ∷ 0x15 ∷ 0x02 ∷ 0x13 ∷ [], refused 4 at 3) ∷
     (0x80 ∷ 0x03 ∷ 0x02 ∷ 0x01 ∷ 0x23 ∷ [], refused 5 at 4) ∷
+    (0x80 ∷ 0x16 ∷ 0x07 ∷ 0x14 ∷ [], waits) ∷
+    (0x80 ∷ 0x17 ∷ 0x07 ∷ 0x15 ∷ [], refused 4 at 3) ∷
+    (0x80 ∷ 0x03 ∷ 0x15 ∷ 0x01 ∷ 0x80 ∷ [], refused 5 at 4) ∷
+    (0x80 ∷ 0x03 ∷ 0x16 ∷ 0x01 ∷ 0x01 ∷ [], refused 5 at 4) ∷
+    (0x80 ∷ 0x03 ∷ 0x16 ∷ 0x01 ∷ 0x0F ∷ [], waits) ∷
+    (0x80 ∷ 0x07 ∷ 0x08 ∷ 0x05 ∷ [], waits) ∷
+    []
+
+-- And both: 03H has no row.
+abbrev pub oldStrictRows : List Row
+oldStrictRows =
+    (0x80 ∷ 0x03 ∷ 0x02 ∷ [], waits) ∷
+    (0x80 ∷ 0x03 ∷ 0x03 ∷ [], refused 10 at 2) ∷
+    (0x80 ∷ 0x15 ∷ 0x02 ∷ 0x13 ∷ [], refused 4 at 3) ∷
     []
 
 abbrev call : List Parameter → message.Message
@@ -86,28 +110,35 @@ notice ps = record { kind = 0x82; parameters = ps }
 abbrev parameter : ℕ → List ℕ → Parameter
 parameter t v = record { kind = t; contents = v }
 
--- what counts: the first waiting number; the caller's absence and no caller; of 02H 04H 02H the first 02H; carried ones are numbered and never count
+-- what counts: the first waiting number; the caller's absence and no caller; of 02H 04H 02H the first 02H; carried ones are numbered and never count;
+-- in the old edition 08H shuts out no name, and 13H does not count
 pub record Claim : Type 0 where
-  pub heard : answers document01 listenerRows ≡ expected listenerRows
-  pub narrower : answers narrow narrowRows ≡ expected narrowRows
+  pub heard : answers (rulesOf PresentLenient) listenerRows ≡ expected listenerRows
+  pub strict : answers (rulesOf PresentStrict) strictRows ≡ expected strictRows
+  pub old : answers (rulesOf OldLenient) oldRows ≡ expected oldRows
+  pub old-strict : answers (rulesOf OldStrict) oldStrictRows ≡ expected oldStrictRows
   pub lamp-octets : octets (notice (parameter 0x0B (0xFF ∷ []) ∷ [])) ≡ 0x82 ∷ 0x03 ∷ 0x0B ∷ 0x01 ∷ 0xFF ∷ 0x70 ∷ []
-  pub lamp-on : counted document01 (notice (parameter 0x0B (0xFF ∷ []) ∷ [])) 0x0B ≡ some (0xFF ∷ [])
+  pub lamp-on : counted (rulesOf PresentLenient) (notice (parameter 0x0B (0xFF ∷ []) ∷ [])) 0x0B ≡ some (0xFF ∷ [])
   pub waiting-octets : octets (notice (parameter 0x13 (2 ∷ []) ∷ parameter 0x13 (5 ∷ []) ∷ [])) ≡ 0x82 ∷ 0x06 ∷ 0x13 ∷ 0x01 ∷ 0x02 ∷ 0x13 ∷ 0x01 ∷ 0x05 ∷ 0x49 ∷ []
-  pub waiting-two : counted document01 (notice (parameter 0x13 (2 ∷ []) ∷ parameter 0x13 (5 ∷ []) ∷ [])) 0x13 ≡ some (2 ∷ [])
+  pub waiting-two : counted (rulesOf PresentLenient) (notice (parameter 0x13 (2 ∷ []) ∷ parameter 0x13 (5 ∷ []) ∷ [])) 0x13 ≡ some (2 ∷ [])
   pub absent-octets : octets (call (parameter 0x04 (0x50 ∷ []) ∷ parameter 0x02 (0x37 ∷ []) ∷ [])) ≡ 0x80 ∷ 0x06 ∷ 0x04 ∷ 0x01 ∷ 0x50 ∷ 0x02 ∷ 0x01 ∷ 0x37 ∷ 0xEB ∷ []
-  pub absent-counts : counted document01 (call (parameter 0x04 (0x50 ∷ []) ∷ parameter 0x02 (0x37 ∷ []) ∷ [])) 0x04 ≡ some (0x50 ∷ [])
-  pub no-caller : counted document01 (call (parameter 0x04 (0x50 ∷ []) ∷ parameter 0x02 (0x37 ∷ []) ∷ [])) 0x02 ≡ none
-  pub first-caller : counted document01 (call (parameter 0x02 (0x31 ∷ []) ∷ parameter 0x04 (0x50 ∷ []) ∷ parameter 0x02 (0x37 ∷ []) ∷ [])) 0x02 ≡ some (0x31 ∷ [])
-  pub no-absence : counted document01 (call (parameter 0x02 (0x31 ∷ []) ∷ parameter 0x04 (0x50 ∷ []) ∷ parameter 0x02 (0x37 ∷ []) ∷ [])) 0x04 ≡ none
-  pub name-shut-out : counted document01 (call (parameter 0x08 (0x4F ∷ []) ∷ parameter 0x07 (0x41 ∷ []) ∷ [])) 0x07 ≡ none
-  pub carried-twice : carriedIn document01 (parameter 0x05 (1 ∷ []) ∷ parameter 0x13 (5 ∷ []) ∷ parameter 0x05 (2 ∷ []) ∷ []) ≡ 2
-  pub carried-never : counted document01 (call (parameter 0x05 (1 ∷ []) ∷ [])) 0x05 ≡ none
+  pub absent-counts : counted (rulesOf PresentLenient) (call (parameter 0x04 (0x50 ∷ []) ∷ parameter 0x02 (0x37 ∷ []) ∷ [])) 0x04 ≡ some (0x50 ∷ [])
+  pub no-caller : counted (rulesOf PresentLenient) (call (parameter 0x04 (0x50 ∷ []) ∷ parameter 0x02 (0x37 ∷ []) ∷ [])) 0x02 ≡ none
+  pub first-caller : counted (rulesOf PresentLenient) (call (parameter 0x02 (0x31 ∷ []) ∷ parameter 0x04 (0x50 ∷ []) ∷ parameter 0x02 (0x37 ∷ []) ∷ [])) 0x02 ≡ some (0x31 ∷ [])
+  pub no-absence : counted (rulesOf PresentLenient) (call (parameter 0x02 (0x31 ∷ []) ∷ parameter 0x04 (0x50 ∷ []) ∷ parameter 0x02 (0x37 ∷ []) ∷ [])) 0x04 ≡ none
+  pub name-shut-out : counted (rulesOf PresentLenient) (call (parameter 0x08 (0x4F ∷ []) ∷ parameter 0x07 (0x41 ∷ []) ∷ [])) 0x07 ≡ none
+  pub carried-twice : carriedIn (rulesOf PresentLenient) (parameter 0x05 (1 ∷ []) ∷ parameter 0x13 (5 ∷ []) ∷ parameter 0x05 (2 ∷ []) ∷ []) ≡ 2
+  pub old-name : counted (rulesOf OldLenient) (call (parameter 0x08 (0x4F ∷ []) ∷ parameter 0x07 (0x41 ∷ []) ∷ [])) 0x07 ≡ some (0x41 ∷ [])
+  pub old-waiting : counted (rulesOf OldLenient) (notice (parameter 0x13 (2 ∷ []) ∷ [])) 0x13 ≡ none
+  pub carried-never : counted (rulesOf PresentLenient) (call (parameter 0x05 (1 ∷ []) ∷ [])) 0x05 ≡ none
 
 pub rows : Claim
-unfolding _≤?_ _=?_ _and_ _or_ pick total checksum within inSet lengths lengthFits digit rowIn rowOf listedIn listed classOf shapeOf rivalOf typeFault shape01 shapeNarrow document01 narrow body octets messageKind firstOf counted carriedIn opens tensFit onesFit pairAt columnAt okAt remember step run roomFits rangePossible somePossible possible final fits contents after fault machine said answers expected
+unfolding _≤?_ _=?_ _and_ _or_ pick total checksum within inSet whole digit rowIn rowOf listedIn listed classOf rivalOf typeFault classFault someLength rulesOf body octets messageKind firstOf counted carriedIn opens tensFit onesFit pairAt columnAt judgeOf step run roomFits rangePossible somePossible possible final fits contents after fault machine said answers expected
 rows = record {
   heard = refl;
-  narrower = refl;
+  strict = refl;
+  old = refl;
+  old-strict = refl;
   lamp-octets = refl;
   lamp-on = refl;
   waiting-octets = refl;
@@ -119,5 +150,7 @@ rows = record {
   no-absence = refl;
   name-shut-out = refl;
   carried-twice = refl;
+  old-name = refl;
+  old-waiting = refl;
   carried-never = refl;
 }

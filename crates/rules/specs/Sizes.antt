@@ -6,9 +6,9 @@ use mathlib.Core.List.{List, [], _∷_}
 use native.Mathlib.Omega.{arith}
 use lib.ListN.{length, length-append}
 use Rattle.rules.specs.Octets.{total, checksum}
-use Rattle.rules.specs.Table.{Rules, shapeOf}
+use Rattle.rules.specs.Table.{Rules, classOf}
 use Rattle.rules.specs.Message.{Parameter, Message, body, front, octets, AllLegal, LegalMessage, most}
-use Rattle.rules.specs.ContentLaw.{SoundRules, sound-shape, fit-length, some-length}
+use Rattle.rules.specs.ContentLaw.{lawful, SoundRules}
 
 -- L + 3 octets in all
 pub octets-length : (m : Message) → length (octets m) ≡ length (body (m .parameters)) + 3
@@ -26,7 +26,7 @@ module _ (R : Rules) (S : SoundRules R) where
   unfolding body
   three-each [] l = omega arith
   three-each (p ∷ ps) l =
-      let n = some-length (shapeOf R (p .kind)) (sound-shape R S (p .kind)) _ (fit-length (shapeOf R (p .kind)) (p .contents) (l .0 .fits)) in
+      let n = lawful (classOf R (p .kind)) .least _ (lawful (classOf R (p .kind)) .fit-length (p .contents) (l .0 .fits)) in
       omega (arith, three-each ps (l .1), length-append (p .contents) (body ps))
 
   -- so 85 fill a message

@@ -5,9 +5,8 @@ use mathlib.Core.Bool.{Bool, true, false}
 use Prim.Native.Nat.{ℕ, _+_, _%_, _≤_, _<_}
 use native.Mathlib.Omega.{arith}
 use lib.Dec.{T}
-use Rattle.rules.specs.Tests.{pick-case}
 use Rattle.rules.specs.Octets.{checksum}
-use Rattle.rules.specs.Table.{Rules, listed, classOf, shapeOf, typeFault, shape01, document01}
+use Rattle.rules.specs.Table.{Rules, classOf, typeFault, classFault}
 use Rattle.rules.specs.Machine.{moved, declined, step}
 use Rattle.rules.specs.Judge.{final, fits, after, fault, machine, roomFits, possible}
 use Rattle.rules.specs.Remaining.{fits-room}
@@ -45,21 +44,16 @@ module _ (R : Rules) (q : Spot) (x c : ℕ) (e : (c + q .sum) % 256 ≡ 0) (l : 
 pub room-left : (n r : ℕ) → T (roomFits n r) → n + 2 ≤ r
 room-left n r t = omega (arith, fits-room n r t .0)
 
--- document 01 has one number for every type that cannot stand in its room
-pub three : (x : ℕ) → typeFault document01 x ≡ 3
-unfolding typeFault document01
-three x = pick-case (λ (k : ℕ). k ≡ 3) (listed document01 x) 3 3 (λ _. refl) (λ _. refl)
-
 -- a parameter type, whose class c the code has looked up
-module _ (r : ℕ) (q : Spot) (x : ℕ) (c : Class) (some : r ≡ 0 → ⊥) (e : c ≡ classOf document01 x) where
-  stands : (b : Bool) → possible (shape01 c) r ≡ b → fits document01 (Header r) x ≡ b
-  unfolding fits shapeOf document01
-  stands b k = ap (λ (d : Class). possible (shape01 d) r) (sym e) ∙ k
+module _ (R : Rules) (r : ℕ) (q : Spot) (x : ℕ) (c : Class) (some : r ≡ 0 → ⊥) (e : c ≡ classOf R x) where
+  stands : (b : Bool) → possible c r ≡ b → fits R (Header r) x ≡ b
+  unfolding fits
+  stands b k = ap (λ (d : Class). possible d r) (sym e) ∙ k
 
-  pub type-taken : (p : Spot) → possible (shape01 c) r ≡ true → p ≡ moved (machine document01) (Header r) q x → Waiting (Length c r) p ≡ step (machine document01) (Waiting (Header r) q) x
+  pub type-taken : (p : Spot) → possible c r ≡ true → p ≡ moved (machine R) (Header r) q x → Waiting (Length c r) p ≡ step (machine R) (Waiting (Header r) q) x
   unfolding final after
-  type-taken p k u = takes document01 (Header r) q x _ p (no-eq _ _ some) (stands true k) (ap (λ (d : Class). Length d r) e) u
+  type-taken p k u = takes R (Header r) q x _ p (no-eq _ _ some) (stands true k) (ap (λ (d : Class). Length d r) e) u
 
-  pub type-declined : (w : State) → possible (shape01 c) r ≡ false → w ≡ declined (machine document01) (Header r) 3 q → w ≡ step (machine document01) (Waiting (Header r) q) x
-  unfolding final fault
-  type-declined w k u = declines document01 (Header r) q x w (no-eq _ _ some) (stands false k) (rw three u)
+  pub type-declined : (w : State) (k : ℕ) → k ≡ classFault c → possible c r ≡ false → w ≡ declined (machine R) (Header r) k q → w ≡ step (machine R) (Waiting (Header r) q) x
+  unfolding final fault typeFault
+  type-declined w n f k u = declines R (Header r) q x w (no-eq _ _ some) (stands false k) (u ∙ ap (λ (j : ℕ). declined (machine R) (Header r) j q) (f ∙ ap classFault e))

@@ -1,8 +1,9 @@
--- Document 01's table (The message): for each parameter type its class of contents, the other type of its pair and its key in a listing;
+-- The tables of the present edition (document 01, The message) and of the old one (document 02, Q-5; source 001): for each parameter type its class of
+-- contents, the other type of its pair and its key in a listing;
 -- for each class its contents, its kind of value in a draft and its style in a listing. A set of rules is such a table.
 -- Assumes nothing.
 use Rattle.rules.specs.Tests.{_=?_, _or_, pick}
-use Rattle.rules.specs.Contents.{Range, Shape, pairs, columns, text}
+use Rattle.rules.specs.Contents.{Range, inSet, someLength, Whole, pairs, columns, text}
 use Prim.Native.Nat.{ℕ}
 use Prim.Native.String.{String, [] as nil, _∷_ as _then_}
 use Prim.Native.Char as char
@@ -11,7 +12,9 @@ use mathlib.Core.List.{List, [], _∷_}
 use Rattle.rules.specs.declared.Form.{Form}
 use Rattle.rules.specs.declared.Form.the-variants.{DateValue, CodeValue, StateValue, TextValue, CarriedValue}
 use Rattle.rules.specs.declared.Class.{Class}
-use Rattle.rules.specs.declared.Class.the-variants.{Date, Number, Absent, Name, Lamp, Identity, CallType, Waiting, Forwarded, User, Carried}
+use Rattle.rules.specs.declared.Class.the-variants.{Date, Number, Absent, Name, Lamp, Identity, CallType, Waiting, Forwarded, User, Carried, OldNumber, ShortText, OldForwarded, OldUser, Unlisted}
+use Rattle.rules.specs.declared.Book.{Book}
+use Rattle.rules.specs.declared.Book.the-variants.{PresentStrict, PresentLenient, OldStrict, OldLenient}
 
 -- the octets of a word of ours
 unfoldable pub ascii : String → List ℕ
@@ -25,68 +28,16 @@ pub record Row : Type 0 where
   pub rival : ℕ
   pub key : List ℕ
 
--- the types that have a row; the class of all others, and the number of their refusal; what the contents of a class are
+-- the types that have a row; the class of all others
 pub record Rules : Type 0 where
   pub rows : List Row
   pub others : Class
-  pub unlisted : ℕ
-  pub shape : Class → Shape
-
--- the row of a type, or the one given
-unfoldable pub rowIn : Row → List Row → ℕ → Row
-rowIn d [] t = d
-rowIn d (r ∷ rs) t = pick (t =? r .kind) r (rowIn d rs t)
-
-unfoldable pub rowOf : Rules → ℕ → Row
-rowOf R t = rowIn (record { kind = t; class = R .others; rival = t; key = [] }) (R .rows) t
-
-unfoldable pub listedIn : List Row → ℕ → Bool
-listedIn [] t = false
-listedIn (r ∷ rs) t = t =? r .kind or listedIn rs t
-
--- a type has a row; one that has none is carried
-unfoldable pub listed : Rules → ℕ → Bool
-listed R t = listedIn (R .rows) t
-
-unfoldable pub classOf : Rules → ℕ → Class
-classOf R t = rowOf R t .class
-
-unfoldable pub shapeOf : Rules → ℕ → Shape
-shapeOf R t = R .shape (classOf R t)
-
-unfoldable pub rivalOf : Rules → ℕ → ℕ
-rivalOf R t = rowOf R t .rival
-
--- the number given to a type that cannot stand in its room
-unfoldable pub typeFault : Rules → ℕ → ℕ
-typeFault R t = pick (listed R t) 3 (R .unlisted)
-
--- ---- document 01's rows, in the order of a listing
-abbrev pub row : ℕ → Class → String → Row
-row t c k = record { kind = t; class = c; rival = t; key = ascii k }
-
-abbrev pub half : ℕ → Class → ℕ → String → Row
-half t c u k = record { kind = t; class = c; rival = u; key = ascii k }
-
-abbrev pub rows01 : List Row
-rows01 =
-    row 0x01 Date "time" ∷
-    half 0x02 Number 0x04 "caller" ∷
-    row 0x03 Number "called" ∷
-    half 0x04 Absent 0x02 "caller-absent" ∷
-    half 0x07 Name 0x08 "name" ∷
-    half 0x08 Absent 0x07 "name-absent" ∷
-    row 0x0B Lamp "lamp" ∷
-    row 0x0D Identity "message" ∷
-    row 0x0E Number "depositor" ∷
-    row 0x11 CallType "call-type" ∷
-    row 0x12 Number "first-called" ∷
-    row 0x13 Waiting "waiting" ∷
-    row 0x15 Forwarded "forwarded" ∷
-    row 0x16 User "user" ∷
-    []
 
 -- ---- the contents of each class
+-- month, day, hour, minute
+abbrev pub dateRanges : List Range
+dateRanges = (1, 12) ∷ (1, 31) ∷ (0, 23) ∷ (0, 59) ∷ []
+
 abbrev pub anyOctet : List Range
 anyOctet = (0, 255) ∷ []
 
@@ -118,18 +69,95 @@ forwardedSet = (0x00, 0x06) ∷ (0x80, 0xFF) ∷ []
 abbrev pub userSet : List Range
 userSet = (0x00, 0x0F) ∷ []
 
-unfoldable pub shape01 : Class → Shape
-shape01 Date = pairs ((1, 12) ∷ (1, 31) ∷ (0, 23) ∷ (0, 59) ∷ [])
-shape01 Number = text ((1, 20) ∷ []) numberSet
-shape01 Absent = columns (absentSet ∷ [])
-shape01 Name = text ((1, 50) ∷ []) nameSet
-shape01 Lamp = columns (lampSet ∷ [])
-shape01 Identity = columns (identitySet ∷ anyOctet ∷ anyOctet ∷ [])
-shape01 CallType = columns (callTypeSet ∷ [])
-shape01 Waiting = columns (anyOctet ∷ [])
-shape01 Forwarded = columns (forwardedSet ∷ [])
-shape01 User = columns (userSet ∷ [])
-shape01 Carried = text ((1, 253) ∷ []) anyOctet
+-- the nine values of source 001
+abbrev pub oldUserSet : List Range
+oldUserSet = (0x00, 0x00) ∷ (0x03, 0x05) ∷ (0x0A, 0x0D) ∷ (0x0F, 0x0F) ∷ []
+
+abbrev pub oldNumberSet : List Range
+oldNumberSet = (0x30, 0x39) ∷ []
+
+abbrev pub oldForwardedSet : List Range
+oldForwardedSet = (0x00, 0x06) ∷ []
+
+-- a class means the same in every set of rules
+unfoldable pub whole : Class → Whole
+whole Date = pairs dateRanges
+whole Number = text ((1, 20) ∷ []) numberSet
+whole Absent = columns (absentSet ∷ [])
+whole Name = text ((1, 50) ∷ []) nameSet
+whole Lamp = columns (lampSet ∷ [])
+whole Identity = columns (identitySet ∷ anyOctet ∷ anyOctet ∷ [])
+whole CallType = columns (callTypeSet ∷ [])
+whole Waiting = columns (anyOctet ∷ [])
+whole Forwarded = columns (forwardedSet ∷ [])
+whole User = columns (userSet ∷ [])
+whole Carried = text ((1, 253) ∷ []) anyOctet
+whole OldNumber = text ((1, 18) ∷ []) oldNumberSet
+whole ShortText = text ((1, 20) ∷ []) nameSet
+whole OldForwarded = columns (oldForwardedSet ∷ [])
+whole OldUser = columns (oldUserSet ∷ [])
+whole Unlisted = text ((1, 0) ∷ []) anyOctet
+
+-- contents of a length that the class has
+abbrev pub lengthFits : Class → ℕ → Bool
+lengthFits c n = inSet (whole c .lengths) n
+
+abbrev pub contentsFit : Class → List ℕ → Bool
+contentsFit c v = whole c .fits v
+
+-- the row of a type, or the one given
+unfoldable pub rowIn : Row → List Row → ℕ → Row
+rowIn d [] t = d
+rowIn d (r ∷ rs) t = pick (t =? r .kind) r (rowIn d rs t)
+
+unfoldable pub rowOf : Rules → ℕ → Row
+rowOf R t = rowIn (record { kind = t; class = R .others; rival = t; key = [] }) (R .rows) t
+
+unfoldable pub listedIn : List Row → ℕ → Bool
+listedIn [] t = false
+listedIn (r ∷ rs) t = t =? r .kind or listedIn rs t
+
+-- a type has a row; one that has none is carried, or refused
+unfoldable pub listed : Rules → ℕ → Bool
+listed R t = listedIn (R .rows) t
+
+unfoldable pub classOf : Rules → ℕ → Class
+classOf R t = rowOf R t .class
+
+unfoldable pub rivalOf : Rules → ℕ → ℕ
+rivalOf R t = rowOf R t .rival
+
+-- the number given to a type that cannot stand in its room: 3, and 10 where its class has no length at all (document 02, Q-11)
+unfoldable pub classFault : Class → ℕ
+classFault c = pick (someLength (whole c .lengths)) 3 10
+
+unfoldable pub typeFault : Rules → ℕ → ℕ
+typeFault R t = classFault (classOf R t)
+
+-- ---- document 01's rows, in the order of a listing
+abbrev pub row : ℕ → Class → String → Row
+row t c k = record { kind = t; class = c; rival = t; key = ascii k }
+
+abbrev pub half : ℕ → Class → ℕ → String → Row
+half t c u k = record { kind = t; class = c; rival = u; key = ascii k }
+
+abbrev pub rows01 : List Row
+rows01 =
+    row 0x01 Date "time" ∷
+    half 0x02 Number 0x04 "caller" ∷
+    row 0x03 Number "called" ∷
+    half 0x04 Absent 0x02 "caller-absent" ∷
+    half 0x07 Name 0x08 "name" ∷
+    half 0x08 Absent 0x07 "name-absent" ∷
+    row 0x0B Lamp "lamp" ∷
+    row 0x0D Identity "message" ∷
+    row 0x0E Number "depositor" ∷
+    row 0x11 CallType "call-type" ∷
+    row 0x12 Number "first-called" ∷
+    row 0x13 Waiting "waiting" ∷
+    row 0x15 Forwarded "forwarded" ∷
+    row 0x16 User "user" ∷
+    []
 
 -- ---- what a draft holds of a class (Drafts): the numbers of a date, a code, a state with a reference, a text, a carried text
 unfoldable pub formOf : Class → Form
@@ -144,6 +172,11 @@ formOf Waiting = CodeValue
 formOf Forwarded = CodeValue
 formOf User = CodeValue
 formOf Carried = CarriedValue
+formOf OldNumber = TextValue
+formOf ShortText = TextValue
+formOf OldForwarded = CodeValue
+formOf OldUser = CodeValue
+formOf Unlisted = CarriedValue
 
 -- ---- how a listing prints a class (What showmsg prints): MM-DD HH:MM; the octets as they are; off or on; a state and its reference; a number in decimal;
 -- two hex digits; not at all, but numbered
@@ -168,24 +201,28 @@ styleOf Waiting = decimal
 styleOf Forwarded = hex
 styleOf User = hex
 styleOf Carried = numbered
+styleOf OldNumber = verbatim
+styleOf ShortText = verbatim
+styleOf OldForwarded = hex
+styleOf OldUser = hex
+styleOf Unlisted = numbered
 
--- ---- the sets of rules
-unfoldable pub document01 : Rules
-document01 = record { rows = rows01; others = Carried; unlisted = 3; shape = shape01 }
+-- ---- the old edition's rows: the eight types of source 001, and the one pair (document 02, Q-5)
+abbrev pub rowsOld : List Row
+rowsOld =
+    row 0x01 Date "time" ∷
+    half 0x02 OldNumber 0x04 "caller" ∷
+    half 0x04 Absent 0x02 "caller-absent" ∷
+    row 0x07 ShortText "name" ∷
+    row 0x0B Lamp "lamp" ∷
+    row 0x12 OldNumber "first-called" ∷
+    row 0x15 OldForwarded "forwarded" ∷
+    row 0x16 OldUser "user" ∷
+    []
 
--- a second, so that what is said of any rules is said of more than one: unlisted types are refused by a number of their own, numbers have 1 to 18 digits
-unfoldable pub shapeNarrow : Class → Shape
-shapeNarrow Date = shape01 Date
-shapeNarrow Number = text ((1, 18) ∷ []) ((0x30, 0x39) ∷ [])
-shapeNarrow Absent = shape01 Absent
-shapeNarrow Name = shape01 Name
-shapeNarrow Lamp = shape01 Lamp
-shapeNarrow Identity = shape01 Identity
-shapeNarrow CallType = shape01 CallType
-shapeNarrow Waiting = shape01 Waiting
-shapeNarrow Forwarded = shape01 Forwarded
-shapeNarrow User = shape01 User
-shapeNarrow Carried = text [] anyOctet
-
-unfoldable pub narrow : Rules
-narrow = record { rows = rows01; others = Carried; unlisted = 10; shape = shapeNarrow }
+-- ---- the sets of rules: all other types are carried, or in the strict way refused (document 02, Q-11)
+unfoldable pub rulesOf : Book → Rules
+rulesOf PresentStrict = record { rows = rows01; others = Unlisted }
+rulesOf PresentLenient = record { rows = rows01; others = Carried }
+rulesOf OldStrict = record { rows = rowsOld; others = Unlisted }
+rulesOf OldLenient = record { rows = rowsOld; others = Carried }

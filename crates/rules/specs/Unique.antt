@@ -7,16 +7,17 @@ use native.Mathlib.Omega.{arith}
 use lib.ListN.{length, length-append}
 use lib.Seq.{take-length}
 use Rattle.rules.specs.Octets.{Octets, total, checksum, checksum-closes, total-append}
-use Rattle.rules.specs.Table.{Rules, document01, narrow}
-use Rattle.rules.specs.ContentLaw.{SoundRules, document01-sound, narrow-sound}
+use Rattle.rules.specs.Table.{Rules, rulesOf}
+use Rattle.rules.specs.ContentLaw.{SoundRules, sound-rules}
 use Rattle.rules.specs.Message as message
+use Rattle.rules.specs.declared.Book.{Book}
 use Rattle.rules.specs.Message.{Parameter, body, front, octets, Accepts}
 use Rattle.rules.specs.Machine.{run, start, answer}
 use Rattle.rules.specs.Judge.{machine}
 use Rattle.rules.specs.Remaining.{empty}
 use Rattle.rules.specs.Listening.{accepted-octets, message-stays, run-append}
-use Rattle.rules.specs.Calls.{grammar, accepts-iff}
-use Rattle.rules.specs.Demand3.{demand3, accepted-size}
+use Rattle.rules.specs.Calls.{spoken, accepted-size}
+use Rattle.rules.specs.Demand3.{demand3}
 use Rattle.rules.specs.declared.State.{State}
 use Rattle.rules.specs.declared.State.the-variants.{Message}
 
@@ -65,11 +66,11 @@ sums m = omega (arith, total-append (front m) (checksum (total (front m)) ∷ []
 
 module _ (R : Rules) (S : SoundRules R) where
   accepts-octets : (o : List ℕ) → Accepts R o → Octets o
-  accepts-octets o d = accepted-octets (machine R) (grammar R S) o (accepts-iff R S o .1 d)
+  accepts-octets o d = accepted-octets (machine R) (spoken R S .grammar) o (spoken R S .words o d)
 
   -- an accepted message is done at its end
   pub accepted-done : (o : List ℕ) → Accepts R o → answer (machine R) o ≡ Message (length o)
-  accepted-done o d = demand3 R S .has-message o (accepts-octets o d) (length o) .1 (omega arith, rw take-length d)
+  accepted-done o d = demand3 (spoken R S) .has-message o (accepts-octets o d) (length o) .1 (omega arith, rw take-length d)
 
   no-prefix : (o e : List ℕ) → Accepts R o → Accepts R (o ++ e) → e ≡ []
   no-prefix o e d u =
@@ -80,8 +81,5 @@ module _ (R : Rules) (S : SoundRules R) where
   pub told-of : Told R
   told-of = record { message = told; whole = no-prefix; sum = λ o d. ap (λ (l : List ℕ). total l % 256) (sym (d .2)) ∙ sums (d .0); octets = accepts-octets; size = accepted-size R }
 
-pub document01-told : Told document01
-document01-told = told-of document01 document01-sound
-
-pub narrow-told : Told narrow
-narrow-told = told-of narrow narrow-sound
+pub told-in : (b : Book) → Told (rulesOf b)
+told-in b = told-of (rulesOf b) (sound-rules b)

@@ -2,26 +2,35 @@
 // they fit, and the octets of contents (document 01, The message); and whether two texts are the same. Every function is total.
 ghost use mathlib.Core.Path.{_≡_};
 ghost use mathlib.Core.Bool.{true};
-ghost use mathlib.Core.List.{[], _∷_};
 ghost use Prim.Native.Nat.{_-_};
-ghost use Rattle.rules.specs.Tests.{_=?_, pick};
+ghost use Rattle.rules.specs.Tests.{_=?_, _and_, pick};
 ghost use Rattle.rules.specs.Pairwise.{sameOctets};
-ghost use Rattle.rules.specs.Contents.{within, inSet, lengths, lengthFits};
-ghost use Rattle.rules.specs.Table.{document01, listed, classOf, rivalOf, formOf, shape01, numberSet, nameSet, absentSet, lampSet, identitySet, callTypeSet, forwardedSet, userSet};
-ghost use Rattle.rules.specs.Codes.{classCode, classCoded};
+ghost use Rattle.rules.specs.Contents.{within, inSet};
+ghost use Rattle.rules.specs.Table.{rulesOf, listed, classOf, classFault, rivalOf, formOf, whole, lengthFits, oldUserSet, numberSet, nameSet, absentSet, lampSet, identitySet, callTypeSet, forwardedSet, userSet};
+ghost use Rattle.rules.specs.Codes.{classCode, classCoded, laterClass, strictClass, ranges};
+ghost use Rattle.rules.specs.declared.Book.the-variants as book;
 ghost use Rattle.rules.specs.ContentJudge.{tensFit, onesFit, okAt};
 ghost use Rattle.rules.specs.ContentJudge as content;
 ghost use Rattle.rules.specs.Message.{messageKind};
 ghost use Rattle.rules.specs.Judge.{roomFits, rangePossible};
 ghost use Rattle.rules.specs.Judge as judge;
+ghost use Rattle.rules.specs.Refusals as refusals;
 ghost use Rattle.rules.specs.declared.Class.the-variants as class;
-ghost use Rattle.rules.specs.declared.Stage.the-variants as stage;
 
 // A message has at most so many parameters: each takes three of its 255 octets (document 01, The message).
 pub const MOST: usize = 85;
 
-// The classes of contents.
+// The classes of the present edition, unlisted types carried, have the codes up to this one.
+pub const LAST_PRESENT: u8 = 10;
+
+// The codes of the classes that types without a row have.
+const CARRIED: u8 = 0;
+
+const UNLISTED: u8 = 15;
+
+// The classes of contents, in the order of their codes.
 pub enum Class {
+    Carried,
     Date,
     Number,
     Absent,
@@ -32,7 +41,19 @@ pub enum Class {
     Waiting,
     Forwarded,
     User,
-    Carried,
+    OldNumber,
+    ShortText,
+    OldForwarded,
+    OldUser,
+    Unlisted,
+}
+
+// The book of rules: the edition, and the way with types that have no row in it.
+pub enum Book {
+    PresentStrict,
+    PresentLenient,
+    OldStrict,
+    OldLenient,
 }
 
 // The kinds of value that a draft holds (document 01, Drafts): the numbers of a date, a code, a state with a reference, a text, a carried text.
@@ -81,6 +102,13 @@ pub enum State {
     Refused(Fault),
 }
 
+// A refusal that no parameter causes (document 01, Numbers given when the work is declined).
+pub fn noted(number: u8, place: u16) -> Fault
+    ensures { λ r. ⌜ r ≡ refusals.noted number place ⌝ }
+{
+    Fault { number, place }
+}
+
 // The code of the class of each parameter type up to 1FH; 0 is carried, as is every type above.
 const CLASSES: [u8; 32] = [
     0,
@@ -117,6 +145,42 @@ const CLASSES: [u8; 32] = [
     0,
 ];
 
+// The same in the old edition.
+const OLD_CLASSES: [u8; 32] = [
+    0,
+    1,
+    11,
+    0,
+    3,
+    0,
+    0,
+    12,
+    0,
+    0,
+    0,
+    5,
+    0,
+    0,
+    0,
+    0,
+    0,
+    0,
+    11,
+    0,
+    0,
+    13,
+    14,
+    0,
+    0,
+    0,
+    0,
+    0,
+    0,
+    0,
+    0,
+    0,
+];
+
 // The class of a code; a code of none is read as carried.
 pub fn class_coded(code: u8) -> Class
     ensures { λ r. ⌜ r ≡ classCoded code ⌝ }
@@ -142,6 +206,24 @@ pub fn class_coded(code: u8) -> Class
     } else if code == 10 {
         Class::User
     } else {
+        later_class(code)
+    }
+}
+
+fn later_class(code: u8) -> Class
+    ensures { λ r. ⌜ r ≡ laterClass code ⌝ }
+{
+    if code == 11 {
+        Class::OldNumber
+    } else if code == 12 {
+        Class::ShortText
+    } else if code == 13 {
+        Class::OldForwarded
+    } else if code == 14 {
+        Class::OldUser
+    } else if code == 15 {
+        Class::Unlisted
+    } else {
         Class::Carried
     }
 }
@@ -161,6 +243,11 @@ pub fn code_of(c: Class) -> u8
         Class::Waiting => 8,
         Class::Forwarded => 9,
         Class::User => 10,
+        Class::OldNumber => 11,
+        Class::ShortText => 12,
+        Class::OldForwarded => 13,
+        Class::OldUser => 14,
+        Class::Unlisted => 15,
     }
 }
 
@@ -179,11 +266,16 @@ pub fn form_of(c: Class) -> Form
         Class::Waiting => Form::CodeValue,
         Class::Forwarded => Form::CodeValue,
         Class::User => Form::CodeValue,
+        Class::OldNumber => Form::TextValue,
+        Class::ShortText => Form::TextValue,
+        Class::OldForwarded => Form::CodeValue,
+        Class::OldUser => Form::CodeValue,
+        Class::Unlisted => Form::CarriedValue,
     }
 }
 
-pub fn class_of(t: u8) -> Class
-    ensures { λ r. ⌜ r ≡ classOf document01 t ⌝ }
+fn present_class(t: u8) -> Class
+    ensures { λ r. ⌜ r ≡ classOf (rulesOf book.PresentLenient) t ⌝ }
 {
     if t < 32 {
         class_coded(CLASSES[t as usize])
@@ -192,16 +284,54 @@ pub fn class_of(t: u8) -> Class
     }
 }
 
-// Has the type a row of the table? One that has none is carried.
-pub fn is_listed(t: u8) -> bool
-    ensures { λ r. ⌜ r ≡ listed document01 t ⌝ }
+fn old_class(t: u8) -> Class
+    ensures { λ r. ⌜ r ≡ classOf (rulesOf book.OldLenient) t ⌝ }
 {
-    1 <= code_of(class_of(t))
+    if t < 32 {
+        class_coded(OLD_CLASSES[t as usize])
+    } else {
+        Class::Carried
+    }
 }
 
-// The other type of its pair; itself, where it is no half of one.
-pub fn rival_of(t: u8) -> u8
-    ensures { λ r. ⌜ r ≡ rivalOf document01 t ⌝ }
+// In the strict way a carried class has no contents.
+fn strictly(c: Class) -> Class
+    ensures { λ r. ⌜ r ≡ strictClass c ⌝ }
+{
+    if code_of(c) == CARRIED {
+        Class::Unlisted
+    } else {
+        c
+    }
+}
+
+pub fn class_of(b: Book, t: u8) -> Class
+    ensures { λ r. ⌜ r ≡ classOf (rulesOf b) t ⌝ }
+{
+    match b {
+        Book::PresentStrict => strictly(present_class(t)),
+        Book::PresentLenient => present_class(t),
+        Book::OldStrict => strictly(old_class(t)),
+        Book::OldLenient => old_class(t),
+    }
+}
+
+// Has the type a row of the book? One that has none is carried, or refused.
+pub fn is_listed(b: Book, t: u8) -> bool
+    ensures { λ r. ⌜ r ≡ listed (rulesOf b) t ⌝ }
+{
+    let code = code_of(class_of(b, t));
+    if code == CARRIED {
+        false
+    } else if code == UNLISTED {
+        false
+    } else {
+        true
+    }
+}
+
+fn present_rival(t: u8) -> u8
+    ensures { λ r. ⌜ r ≡ rivalOf (rulesOf book.PresentLenient) t ⌝ }
 {
     if t == 0x02 {
         0x04
@@ -216,30 +346,150 @@ pub fn rival_of(t: u8) -> u8
     }
 }
 
-// The least and the greatest length of a class.
+fn old_rival(t: u8) -> u8
+    ensures { λ r. ⌜ r ≡ rivalOf (rulesOf book.OldLenient) t ⌝ }
+{
+    if t == 0x02 {
+        0x04
+    } else if t == 0x04 {
+        0x02
+    } else {
+        t
+    }
+}
+
+// The other type of its pair; itself, where it is no half of one.
+pub fn rival_of(b: Book, t: u8) -> u8
+    ensures { λ r. ⌜ r ≡ rivalOf (rulesOf b) t ⌝ }
+{
+    match b {
+        Book::PresentStrict => present_rival(t),
+        Book::PresentLenient => present_rival(t),
+        Book::OldStrict => old_rival(t),
+        Book::OldLenient => old_rival(t),
+    }
+}
+
+// Are types without a row refused?
+pub fn is_strict(b: Book) -> bool
+    ensures { λ r. ⌜ r ≡ (classFault (rulesOf b .others) =? 10) ⌝ }
+{
+    match b {
+        Book::PresentStrict => true,
+        Book::PresentLenient => false,
+        Book::OldStrict => true,
+        Book::OldLenient => false,
+    }
+}
+
+// The lengths of a class: from the least to the most, and perhaps one other (0 where there is none).
 struct Lengths {
     least: u8,
     most: u8,
+    other: u8,
 }
 
 fn lengths_of(c: Class) -> Lengths
-    ensures { λ r. ⌜ lengths (shape01 c) ≡ (r .least, r .most) ∷ [] ⌝ }
+    ensures { λ r. ⌜ whole c .lengths ≡ ranges (r .least) (r .most) (r .other) ⌝ }
 {
     match c {
-        Class::Date => Lengths { least: 8, most: 8 },
-        Class::Number => Lengths { least: 1, most: 20 },
-        Class::Absent => Lengths { least: 1, most: 1 },
-        Class::Name => Lengths { least: 1, most: 50 },
-        Class::Lamp => Lengths { least: 1, most: 1 },
-        Class::Identity => Lengths { least: 3, most: 3 },
-        Class::CallType => Lengths { least: 1, most: 1 },
-        Class::Waiting => Lengths { least: 1, most: 1 },
-        Class::Forwarded => Lengths { least: 1, most: 1 },
-        Class::User => Lengths { least: 1, most: 1 },
+        Class::Date => Lengths {
+            least: 8,
+            most: 8,
+            other: 0,
+        },
+        Class::Number => Lengths {
+            least: 1,
+            most: 20,
+            other: 0,
+        },
+        Class::Absent => Lengths {
+            least: 1,
+            most: 1,
+            other: 0,
+        },
+        Class::Name => Lengths {
+            least: 1,
+            most: 50,
+            other: 0,
+        },
+        Class::Lamp => Lengths {
+            least: 1,
+            most: 1,
+            other: 0,
+        },
+        Class::Identity => Lengths {
+            least: 3,
+            most: 3,
+            other: 0,
+        },
+        Class::CallType => Lengths {
+            least: 1,
+            most: 1,
+            other: 0,
+        },
+        Class::Waiting => Lengths {
+            least: 1,
+            most: 1,
+            other: 0,
+        },
+        Class::Forwarded => Lengths {
+            least: 1,
+            most: 1,
+            other: 0,
+        },
+        Class::User => Lengths {
+            least: 1,
+            most: 1,
+            other: 0,
+        },
+        Class::OldNumber => Lengths {
+            least: 1,
+            most: 18,
+            other: 0,
+        },
+        Class::ShortText => Lengths {
+            least: 1,
+            most: 20,
+            other: 0,
+        },
+        Class::OldForwarded => Lengths {
+            least: 1,
+            most: 1,
+            other: 0,
+        },
+        Class::OldUser => Lengths {
+            least: 1,
+            most: 1,
+            other: 0,
+        },
+        Class::Unlisted => Lengths {
+            least: 1,
+            most: 0,
+            other: 0,
+        },
         Class::Carried => Lengths {
             least: 1,
             most: 253,
+            other: 0,
         },
+    }
+}
+
+// The number given to a type of this class where it cannot stand in its room: 10 where the class has no length at all.
+pub fn class_fault(c: Class) -> u8
+    ensures { λ r. ⌜ r ≡ classFault c ⌝ }
+{
+    let l = lengths_of(c);
+    let least = l.least;
+    let most = l.most;
+    let other = l.other;
+    if least <= most {
+        3
+    } else if other == 0 {
+        10
+    } else {
+        3
     }
 }
 
@@ -251,10 +501,17 @@ fn among(lo: u8, hi: u8, x: u8) -> bool
 
 // May contents of the class have this length?
 fn length_ok(c: Class, n: u8) -> bool
-    ensures { λ r. ⌜ r ≡ lengthFits (shape01 c) n ⌝ }
+    ensures { λ r. ⌜ r ≡ lengthFits c n ⌝ }
 {
     let l = lengths_of(c);
-    among(l.least, l.most, n)
+    let other = l.other;
+    if among(l.least, l.most, n) {
+        true
+    } else if other == 0 {
+        false
+    } else {
+        n == other
+    }
 }
 
 // 0 or at least 3 octets are left after a parameter of this length.
@@ -272,7 +529,7 @@ fn room_ok(n: u8, room: u8) -> bool
 
 // May a parameter of the class have this length in its room?
 pub fn length_fits(c: Class, room: u8, n: u8) -> bool
-    ensures { λ r. ⌜ r ≡ judge.fits document01 (stage.Length c room) n ⌝ }
+    ensures { λ r. ⌜ r ≡ (lengthFits c n and roomFits n room) ⌝ }
 {
     if length_ok(c, n) {
         room_ok(n, room)
@@ -302,10 +559,17 @@ fn room_for(lo: u8, hi: u8, room: u8) -> bool
 
 // Does one of the lengths of the class fit the room?
 pub fn possible(c: Class, room: u8) -> bool
-    ensures { λ r. ⌜ r ≡ judge.possible (shape01 c) room ⌝ }
+    ensures { λ r. ⌜ r ≡ judge.possible c room ⌝ }
 {
     let l = lengths_of(c);
-    room_for(l.least, l.most, room)
+    let other = l.other;
+    if room_for(l.least, l.most, room) {
+        true
+    } else if other == 0 {
+        false
+    } else {
+        room_for(other, other, room)
+    }
 }
 
 // A call message or a notice.
@@ -354,7 +618,7 @@ fn pair_ok(lo: u8, hi: u8, i: u8, m: u8, x: u8) -> bool
 
 // Two digits each for the month, the day, the hour and the minute.
 fn date_ok(n: u8, i: u8, m: u8, x: u8) -> bool
-    ensures { λ r. ⌜ r ≡ okAt (shape01 class.Date) n i m x ⌝ }
+    ensures { λ r. ⌜ r ≡ okAt class.Date n i m x ⌝ }
 {
     if i < 2 {
         pair_ok(1, 12, i, m, x)
@@ -451,6 +715,20 @@ fn user_ok(x: u8) -> bool
     among(0x00, 0x0F, x)
 }
 
+fn old_user_ok(x: u8) -> bool
+    ensures { λ r. ⌜ r ≡ inSet oldUserSet x ⌝ }
+{
+    if among(0x00, 0x00, x) {
+        true
+    } else if among(0x03, 0x05, x) {
+        true
+    } else if among(0x0A, 0x0D, x) {
+        true
+    } else {
+        among(0x0F, 0x0F, x)
+    }
+}
+
 // Only the first octet is judged; after it any may stand.
 fn first_only(i: u8, ok: bool) -> bool
     ensures { λ r. ⌜ r ≡ pick (i =? 0) ok true ⌝ }
@@ -460,7 +738,7 @@ fn first_only(i: u8, ok: bool) -> bool
 
 // May octet x stand at index i of n, where m is remembered?
 pub fn content_ok(c: Class, n: u8, i: u8, m: u8, x: u8) -> bool
-    ensures { λ r. ⌜ r ≡ okAt (shape01 c) n i m x ⌝ }
+    ensures { λ r. ⌜ r ≡ okAt c n i m x ⌝ }
 {
     match c {
         Class::Date => date_ok(n, i, m, x),
@@ -473,6 +751,11 @@ pub fn content_ok(c: Class, n: u8, i: u8, m: u8, x: u8) -> bool
         Class::Waiting => true,
         Class::Forwarded => first_only(i, forwarded_ok(x)),
         Class::User => first_only(i, user_ok(x)),
+        Class::OldNumber => among(0x30, 0x39, x),
+        Class::ShortText => name_ok(x),
+        Class::OldForwarded => first_only(i, among(0x00, 0x06, x)),
+        Class::OldUser => first_only(i, old_user_ok(x)),
+        Class::Unlisted => true,
         Class::Carried => true,
     }
 }
@@ -485,7 +768,7 @@ fn digit_of(x: u8) -> u8
 
 // What is remembered after octet x: of a date the digit, of all others nothing.
 pub fn remember(c: Class, n: u8, i: u8, m: u8, x: u8) -> u8
-    ensures { λ r. ⌜ r ≡ content.remember (shape01 c) n i m x ⌝ }
+    ensures { λ r. ⌜ r ≡ content.remember c n i m x ⌝ }
 {
     match c {
         Class::Date => digit_of(x),
@@ -498,6 +781,11 @@ pub fn remember(c: Class, n: u8, i: u8, m: u8, x: u8) -> u8
         Class::Waiting => 0,
         Class::Forwarded => 0,
         Class::User => 0,
+        Class::OldNumber => 0,
+        Class::ShortText => 0,
+        Class::OldForwarded => 0,
+        Class::OldUser => 0,
+        Class::Unlisted => 0,
         Class::Carried => 0,
     }
 }

@@ -7,7 +7,9 @@ use mathlib.Core.List.{List, _∷_, _++_}
 use lib.ListN.{length}
 use denote.Ref.{RefT, now}
 use Rattle.rules.specs.Octets.{Octets}
-use Rattle.rules.specs.Table.{document01}
+use Rattle.rules.specs.Table.{rulesOf}
+use Rattle.rules.specs.declared.Book.the-variants.{PresentLenient}
+use Rattle.rules.specs.ContentLaw.{sound-rules}
 use Rattle.rules.specs.Message as message
 use Rattle.rules.specs.Message.{Message, octets, LegalMessage}
 use Rattle.walker.specs.declared.Walker.{Walker}
@@ -19,36 +21,36 @@ use Rattle.walker.specs.Walks.{Gives, Walks}
 use Rattle.walker.specs.Moves.{seen, Seen, Reached, reached}
 
 -- any walker, with any message and any place
-pub looking : (w : Walker) (r : Step) → Seen w r → Octets (now (w .message)) → Walks (now (w .message)) (w .place) r
-looking w r e q = subst (Walks (now (w .message)) (w .place)) (sym e) (walks.walks (now (w .message)) q (w .place))
+pub looking : (w : Walker) (r : Step) → Seen w r → Octets (now (w .message)) → Walks (rulesOf PresentLenient) (now (w .message)) (w .place) r
+looking w r e q = subst (Walks (rulesOf PresentLenient) (now (w .message)) (w .place)) (sym e) (walks.walks (rulesOf PresentLenient) (sound-rules PresentLenient) (now (w .message)) q (w .place))
 
 module _ (s : RefT (List ℕ)) (calls : ℕ) (w : Walker) (h : Reached s calls w) (r : Step) (e : Seen w r) where
-  place-is : w .place ≡ placeAt document01 (now s) calls
+  place-is : w .place ≡ placeAt (rulesOf PresentLenient) (now s) calls
   place-is = ap (λ (v : Walker). v .place) (reached s calls w h)
 
-  step-is : r ≡ stepOf document01 (now s) (placeAt document01 (now s) calls)
+  step-is : r ≡ stepOf (rulesOf PresentLenient) (now s) (placeAt (rulesOf PresentLenient) (now s) calls)
   step-is = e ∙ ap seen (reached s calls w h)
 
   -- a message that is not accepted gets its number and place from the first call on, at each
-  pub refused-at-each : Octets (now s) → Walks (now s) (w .place) r
-  refused-at-each q = subst (λ (o : RefT (List ℕ)). Walks (now o) (w .place) r) (ap (λ (v : Walker). v .message) m) (looking w r e (subst (λ (o : RefT (List ℕ)). Octets (now o)) (sym (ap (λ (v : Walker). v .message) m)) q))
+  pub refused-at-each : Octets (now s) → Walks (rulesOf PresentLenient) (now s) (w .place) r
+  refused-at-each q = subst (λ (o : RefT (List ℕ)). Walks (rulesOf PresentLenient) (now o) (w .place) r) (ap (λ (v : Walker). v .message) m) (looking w r e (subst (λ (o : RefT (List ℕ)). Octets (now o)) (sym (ap (λ (v : Walker). v .message) m)) q))
     where
-      m : w ≡ record { message = s; place = placeAt document01 (now s) calls }
+      m : w ≡ record { message = s; place = placeAt (rulesOf PresentLenient) (now s) calls }
       m = reached s calls w h
 
-  module _ (m : Message) (l : LegalMessage document01 m) (o : now s ≡ octets m) where
-    at-message : r ≡ stepOf document01 (octets m) (placeAt document01 (octets m) calls)
-    at-message = step-is ∙ ap (λ (x : List ℕ). stepOf document01 x (placeAt document01 x calls)) o
+  module _ (m : Message) (l : LegalMessage (rulesOf PresentLenient) m) (o : now s ≡ octets m) where
+    at-message : r ≡ stepOf (rulesOf PresentLenient) (octets m) (placeAt (rulesOf PresentLenient) (octets m) calls)
+    at-message = step-is ∙ ap (λ (x : List ℕ). stepOf (rulesOf PresentLenient) x (placeAt (rulesOf PresentLenient) x calls)) o
 
     -- as many calls as the parameter p has before it lead to p: its type, and its contents' own place, size and octets
     pub lists : (b : List message.Parameter) (p : message.Parameter) (a : List message.Parameter) → m .parameters ≡ b ++ p ∷ a → calls ≡ length b → Gives (octets m) (w .place) p r
     lists b p a is k =
-        subst (λ (x : Step). Gives (octets m) (w .place) p x) (sym (at-message ∙ ap (λ (n : ℕ). stepOf document01 (octets m) (placeAt document01 (octets m) n)) k))
-        (subst (λ (x : ℕ). Gives (octets m) x p (stepOf document01 (octets m) (placeAt document01 (octets m) (length b)))) (sym there) (walks.in-order m l b p a is))
+        subst (λ (x : Step). Gives (octets m) (w .place) p x) (sym (at-message ∙ ap (λ (n : ℕ). stepOf (rulesOf PresentLenient) (octets m) (placeAt (rulesOf PresentLenient) (octets m) n)) k))
+        (subst (λ (x : ℕ). Gives (octets m) x p (stepOf (rulesOf PresentLenient) (octets m) (placeAt (rulesOf PresentLenient) (octets m) (length b)))) (sym there) (walks.in-order (rulesOf PresentLenient) (sound-rules PresentLenient) m l b p a is))
       where
-        there : w .place ≡ placeAt document01 (octets m) (length b)
-        there = place-is ∙ ap₂ (placeAt document01) o k
+        there : w .place ≡ placeAt (rulesOf PresentLenient) (octets m) (length b)
+        there = place-is ∙ ap₂ (placeAt (rulesOf PresentLenient)) o k
 
     -- as many calls as there are parameters, and each further one, lead to none
     pub ends : length (m .parameters) ≤ calls → r ≡ NoMore
-    ends k = at-message ∙ walks.no-more m l calls k
+    ends k = at-message ∙ walks.no-more (rulesOf PresentLenient) (sound-rules PresentLenient) m l calls k

@@ -3,24 +3,27 @@
 -- Assumes nothing.
 use Prim.Native.Nat.{ℕ, zero, suc, _+_, _≤_}
 use mathlib.Core.Path.{_≡_, refl, sym, _∙_, ap, ap₂, subst}
-use mathlib.Core.Logic.{_↔_}
+use mathlib.Core.Logic.{_⊎_, inl, inr, _↔_}
 use mathlib.Core.List.{List, [], _∷_, _++_}
 use native.Mathlib.Omega.{arith}
 use lib.ListN.{length, length-append, take, drop}
+use lib.Dec.{T}
 use Rattle.rules.specs.Tests.{clash}
 use Rattle.rules.specs.Octets.{Octets, total, checksum}
-use Rattle.rules.specs.Table.{document01}
-use Rattle.rules.specs.Unique.{document01-told}
-use Rattle.rules.specs.ContentLaw.{document01-sound}
+use Rattle.rules.specs.Table.{Rules}
+use Rattle.rules.specs.Unique.{told-of}
+use Rattle.rules.specs.ContentLaw.{SoundRules}
 use Rattle.rules.specs.Message as message
 use Rattle.rules.specs.Message.{Message, body, front, octets, LegalMessage, most}
 use Rattle.rules.specs.declared.Fault.{Fault}
 use Rattle.message.specs.declared.Verdict.{Verdict}
 use Rattle.message.specs.declared.Verdict.the-variants.{Accepted, Declined}
 use Rattle.message.specs.Verdict.{verdictOf}
-use Rattle.message.specs.Judges.{Judges, judges}
+use Rattle.message.specs.Judges.{Judges, judges-calls, told-small, verdictNumber}
 use Rattle.message.specs.Searching.{Stand}
 use Rattle.rules.specs.Sizes.{few}
+use Rattle.rules.specs.Language.{calls}
+use Rattle.rules.specs.Calls.{spoken}
 use Rattle.walker.specs.declared.Step.{Step}
 use Rattle.walker.specs.declared.Step.the-variants.{Parameter, NoMore, Refused}
 use Rattle.walker.specs.Steps.{walkFrom, stepUnder, stepOf, told, after, placeAt}
@@ -44,10 +47,10 @@ module _ (o : List ℕ) (at : ℕ) where
   refused-of (Accepted n) f = (λ e. absurd (walk-plain o most at 2 .1 f e), λ e. clash cc)
   refused-of (Declined g) f = (λ e. cc, λ e. cc)
 
-  numbers-of : (v : Verdict) → ((f : Fault) → v ≡ Declined f → f .number ≤ 8) → told (stepUnder v o at) .number ≤ 8
+  numbers-of : (R : Rules) (v : Verdict) → ((f : Fault) → v ≡ Declined f → T (verdictNumber (calls R) (f .number))) → (told (stepUnder v o at) .number ≡ 0) ⊎ T (verdictNumber (calls R) (told (stepUnder v o at) .number))
   unfolding stepUnder told
-  numbers-of (Accepted n) h = omega (arith, walk-plain o most at 2 .0)
-  numbers-of (Declined f) h = h f refl
+  numbers-of R (Accepted n) h = inl (walk-plain o most at 2 .0)
+  numbers-of R (Declined f) h = inr (h f refl)
 
 refusal-of : (at : ℕ) (r : Step) (f : Fault) → r ≡ Refused f → (told r .number ≡ f .number) × (told r .place ≡ f .place) × (told r .more ≡ 0) × (after at r ≡ at)
 unfolding told after
@@ -64,87 +67,88 @@ giving-gives : (o : List ℕ) (at : ℕ) (p : message.Parameter) → take (lengt
 unfolding told after
 giving-gives o at p e = record { number = refl; place = refl; more = refl; kind = refl; start = refl; size = refl; octets = e; next = refl }
 
-module _ (m : Message) (l : LegalMessage document01 m) where
-  abbrev o : List ℕ
-  o = octets m
+module _ (R : Rules) (S : SoundRules R) where
+  module _ (m : Message) (l : LegalMessage R m) where
+    abbrev o : List ℕ
+    o = octets m
 
-  abbrev c : ℕ
-  c = checksum (total (front m))
+    abbrev c : ℕ
+    c = checksum (total (front m))
 
-  legal-step : (at : ℕ) → stepOf document01 o at ≡ walkFrom most o at 2
-  unfolding stepOf
-  legal-step at = accepted-is o at _ (length o) (judges o (document01-told .octets _ (m, l, refl)) .accepted (length o) .1 (refl, (m, l, refl)))
+    legal-step : (at : ℕ) → stepOf R o at ≡ walkFrom most o at 2
+    unfolding stepOf
+    legal-step at = accepted-is o at _ (length o) (judges-calls R S o (told-of R S .octets _ (m, l, refl)) .accepted (length o) .1 (refl, (m, l, refl)))
 
-  stand : Stand o c 2 (m .parameters)
-  unfolding octets
-  stand = refl
+    stand : Stand o c 2 (m .parameters)
+    unfolding octets
+    stand = refl
 
-  step-gives : (at : ℕ) (b : Begins 2 (m .parameters) at) → Gives o at (b .p) (stepOf document01 o at)
-  step-gives at b =
-      subst (Gives o at (b .p)) (sym (legal-step at ∙ walk-begins o c most at 2 (m .parameters) stand (few document01 document01-sound m l) b))
-      (giving-gives o at (b .p) (contents-stand o c at 2 (m .parameters) stand b))
+    step-gives : (at : ℕ) (b : Begins 2 (m .parameters) at) → Gives o at (b .p) (stepOf R o at)
+    step-gives at b =
+        subst (Gives o at (b .p)) (sym (legal-step at ∙ walk-begins o c most at 2 (m .parameters) stand (few R S m l) b))
+        (giving-gives o at (b .p) (contents-stand o c at 2 (m .parameters) stand b))
 
-  none-at : (at : ℕ) → (Begins 2 (m .parameters) at → ⊥) → stepOf document01 o at ≡ NoMore
-  none-at at n = legal-step at ∙ walk-none o c most at 2 (m .parameters) stand (few document01 document01-sound m l) n
+    none-at : (at : ℕ) → (Begins 2 (m .parameters) at → ⊥) → stepOf R o at ≡ NoMore
+    none-at at n = legal-step at ∙ walk-none o c most at 2 (m .parameters) stand (few R S m l) n
 
-  long-is : length o ≡ 3 + length (body (m .parameters))
-  unfolding octets
-  long-is = omega (arith, length-append (body (m .parameters)) (c ∷ []))
+    long-is : length o ≡ 3 + length (body (m .parameters))
+    unfolding octets
+    long-is = omega (arith, length-append (body (m .parameters)) (c ∷ []))
 
-  step-stands : (at : ℕ) → Stands m at (stepOf document01 o at)
-  step-stands at = record {
-    parameter = step-gives at;
-    begins = λ e. let g = given-is _ e in walk-begun o c most at 2 (m .parameters) stand (few document01 document01-sound m l) _ _ _ _ (sym (legal-step at) ∙ g .4);
-    none = none-at at;
-    none-early = λ h. none-at at (λ b. omega (arith, b .place, h));
-    none-inside = λ place b h k. none-at at (λ d. omega (arith, begins-apart 2 (m .parameters) place at b d h, k));
-    none-late = λ h. none-at at (λ b. omega (arith, begins-before 2 (m .parameters) at b, long-is, h));
-  }
+    step-stands : (at : ℕ) → Stands m at (stepOf R o at)
+    step-stands at = record {
+      parameter = step-gives at;
+      begins = λ e. let g = given-is _ e in walk-begun o c most at 2 (m .parameters) stand (few R S m l) _ _ _ _ (sym (legal-step at) ∙ g .4);
+      none = none-at at;
+      none-early = λ h. none-at at (λ b. omega (arith, b .place, h));
+      none-inside = λ place b h k. none-at at (λ d. omega (arith, begins-apart 2 (m .parameters) place at b d h, k));
+      none-late = λ h. none-at at (λ b. omega (arith, begins-before 2 (m .parameters) at b, long-is, h));
+    }
 
-  -- ---- one call after the other
-  place-is : (calls : ℕ) → placeAt document01 o calls ≡ placeOf 2 (m .parameters) calls
-  unfolding placeAt placeOf
-  place-is zero = refl
-  place-is (suc calls) =
-      ap₂ after (place-is calls) (ap (stepOf document01 o) (place-is calls) ∙ legal-step _)
-      ∙ walk-on o c most 2 (m .parameters) calls stand (few document01 document01-sound m l)
+    -- ---- one call after the other
+    place-is : (calls : ℕ) → placeAt R o calls ≡ placeOf 2 (m .parameters) calls
+    unfolding placeAt placeOf
+    place-is zero = refl
+    place-is (suc calls) =
+        ap₂ after (place-is calls) (ap (stepOf R o) (place-is calls) ∙ legal-step _)
+        ∙ walk-on o c most 2 (m .parameters) calls stand (few R S m l)
 
-  -- the call that as many went before as the parameter p has before it gives p
-  pub in-order : (b : List message.Parameter) (p : message.Parameter) (a : List message.Parameter) → m .parameters ≡ b ++ p ∷ a → Gives o (placeAt document01 o (length b)) p (stepOf document01 o (placeAt document01 o (length b)))
-  in-order b p a e = step-gives _ (record {
-    before = b;
-    p = p;
-    behind = a;
-    is = e;
-    place = place-is (length b) ∙ ap (λ (ps : List message.Parameter). placeOf 2 ps (length b)) e ∙ place-behind 2 b p a;
-  })
+    -- the call that as many went before as the parameter p has before it gives p
+    pub in-order : (b : List message.Parameter) (p : message.Parameter) (a : List message.Parameter) → m .parameters ≡ b ++ p ∷ a → Gives o (placeAt R o (length b)) p (stepOf R o (placeAt R o (length b)))
+    in-order b p a e = step-gives _ (record {
+      before = b;
+      p = p;
+      behind = a;
+      is = e;
+      place = place-is (length b) ∙ ap (λ (ps : List message.Parameter). placeOf 2 ps (length b)) e ∙ place-behind 2 b p a;
+    })
 
-  -- and after as many as there are parameters there are no more, for ever
-  pub no-more : (calls : ℕ) → length (m .parameters) ≤ calls → stepOf document01 o (placeAt document01 o calls) ≡ NoMore
-  no-more calls h =
-      ap (stepOf document01 o) (place-is calls)
-      ∙ legal-step _
-      ∙ walk-ended o c most 2 (m .parameters) calls stand (few document01 document01-sound m l) h
+    -- and after as many as there are parameters there are no more, for ever
+    pub no-more : (calls : ℕ) → length (m .parameters) ≤ calls → stepOf R o (placeAt R o calls) ≡ NoMore
+    no-more calls h =
+        ap (stepOf R o) (place-is calls)
+        ∙ legal-step _
+        ∙ walk-ended o c most 2 (m .parameters) calls stand (few R S m l) h
 
-module _ (o : List ℕ) (q : Octets o) (at : ℕ) where
-  abbrev v : Verdict
-  v = verdictOf document01 o
+  module _ (o : List ℕ) (q : Octets o) (at : ℕ) where
+    abbrev v : Verdict
+    v = verdictOf R o
 
-  abbrev J : Judges o v
-  J = judges o q
+    abbrev J : Judges (calls R) o v
+    J = judges-calls R S o q
 
-  pub walks : Walks o at (stepOf document01 o at)
-  unfolding stepOf
-  walks = record {
-    done = (
-      λ e. let a = accepted-of o at v (λ f k. J .numbers f k .0) e in J .accepted (a .0) .0 (a .1) .1,
-      λ a. ap (λ (r : Step). told r .number) (accepted-is o at v (length o) (J .accepted (length o) .1 (refl, a))) ∙ walk-plain o most at 2 .0,
-    );
-    verdict = v;
-    judged = J;
-    refused = refused-of o at v;
-    refusal = refusal-of at _;
-    numbers = numbers-of o at v (λ f e. J .numbers f e .1);
-    inside = under-inside o v at;
-    stands = λ m l e. subst (λ (x : List ℕ). Stands m at (stepOf document01 x at)) e (step-stands m l at);
-  }
+    pub walks : Walks R o at (stepOf R o at)
+    unfolding stepOf
+    walks = record {
+      done = (
+        λ e. let a = accepted-of o at v (λ f k. told-small (spoken R S) _ (J .numbers f k) .0) e in J .accepted (a .0) .0 (a .1) .1,
+        λ a. ap (λ (r : Step). told r .number) (accepted-is o at v (length o) (J .accepted (length o) .1 (refl, a))) ∙ walk-plain o most at 2 .0,
+      );
+      verdict = v;
+      judged = J;
+      refused = refused-of o at v;
+      refusal = refusal-of at _;
+      numbers = numbers-of o at R v (J .numbers);
+      inside = under-inside o v at;
+      stands = λ m l e. subst (λ (x : List ℕ). Stands m at (stepOf R x at)) e (step-stands m l at);
+    }

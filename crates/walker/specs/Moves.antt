@@ -4,7 +4,8 @@ use Prim.Native.Nat.{ℕ, zero, suc}
 use mathlib.Core.Path.{_≡_, _∙_, ap}
 use mathlib.Core.List.{List}
 use denote.Ref.{RefT, now}
-use Rattle.rules.specs.Table.{document01}
+use Rattle.rules.specs.Table.{rulesOf}
+use Rattle.rules.specs.declared.Book.the-variants.{PresentLenient}
 use Rattle.walker.specs.declared.Walker.{Walker}
 use Rattle.walker.specs.declared.Step.{Step}
 use Rattle.walker.specs.Steps.{stepOf, after, placeAt}
@@ -15,7 +16,7 @@ begun s = record { message = s; place = 2 }
 
 -- what stands at a walker's place of its message
 abbrev pub seen : Walker → Step
-seen w = stepOf document01 (now (w .message)) (w .place)
+seen w = stepOf (rulesOf PresentLenient) (now (w .message)) (w .place)
 
 -- a walker moved on holds the same message and the place of the next call
 abbrev pub moved : Walker → Walker
@@ -37,7 +38,7 @@ Reached s zero w = Begun s w
 Reached s (suc calls) w = (v : Walker) × Reached s calls v × Moved v w
 
 -- it holds s, and the place of the next call
-pub reached : (s : RefT (List ℕ)) (calls : ℕ) (w : Walker) → Reached s calls w → w ≡ record { message = s; place = placeAt document01 (now s) calls }
+pub reached : (s : RefT (List ℕ)) (calls : ℕ) (w : Walker) → Reached s calls w → w ≡ record { message = s; place = placeAt (rulesOf PresentLenient) (now s) calls }
 unfolding Reached placeAt
 reached s zero w e = e
 reached s (suc calls) w e = e .2 ∙ ap moved (reached s calls (e .0) (e .1))

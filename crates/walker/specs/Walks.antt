@@ -3,16 +3,18 @@
 -- Assumes nothing.
 use Prim.Native.Nat.{ℕ, _+_, _≤_, _<_}
 use mathlib.Core.Path.{_≡_}
-use mathlib.Core.Logic.{_↔_}
+use mathlib.Core.Logic.{_⊎_, _↔_}
 use mathlib.Core.List.{List, _∷_, _++_}
 use lib.ListN.{length, take, drop}
-use Rattle.rules.specs.Table.{document01}
+use lib.Dec.{T}
+use Rattle.rules.specs.Table.{Rules}
 use Rattle.rules.specs.Message as message
 use Rattle.rules.specs.Message.{Message, body, octets, LegalMessage, Accepts}
 use Rattle.rules.specs.declared.Fault.{Fault}
+use Rattle.rules.specs.Language.{calls}
 use Rattle.message.specs.declared.Verdict.{Verdict}
 use Rattle.message.specs.declared.Verdict.the-variants.{Declined}
-use Rattle.message.specs.Judges.{Judges}
+use Rattle.message.specs.Judges.{Judges, verdictNumber}
 use Rattle.walker.specs.declared.Step.{Step}
 use Rattle.walker.specs.declared.Step.the-variants.{Parameter, NoMore, Refused}
 use Rattle.walker.specs.Steps.{told, after}
@@ -50,16 +52,16 @@ pub record Stands (m : Message) (at : ℕ) (r : Step) : Type 0 where
   pub none-late : length (octets m) ≤ at + 1 → r ≡ NoMore
 
 -- the octets o and a place went in, and r came back
-pub record Walks (o : List ℕ) (at : ℕ) (r : Step) : Type 0 where
+pub record Walks (R : Rules) (o : List ℕ) (at : ℕ) (r : Step) : Type 0 where
   -- number 0 exactly when the octets are a message, whatever the place
-  pub done : (told r .number ≡ 0) ↔ Accepts document01 o
+  pub done : (told r .number ≡ 0) ↔ Accepts R o
   -- refused exactly as the whole read declines the octets, with its number and place
   pub verdict : Verdict
-  pub judged : Judges o verdict
+  pub judged : Judges (calls R) o verdict
   pub refused : (f : Fault) → (r ≡ Refused f) ↔ (verdict ≡ Declined f)
   pub refusal : (f : Fault) → r ≡ Refused f → (told r .number ≡ f .number) × (told r .place ≡ f .place) × (told r .more ≡ 0) × (after at r ≡ at)
-  -- no number but 1 to 8
-  pub numbers : told r .number ≤ 8
+  -- no number but 1 to 8, and 10
+  pub numbers : (told r .number ≡ 0) ⊎ T (verdictNumber (calls R) (told r .number))
   -- the part lies inside the octets
   pub inside : told r .start + told r .size ≤ length o
-  pub stands : (m : Message) → LegalMessage document01 m → octets m ≡ o → Stands m at r
+  pub stands : (m : Message) → LegalMessage R m → octets m ≡ o → Stands m at r

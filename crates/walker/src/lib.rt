@@ -2,9 +2,11 @@
 // place: `step_at` says what stands there, `place_after` where the next call goes.
 use message::Found;
 use message::Verdict;
+use rules::Book;
 use rules::Fault;
 ghost use mathlib.Core.Path.{_≡_};
-ghost use Rattle.rules.specs.Table.{document01};
+ghost use Rattle.rules.specs.Table.{rulesOf};
+ghost use Rattle.rules.specs.declared.Book.the-variants as book;
 ghost use Rattle.rules.specs.Message.{most};
 ghost use Rattle.walker.specs.Steps.{walkFrom, stepOf, after};
 ghost use Rattle.walker.specs.Moves.{Begun, Seen, Moved};
@@ -55,22 +57,29 @@ fn walk_to(message: &[u8], at: usize) -> Step
     Step::NoMore
 }
 
-// What stands at a place; octets that the whole read declines with 1 to 8 get that number, at every place.
-pub fn step_at(message: &[u8], at: usize) -> Step
-    ensures { λ r. ⌜ r ≡ stepOf document01 (now (message .entry)) at ⌝ }
+// What stands at a place; octets that the whole read declines with 1 to 8 or 10 get that number, at every place.
+pub fn step_at(book: Book, message: &[u8], at: usize) -> Step
+    ensures { λ r. ⌜ r ≡ stepOf (rulesOf book) (now (message .entry)) at ⌝ }
 {
-    let verdict = message::judge(message);
+    let verdict = message::judge(book, message);
     match verdict {
         Verdict::Accepted { size } => walk_to(message, at),
         Verdict::Declined { fault } => Step::Refused(fault),
     }
 }
 
+// The same by the book that every walker goes by: the present edition, and types without a row are carried.
+fn step_here(message: &[u8], at: usize) -> Step
+    ensures { λ r. ⌜ r ≡ stepOf (rulesOf book.PresentLenient) (now (message .entry)) at ⌝ }
+{
+    step_at(Book::PresentLenient, message, at)
+}
+
 // The place of the next call: behind the parameter that begins at a place, the same place where none does.
 fn place_after(message: &[u8], at: usize) -> usize
-    ensures { λ r. ⌜ r ≡ after at (stepOf document01 (now (message .entry)) at) ⌝ }
+    ensures { λ r. ⌜ r ≡ after at (stepOf (rulesOf book.PresentLenient) (now (message .entry)) at) ⌝ }
 {
-    let step = step_at(message, at);
+    let step = step_here(message, at);
     match step {
         Step::Parameter {
             kind,
@@ -99,7 +108,7 @@ pub fn new<'a>(message: &'a [u8]) -> Walker<'a>
 pub fn look<'a>(w: Walker<'a>) -> Step
     ensures { λ r. ⌜ Seen (w .entry) r ⌝ }
 {
-    step_at(w.message, w.place)
+    step_here(w.message, w.place)
 }
 
 // The walker moved on, to the place of the next call.

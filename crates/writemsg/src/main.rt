@@ -3,6 +3,7 @@ use draft::Draft;
 use draft::Entry;
 use draft::Value;
 use libc::STDOUT_FILENO;
+use rules::Book;
 use rules::Fault;
 use writer::Written;
 
@@ -32,7 +33,7 @@ fn print_fault(f: Fault) {
 }
 
 fn show_in(out: &mut [u8], d: Draft, texts: &[u8]) {
-    let answer = writer::write(d, texts, out);
+    let answer = writer::write(Book::PresentLenient, d, texts, out);
     match answer {
         Written::Message { size } => {
             let n = size as usize;

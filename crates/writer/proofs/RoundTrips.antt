@@ -1,4 +1,4 @@
--- The round trips, for any sound rules whose forms are drawn: entries that say what legal parameters say make legal parameters, and the other way.
+-- The round trips, for any sound rules: entries that say what legal parameters say make legal parameters, and the other way.
 -- Assumes nothing.
 use Prim.Native.Nat.{ℕ, suc, _+_, _≤_}
 use mathlib.Core.Path.{_≡_, refl, sym, _∙_, ap, ap₂, subst}
@@ -9,14 +9,14 @@ use lib.ListN.{length}
 use lib.Dec.{T}
 use Rattle.rules.specs.Tests.{_≤?_, _=?_, pick, every, both, join, clash}
 use Rattle.rules.specs.Returns.{same-truth}
-use Rattle.rules.specs.Contents.{contentsFit}
-use Rattle.rules.specs.Table.{Rules, shapeOf, document01, narrow}
-use Rattle.rules.specs.ContentLaw.{SoundRules, document01-sound, narrow-sound}
+use Rattle.rules.specs.Table.{Rules, rulesOf, contentsFit, classOf}
+use Rattle.rules.specs.ContentLaw.{SoundRules, sound-rules}
+use Rattle.rules.specs.declared.Book.{Book}
 use Rattle.rules.specs.Sizes.{octets-length, some-parameter, few}
 use Rattle.rules.specs.Message as message
 use Rattle.rules.specs.Message.{Parameter, body, octets, messageKind, LegalParameter, AllLegal, LegalMessage}
 use Rattle.draft.specs.Meaning.{Meaning, formIs, kindOf, spelled, meant}
-use Rattle.draft.proofs.Meaning.{form-meant, DrawnRules, drawn, document01-drawn, narrow-drawn, meant-spelled, Drawn}
+use Rattle.draft.proofs.Meaning.{form-meant, drawn}
 use Rattle.draft.specs.Draft.{meaningOf, inside, parameterOf, parametersOf, Said, saidOf, allSaid, allInside, used, messageOf, Equal}
 use Rattle.draft.specs.Packing.{meaningIn, entriesOf, textsOf, draftOf}
 use Rattle.draft.proofs.Packing.{allMeant, pack, entries-length, used-are, equal-stand, said-again, draft-stands}
@@ -28,18 +28,18 @@ use Rattle.writer.specs.Reasons.{Makes, lengthOf}
 use Rattle.writer.specs.declared.Written.the-variants.{Message}
 use Rattle.writer.specs.RoundTrips.{RoundTrips}
 
-module _ (R : Rules) (S : SoundRules R) (D : DrawnRules R) where
+module _ (R : Rules) (S : SoundRules R) where
   -- ---- entries that say what legal parameters say make legal parameters
   said-makes : (texts : List ℕ) (e : Entry) (p : Parameter) → e .kind ≡ p .kind → meaningOf texts (e .value) ≡ meaningIn R p → T (inside texts (e .value)) → LegalParameter R p → Makes R texts e
   unfolding meaningIn parameterOf
   said-makes texts e p k s i l =
-      let c : spelled (meaningOf texts (e .value)) ≡ p .contents = ap spelled s ∙ said-again R S D p l in
+      let c : spelled (meaningOf texts (e .value)) ≡ p .contents = ap spelled s ∙ said-again R p l in
       record {
         kind = ap formIs s ∙ form-meant (kindOf R (p .kind)) (p .contents) ∙ ap (kindOf R) (sym k);
         lies = i;
         legal = record {
           octet = omega (arith, k, l .octet);
-          fits = subst (λ (v : List ℕ). T (contentsFit (shapeOf R (e .kind)) v)) (sym c) (subst (λ (t : ℕ). T (contentsFit (shapeOf R t) (p .contents))) (sym k) (l .fits));
+          fits = subst (λ (v : List ℕ). T (contentsFit (classOf R (e .kind)) v)) (sym c) (subst (λ (t : ℕ). T (contentsFit (classOf R t) (p .contents))) (sym k) (l .fits));
         };
       }
 
@@ -68,7 +68,7 @@ module _ (R : Rules) (S : SoundRules R) (D : DrawnRules R) where
     unfolding draftOf messageOf
     draft-writable room h =
         let b : legalBefore R area (used (draftOf R m)) ≡ length (m .parameters) = all-before R area _ entries-legal ∙ ap length (used-are R m) ∙ entries-length R 0 (m .parameters) in
-        let s : lengthOf (draftOf R m) area ≡ length (body (m .parameters)) = ap (λ (x : message.Message). length (body (x .parameters))) (draft-stands R S D m rest l) in
+        let s : lengthOf (draftOf R m) area ≡ length (body (m .parameters)) = ap (λ (x : message.Message). length (body (x .parameters))) (draft-stands R m rest l) in
         record {
           kind = l .kind;
           some = some-parameter (m .parameters) (l .long);
@@ -81,12 +81,12 @@ module _ (R : Rules) (S : SoundRules R) (D : DrawnRules R) where
     message-written : (room : ℕ) → length (octets m) ≤ room → writeOf R (draftOf R m) area room ≡ Message (length (octets m))
     unfolding messageOf
     message-written room h =
-        let s : lengthOf (draftOf R m) area + 3 ≡ length (octets m) = ap (λ (x : message.Message). length (body (x .parameters)) + 3) (draft-stands R S D m rest l) ∙ sym (octets-length m) in
+        let s : lengthOf (draftOf R m) area + 3 ≡ length (octets m) = ap (λ (x : message.Message). length (body (x .parameters)) + 3) (draft-stands R m rest l) ∙ sym (octets-length m) in
         writes R (draftOf R m) area room (draft-writable room h) ∙ ap Message s
 
   -- ---- a draft that was written, and the draft of its message
   parameters-meant : (texts : List ℕ) (es : List Entry) → T (every (legalEntry R texts) es) → allSaid texts es ≡ allMeant R (parametersOf texts es)
-  unfolding allSaid saidOf allMeant parametersOf parameterOf meaningIn every
+  unfolding allSaid saidOf allMeant parametersOf parameterOf meaningIn kindOf every
   parameters-meant texts [] t = refl
   parameters-meant texts (e ∷ es) t =
       let b = both _ _ t in
@@ -94,9 +94,7 @@ module _ (R : Rules) (S : SoundRules R) (D : DrawnRules R) where
       ap₂ (λ (μ : Meaning) (ss : List Said). (record { kind = e .kind; meaning = μ }) ∷ ss) (sym (meant-back e m)) (parameters-meant texts es (b .1))
     where
       meant-back : (e : Entry) → Makes R texts e → meant (kindOf R (e .kind)) (spelled (meaningOf texts (e .value))) ≡ meaningOf texts (e .value)
-      meant-back e m =
-          let d = subst (Drawn (shapeOf R (e .kind))) (sym (m .kind)) (drawn R D (e .kind)) in
-          ap (λ (f : _). meant f (spelled (meaningOf texts (e .value)))) (sym (m .kind)) ∙ meant-spelled (meaningOf texts (e .value)) d (m .legal .fits)
+      meant-back e m = drawn (classOf R (e .kind)) .read (meaningOf texts (e .value)) (m .kind) (m .legal .fits)
 
   draft-again : (d : Draft) (texts : List ℕ) (room n : ℕ) → writeOf R d texts room ≡ Message n → (rest : List ℕ) → Equal d texts (draftOf R (messageOf d texts)) (textsOf R (messageOf d texts .parameters) ++ rest)
   unfolding messageOf draftOf
@@ -148,16 +146,13 @@ module _ (R : Rules) where
       let c = e .count in
       λ i. pick (messageKind (k i)) (pick (c i =? 0) (declined 14 0) (pick (86 ≤? c i) (declined 13 0) (pick (suc (n i) ≤? c i) (declined 12 (n i)) (sized (l i) room)))) (declined 11 0)
 
-round-trips : (R : Rules) → SoundRules R → DrawnRules R → RoundTrips R
-round-trips R S D =
+round-trips : (R : Rules) → SoundRules R → RoundTrips R
+round-trips R S =
     record {
-      message-written = λ m rest l room h. (message-written R S D m rest l room h, draft-stands R S D m rest l);
-      draft-again = draft-again R S D;
+      message-written = λ m rest l room h. (message-written R S m rest l room h, draft-stands R m rest l);
+      draft-again = draft-again R S;
       equal-answer = equal-answer R;
     }
 
-pub document01-round-trips : RoundTrips document01
-document01-round-trips = round-trips document01 document01-sound document01-drawn
-
-pub narrow-round-trips : RoundTrips narrow
-narrow-round-trips = round-trips narrow narrow-sound narrow-drawn
+pub round-trips-of : (b : Book) → RoundTrips (rulesOf b)
+round-trips-of b = round-trips (rulesOf b) (sound-rules b)

@@ -4,8 +4,7 @@ use Prim.Native.Nat.{ℕ, _+_, _/_, _%_}
 use mathlib.Core.List.{List, [], _∷_}
 use lib.ListN.{length, take}
 use Rattle.rules.specs.Tests.{pick}
-use Rattle.rules.specs.Contents.{contentsFit}
-use Rattle.rules.specs.Table.{document01, shape01}
+use Rattle.rules.specs.Table.{Rules, contentsFit}
 use Rattle.rules.specs.declared.Class.{Class}
 use Rattle.draft.specs.Meaning.{tens, ones}
 use Rattle.draft.specs.declared.Value.{Value}
@@ -30,13 +29,13 @@ small v = take (spellingOf v .length) (spellingOf v .octets)
 
 -- the length of contents that fit a class, else 0
 unfoldable pub fitting : Class → List ℕ → ℕ
-fitting c v = pick (contentsFit (shape01 c) v) (length v) 0
+fitting c v = pick (contentsFit c v) (length v) 0
 
 -- the length of the contents of an entry that makes a legal parameter, else 0
-unfoldable pub takesOf : List ℕ → Entry → ℕ
-takesOf texts e = pick (legalEntry document01 texts e) (length (contentsOf texts e)) 0
+unfoldable pub takesOf : Rules → List ℕ → Entry → ℕ
+takesOf R texts e = pick (legalEntry R texts e) (length (contentsOf texts e)) 0
 
 -- from entry i on, where those before it take `size` octets
-unfoldable pub measureFrom : List ℕ → ℕ → ℕ → List Entry → Measure
-measureFrom texts i size [] = Size size
-measureFrom texts i size (e ∷ es) = pick (legalEntry document01 texts e) (measureFrom texts (i + 1) (size + (2 + length (contentsOf texts e))) es) (Bad i)
+unfoldable pub measureFrom : Rules → List ℕ → ℕ → ℕ → List Entry → Measure
+measureFrom R texts i size [] = Size size
+measureFrom R texts i size (e ∷ es) = pick (legalEntry R texts e) (measureFrom R texts (i + 1) (size + (2 + length (contentsOf texts e))) es) (Bad i)

@@ -6,8 +6,9 @@ use mathlib.Core.List.{List, [], _∷_, _++_}
 use lib.ListN.{length, replicate}
 use Rattle.rules.specs.Tests.{_≤?_, _=?_, _and_, _or_, pick}
 use Rattle.rules.specs.Octets.{total, checksum}
-use Rattle.rules.specs.Contents.{within, inSet, digit, pairFits, pairsFit, columnsFit, allIn, contentsFit}
-use Rattle.rules.specs.Table.{document01, rowIn, rowOf, classOf, shapeOf, shape01, formOf}
+use Rattle.rules.specs.Contents.{within, inSet, digit, pairFits, pairsFit, columnsFit, allIn}
+use Rattle.rules.specs.Table.{rulesOf, rowIn, rowOf, classOf, formOf, whole}
+use Rattle.rules.specs.declared.Book.the-variants.{PresentLenient}
 use Rattle.rules.specs.Message.{body, octets, messageKind, most}
 use Rattle.draft.specs.Meaning.{formNumber, kindOf, formIs, tens, ones, spelled}
 use Rattle.draft.specs.Draft.{noEntry, meaningOf, inside, parameterOf, parametersOf, messageOf}
@@ -40,7 +41,7 @@ row d t n a = record { draft = d; texts = t; room = n; answer = a }
 -- what the writer answers in each row
 unfoldable pub answered : List Row → List Answer
 answered [] = []
-answered (r ∷ rs) = answerOf (writeOf document01 (r .draft) (r .texts) (r .room)) ∷ answered rs
+answered (r ∷ rs) = answerOf (writeOf (rulesOf PresentLenient) (r .draft) (r .texts) (r .room)) ∷ answered rs
 
 -- what each row says
 unfoldable pub expected : List Row → List Answer
@@ -99,5 +100,5 @@ Claim =
     × (answered writerRows ≡ expected writerRows))
 
 pub writer-rows : Claim
-unfolding answered expected answerOf writeOf measuredOf sized legalBefore legalEntry body octets messageOf parametersOf parameterOf spelled meaningOf inside formIs formNumber kindOf formOf classOf rowOf rowIn shapeOf shape01 document01 contentsFit pairsFit columnsFit allIn pairFits digit inSet within messageKind tens ones total checksum pick _and_ _or_ _≤?_ _=?_
+unfolding answered expected answerOf writeOf measuredOf sized legalBefore legalEntry body octets messageOf parametersOf parameterOf spelled meaningOf inside formIs formNumber kindOf formOf classOf rowOf rowIn rulesOf whole pairsFit columnsFit allIn pairFits digit inSet within messageKind tens ones total checksum pick _and_ _or_ _≤?_ _=?_
 writer-rows = (refl, (refl, refl))

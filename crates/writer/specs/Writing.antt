@@ -5,12 +5,12 @@ use mathlib.Core.Bool.{Bool}
 use mathlib.Core.List.{List, [], _∷_}
 use lib.ListN.{length}
 use Rattle.rules.specs.Tests.{_≤?_, _=?_, _and_, pick}
-use Rattle.rules.specs.Contents.{contentsFit}
-use Rattle.rules.specs.Table.{Rules, shapeOf}
+use Rattle.rules.specs.Table.{Rules, contentsFit, classOf}
 use Rattle.rules.specs.Message.{body, messageKind}
 use Rattle.draft.specs.Meaning.{formNumber, kindOf, formIs, spelled}
 use Rattle.draft.specs.Draft.{meaningOf, inside, parametersOf, used}
 use Rattle.rules.specs.Laying.{laid}
+use Rattle.rules.specs.Refusals.{noted}
 use Rattle.draft.specs.declared.Entry.{Entry}
 use Rattle.draft.specs.declared.Draft.{Draft}
 use Rattle.writer.specs.declared.Written.{Written}
@@ -29,7 +29,7 @@ answerOf (Declined f) = record { number = f .number; place = f .place; size = 0 
 
 -- a refusal with a number at a place
 abbrev pub declined : ℕ → ℕ → Written
-declined k p = Declined (record { number = k; place = p })
+declined k p = Declined (noted k p)
 
 -- ---- entries
 -- the octets that would be written for an entry's value
@@ -41,7 +41,7 @@ unfoldable pub legalEntry : Rules → List ℕ → Entry → Bool
 legalEntry R texts e =
     e .kind ≤? 255
     and (formNumber (formIs (meaningOf texts (e .value))) =? formNumber (kindOf R (e .kind))
-    and (inside texts (e .value) and contentsFit (shapeOf R (e .kind)) (contentsOf texts e)))
+    and (inside texts (e .value) and contentsFit (classOf R (e .kind)) (contentsOf texts e)))
 
 -- how many entries stand before the first that makes none
 unfoldable pub legalBefore : Rules → List ℕ → List Entry → ℕ

@@ -3,6 +3,7 @@
 use draft::Draft;
 use draft::Entry;
 use draft::Value;
+use rules::Book;
 use rules::Class;
 use rules::Fault;
 ghost use mathlib.Core.Path.{_≡_};
@@ -11,7 +12,7 @@ ghost use Prim.Native.Nat.{_+_, _%_, _≤_, _<_};
 ghost use lib.ListN as list;
 ghost use Rattle.rules.specs.Tests.{_≤?_, pick};
 ghost use Rattle.rules.specs.Octets.{total};
-ghost use Rattle.rules.specs.Table.{document01, shape01};
+ghost use Rattle.rules.specs.Table.{rulesOf};
 ghost use Rattle.rules.specs.ContentJudge.{fitsFrom};
 ghost use Rattle.rules.specs.Message.{front, octets, most};
 ghost use Rattle.draft.specs.Draft.{used, messageOf};
@@ -111,7 +112,7 @@ fn spell(v: Value) -> Spelling
 // May each octet of contents of length n stand where it stands?
 fn octets_fit(class: Class, part: &[u8], n: u8) -> bool
     requires { ⌜ list.length (now part) ≡ n ⌝ }
-    ensures { λ r. ⌜ r ≡ fitsFrom (shape01 class) n 0 0 (now (part .entry)) ⌝ }
+    ensures { λ r. ⌜ r ≡ fitsFrom class n 0 0 (now (part .entry)) ⌝ }
 {
     let mut memory: u8 = 0;
     let mut index: u8 = 0;
@@ -164,11 +165,11 @@ fn text_length(class: Class, texts: &[u8], start: usize, length: usize) -> u8
 }
 
 // The length of the contents of an entry that makes a legal parameter, else 0: its kind of value is its type's, its text lies inside, its contents fit.
-fn entry_length(e: Entry, texts: &[u8]) -> u8
-    ensures { λ r. ⌜ r ≡ takesOf (now (texts .entry)) e ⌝ }
+fn entry_length(book: Book, e: Entry, texts: &[u8]) -> u8
+    ensures { λ r. ⌜ r ≡ takesOf (rulesOf book) (now (texts .entry)) e ⌝ }
 {
     let value = e.value;
-    let class = rules::class_of(e.kind);
+    let class = rules::class_of(book, e.kind);
     let flat = draft::flatten(value);
     if flat.form == draft::form_of(class) {
         if flat.form < TEXT {
@@ -181,9 +182,9 @@ fn entry_length(e: Entry, texts: &[u8]) -> u8
     }
 }
 
-fn measure_entries(draft: Draft, texts: &[u8]) -> Measure
+fn measure_entries(book: Book, draft: Draft, texts: &[u8]) -> Measure
     requires { ⌜ draft .count ≤ most ⌝ }
-    ensures { λ r. ⌜ r ≡ measureFrom (now (texts .entry)) 0 0 (used draft) ⌝ }
+    ensures { λ r. ⌜ r ≡ measureFrom (rulesOf book) (now (texts .entry)) 0 0 (used draft) ⌝ }
 {
     let n = draft.count;
     let entries = draft.entries;
@@ -191,7 +192,7 @@ fn measure_entries(draft: Draft, texts: &[u8]) -> Measure
     let mut i = 0;
     while i < n {
         let e = entries[i];
-        let length = entry_length(e, texts);
+        let length = entry_length(book, e, texts);
         if length == 0 {
             return Measure::Bad(i as u16);
         }
@@ -205,7 +206,7 @@ fn refusal(number: u8, place: u16) -> Written
     ensures { λ r. ⌜ r ≡ declined number place ⌝ }
 {
     Written::Declined {
-        fault: Fault { number, place },
+        fault: rules::noted(number, place),
     }
 }
 
@@ -224,11 +225,11 @@ fn with_room(size: usize, room: usize) -> Written
     }
 }
 
-fn with_entries(draft: Draft, texts: &[u8], room: usize) -> Written
+fn with_entries(book: Book, draft: Draft, texts: &[u8], room: usize) -> Written
     requires { ⌜ draft .count ≤ most ⌝ }
-    ensures { λ r. ⌜ r ≡ measuredOf document01 draft (now (texts .entry)) room ⌝ }
+    ensures { λ r. ⌜ r ≡ measuredOf (rulesOf book) draft (now (texts .entry)) room ⌝ }
 {
-    let measured = measure_entries(draft, texts);
+    let measured = measure_entries(book, draft, texts);
     match measured {
         Measure::Bad(i) => refusal(12, i),
         Measure::Size(size) => with_room(size, room),
@@ -236,8 +237,8 @@ fn with_entries(draft: Draft, texts: &[u8], room: usize) -> Written
 }
 
 // What the writer answers, in document 01's order: 11, 14, the 85 entries of 13, 12 from the first entry on, the 255 octets of 13, and 15.
-fn judge(draft: Draft, texts: &[u8], room: usize) -> Written
-    ensures { λ r. ⌜ r ≡ writeOf document01 draft (now (texts .entry)) room ⌝ }
+fn judge(book: Book, draft: Draft, texts: &[u8], room: usize) -> Written
+    ensures { λ r. ⌜ r ≡ writeOf (rulesOf book) draft (now (texts .entry)) room ⌝ }
 {
     if rules::message_kind(draft.kind) {
         if draft.count == 0 {
@@ -246,7 +247,7 @@ fn judge(draft: Draft, texts: &[u8], room: usize) -> Written
         if rules::MOST < draft.count {
             return refusal(13, 0);
         }
-        with_entries(draft, texts, room)
+        with_entries(book, draft, texts, room)
     } else {
         refusal(11, 0)
     }
@@ -337,11 +338,11 @@ fn put_message(draft: Draft, texts: &[u8], out: &mut [u8], size: u8)
 }
 
 // Writes the message that a draft stands for to the start of the output, or refuses; octets after the message stay, and in a refusal all of them.
-pub fn write(draft: Draft, texts: &[u8], out: &mut [u8]) -> Written
-    ensures answer { λ r. ⌜ r ≡ writeOf document01 draft (now (texts .entry)) (list.length (now (out .entry))) ⌝ }
+pub fn write(book: Book, draft: Draft, texts: &[u8], out: &mut [u8]) -> Written
+    ensures answer { λ r. ⌜ r ≡ writeOf (rulesOf book) draft (now (texts .entry)) (list.length (now (out .entry))) ⌝ }
     ensures output { λ r. ⌜ now (out .exit) ≡ outputAfter r (octets (messageOf draft (now (texts .entry)))) (now (out .entry)) ⌝ }
 {
-    let answer = judge(draft, texts, out.len());
+    let answer = judge(book, draft, texts, out.len());
     match answer {
         Written::Message { size } => {
             put_message(draft, texts, out, (size - 3) as u8);

@@ -15,7 +15,7 @@ enum-known-part : tie.Need-enum-known-part
 enum-known-part c = search needs
 
 by-entry-requires : tie.Need-by-entry-requires
-by-entry-requires c κs = omega (arith, counted-inside _ _ _ _ (sym (c .before .before .before .counted .ensures) ∙ c .before .part .given .1))
+by-entry-requires c κs = omega (arith, counted-inside _ _ _ _ _ (sym (c .before .before .before .counted .ensures) ∙ c .before .part .given .1))
 
 enum-told : tie.Need-enum-told
 enum-told c = search needs

@@ -1,7 +1,6 @@
 -- `caption::caption` meets its contract: the part that `find` finds lies inside its slice, and is cut out of it.
 -- Assumes nothing.
 use native.Mathlib.Omega.{arith}
-use Rattle.rules.specs.Table.{document01}
 use Rattle.caption.proofs.Inside.{in-message, in-directory, message-part, directory-part, refused-part}
 use borrow.Author.Needs.{needs}
 use Rattle.caption.proofs.caption.Statement.{statement}
@@ -14,7 +13,7 @@ enum-known-found : tie.Need-enum-known-found
 enum-known-found c = search needs
 
 add-result : tie.Need-add-result
-add-result c = omega (arith, in-message document01 (c .before .before .before .before .before .before .args .message .now) (c .before .before .before .before .before .before .args .directory .now) _ (c .before .before .before .find .ensures) _ _ (c .before .found .given .1))
+add-result c = omega (arith, in-message _ (c .before .before .before .before .before .before .args .message .now) (c .before .before .before .before .before .before .args .directory .now) _ (c .before .before .before .find .ensures) _ _ (c .before .found .given .1))
 
 sub-result : tie.Need-sub-result
 sub-result c = search needs
@@ -23,13 +22,13 @@ part-result-start : tie.Need-part-result-start
 part-result-start c = search needs
 
 part-result-end : tie.Need-part-result-end
-part-result-end c = in-message document01 (c .before .before .before .before .before .before .args .message .now) (c .before .before .before .before .before .before .args .directory .now) _ (c .before .before .before .find .ensures) _ _ (c .before .found .given .1)
+part-result-end c = in-message _ (c .before .before .before .before .before .before .args .message .now) (c .before .before .before .before .before .before .args .directory .now) _ (c .before .before .before .find .ensures) _ _ (c .before .found .given .1)
 
 enum-known-found-2 : tie.Need-enum-known-found-2
 enum-known-found-2 c = search needs
 
 add-result-2 : tie.Need-add-result-2
-add-result-2 c = omega (arith, in-directory document01 (c .before .before .before .before .before .before .args .message .now) (c .before .before .before .before .before .before .args .directory .now) _ (c .before .before .before .find .ensures) _ _ (c .before .found2 .given .1))
+add-result-2 c = omega (arith, in-directory _ (c .before .before .before .before .before .before .args .message .now) (c .before .before .before .before .before .before .args .directory .now) _ (c .before .before .before .find .ensures) _ _ (c .before .found2 .given .1))
 
 sub-result-2 : tie.Need-sub-result-2
 sub-result-2 c = search needs
@@ -38,7 +37,7 @@ part-result-start-2 : tie.Need-part-result-start-2
 part-result-start-2 c = search needs
 
 part-result-end-2 : tie.Need-part-result-end-2
-part-result-end-2 c = in-directory document01 (c .before .before .before .before .before .before .args .message .now) (c .before .before .before .before .before .before .args .directory .now) _ (c .before .before .before .find .ensures) _ _ (c .before .found2 .given .1)
+part-result-end-2 c = in-directory _ (c .before .before .before .before .before .before .args .message .now) (c .before .before .before .before .before .before .args .directory .now) _ (c .before .before .before .find .ensures) _ _ (c .before .found2 .given .1)
 
 enum-known-found-3 : tie.Need-enum-known-found-3
 enum-known-found-3 c = search needs
@@ -49,17 +48,17 @@ slice-aggregate-result c = search needs
 returns : tie.Need-returns
 returns c =
     let start = c .before .before .before .before .before .before .before in
-    message-part document01 (start .args .message .now) (start .args .directory .now) _ (c .before .before .before .before .find .ensures) _ _ (c .before .before .found .given .1)
+    message-part _ (start .args .message .now) (start .args .directory .now) _ (c .before .before .before .before .find .ensures) _ _ (c .before .before .found .given .1)
 
 returns-2 : tie.Need-returns-2
 returns-2 c =
     let start = c .before .before .before .before .before .before .before in
-    directory-part document01 (start .args .message .now) (start .args .directory .now) _ (c .before .before .before .before .find .ensures) _ _ (c .before .before .found2 .given .1)
+    directory-part _ (start .args .message .now) (start .args .directory .now) _ (c .before .before .before .before .find .ensures) _ _ (c .before .before .found2 .given .1)
 
 returns-3 : tie.Need-returns-3
 returns-3 c =
     let start = c .before .before .before .before .before .before .before in
-    refused-part document01 (start .args .message .now) (start .args .directory .now) _ (c .before .before .before .before .find .ensures) _ (c .before .before .found3 .given .1)
+    refused-part _ (start .args .message .now) (start .args .directory .now) _ (c .before .before .before .before .find .ensures) _ (c .before .before .found3 .given .1)
 
 pub caption-spec : {M : Type 1} → statement M
 caption-spec =

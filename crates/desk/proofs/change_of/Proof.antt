@@ -19,7 +19,7 @@ cast-end : tie.Need-cast-end
 cast-end c = search needs
 
 add-end : tie.Need-add-end
-add-end c = let h = counted-inside _ _ _ _ (sym (c .before .before .before .counted .ensures) ∙ c .before .part .given .1) in search (needs, h)
+add-end c = let h = counted-inside _ _ _ _ _ (sym (c .before .before .before .counted .ensures) ∙ c .before .part .given .1) in search (needs, h)
 
 sub-change-in : tie.Need-sub-change-in
 sub-change-in c = search needs
@@ -28,7 +28,7 @@ part-change-in-start : tie.Need-part-change-in-start
 part-change-in-start c = search needs
 
 part-change-in-end : tie.Need-part-change-in-end
-part-change-in-end c = let h = counted-inside _ _ _ _ (sym (c .before .before .before .counted .ensures) ∙ c .before .part .given .1) in omega (arith, h)
+part-change-in-end c = let h = counted-inside _ _ _ _ _ (sym (c .before .before .before .counted .ensures) ∙ c .before .part .given .1) in omega (arith, h)
 
 change-in-requires : tie.Need-change-in-requires
 change-in-requires c κs = search needs
@@ -41,11 +41,11 @@ unfolding changeOf
 returns c =
     let f = c .before .before .before .before .before .counted .ensures in
     let e = c .before .before .before .part .given .1 in
-    rw (counts-slice _ _ _ f _ _ e) (c .change-in .ensures)
+    rw (counts-slice _ _ _ _ f _ _ e) (c .change-in .ensures)
 
 returns-2 : tie.Need-returns-2
 unfolding changeOf
-returns-2 c = rw (counts-none _ _ _ (c .before .before .counted .ensures) (c .enum-told .given .1)) refl
+returns-2 c = rw (counts-none _ _ _ _ (c .before .before .counted .ensures) (c .enum-told .given .1)) refl
 
 pub change-of-spec : {M : Type 1} → statement M
 change-of-spec =

@@ -15,7 +15,7 @@ enum-known-part : tie.Need-enum-known-part
 enum-known-part c = search needs
 
 shared-slice-read-if1 : tie.Need-shared-slice-read-if1
-shared-slice-read-if1 c = start-inside _ (c .before .before .before .before .before .before .pre) _ _ _ (sym (c .before .before .before .before .counted .ensures) ∙ c .before .before .part .given .1)
+shared-slice-read-if1 c = start-inside _ _ (c .before .before .before .before .before .before .pre) _ _ _ (sym (c .before .before .before .before .counted .ensures) ∙ c .before .before .part .given .1)
 
 enum-told : tie.Need-enum-told
 enum-told c = search needs
@@ -25,20 +25,20 @@ unfolding lampAfter
 returns c =
     let f = c .before .before .before .before .before .counted .ensures in
     let e = c .before .before .before .part .given .1 in
-    let x = first-octet _ (c .before .before .before .before .before .before .before .pre) _ _ _ (sym f ∙ e) in
-    rw (counts-some _ _ _ f _ _ e) (pick-t _ _ _ _ (yes-eq _ _ (x ∙ c .if1 .taken)) refl)
+    let x = first-octet _ _ (c .before .before .before .before .before .before .before .pre) _ _ _ (sym f ∙ e) in
+    rw (counts-some _ _ _ _ f _ _ e) (pick-t _ _ _ _ (yes-eq _ _ (x ∙ c .if1 .taken)) refl)
 
 returns-2 : tie.Need-returns-2
 unfolding lampAfter
 returns-2 c =
     let f = c .before .before .before .before .before .counted .ensures in
     let e = c .before .before .before .part .given .1 in
-    let x = first-octet _ (c .before .before .before .before .before .before .before .pre) _ _ _ (sym f ∙ e) in
-    rw (counts-some _ _ _ f _ _ e) (pick-f _ _ _ _ (no-eq _ _ (λ z. c .if1 .left (sym x ∙ z))) refl)
+    let x = first-octet _ _ (c .before .before .before .before .before .before .before .pre) _ _ _ (sym f ∙ e) in
+    rw (counts-some _ _ _ _ f _ _ e) (pick-f _ _ _ _ (no-eq _ _ (λ z. c .if1 .left (sym x ∙ z))) refl)
 
 returns-3 : tie.Need-returns-3
 unfolding lampAfter
-returns-3 c = rw (counts-none _ _ _ (c .before .before .counted .ensures) (c .enum-told .given .1)) refl
+returns-3 c = rw (counts-none _ _ _ _ (c .before .before .counted .ensures) (c .enum-told .given .1)) refl
 
 pub lamp-after-spec : {M : Type 1} → statement M
 lamp-after-spec =

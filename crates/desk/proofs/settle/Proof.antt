@@ -4,7 +4,7 @@ use mathlib.Core.Path.{refl, sym, _∙_}
 use native.Mathlib.Omega.{arith}
 use Rattle.rules.specs.Octets.{octets-at}
 use Rattle.rules.specs.Returns.{pick-t, pick-f, via}
-use Rattle.message.specs.Judges.{judges}
+use Rattle.message.specs.Judges.{judges-of}
 use Rattle.desk.specs.Settle.{settledUnder, settleOf}
 use borrow.Author.Needs.{needs}
 use Rattle.desk.proofs.settle.Statement.{statement}
@@ -22,7 +22,7 @@ enum-known-verdict c = search needs
 settle-message-requires : tie.Need-settle-message-requires
 settle-message-requires c κs =
     let o = octets-at (c .before .before .before .before .before .before .before .before .args .octets .now) (λ i. omega (arith, c .before .before .before .before .before .before .before .shared-slice-known .given i)) in
-    judges _ o .accepted _ .0 (sym (c .before .before .before .judge .ensures) ∙ c .before .verdict .given .1) .1
+    judges-of (c .before .before .before .before .before .before .before .before .args .book) _ o .accepted _ .0 (sym (c .before .before .before .judge .ensures) ∙ c .before .verdict .given .1) .1
 
 enum-known-verdict-2 : tie.Need-enum-known-verdict-2
 enum-known-verdict-2 c = search needs

@@ -2,7 +2,7 @@
 -- Assumes nothing.
 use mathlib.Core.Path.{refl}
 use native.Mathlib.Omega.{arith}
-use Rattle.rules.specs.Unique.{document01-told}
+use Rattle.rules.specs.Calls.{accepted-size}
 use Rattle.rules.specs.Returns.{pick-t, pick-f, yes-eq, no-eq}
 use Rattle.desk.specs.Settle.{settledMessage}
 use borrow.Author.Needs.{needs}
@@ -10,7 +10,7 @@ use Rattle.desk.proofs.settle_message.Statement.{statement}
 use Rattle.desk.proofs.settle_message.Tie as tie
 
 shared-slice-read-if1 : tie.Need-shared-slice-read-if1
-shared-slice-read-if1 c = omega (arith, document01-told .size _ (c .before .before .pre) .0)
+shared-slice-read-if1 c = omega (arith, accepted-size _ _ (c .before .before .pre) .0)
 
 settle-notice-requires : tie.Need-settle-notice-requires
 settle-notice-requires c κs = search needs

@@ -15,7 +15,7 @@ enum-known-part : tie.Need-enum-known-part
 enum-known-part c = search needs
 
 shared-slice-read-number : tie.Need-shared-slice-read-number
-shared-slice-read-number c = start-inside _ (c .before .before .before .before .before .before .pre) _ _ _ (sym (c .before .before .before .before .counted .ensures) ∙ c .before .before .part .given .1)
+shared-slice-read-number c = start-inside _ _ (c .before .before .before .before .before .before .pre) _ _ _ (sym (c .before .before .before .before .counted .ensures) ∙ c .before .before .part .given .1)
 
 enum-told : tie.Need-enum-told
 enum-told c = search needs
@@ -25,11 +25,11 @@ unfolding waitingAfter
 returns c =
     let f = c .before .before .before .before .counted .ensures in
     let e = c .before .before .part .given .1 in
-    rw (counts-some _ _ _ f _ _ e) (ap Number (sym (first-octet _ (c .before .before .before .before .before .before .pre) _ _ _ (sym f ∙ e))))
+    rw (counts-some _ _ _ _ f _ _ e) (ap Number (sym (first-octet _ _ (c .before .before .before .before .before .before .pre) _ _ _ (sym f ∙ e))))
 
 returns-2 : tie.Need-returns-2
 unfolding waitingAfter
-returns-2 c = rw (counts-none _ _ _ (c .before .before .counted .ensures) (c .enum-told .given .1)) refl
+returns-2 c = rw (counts-none _ _ _ _ (c .before .before .counted .ensures) (c .enum-told .given .1)) refl
 
 pub waiting-after-spec : {M : Type 1} → statement M
 waiting-after-spec =

@@ -19,6 +19,9 @@ possible-requires c κs = search needs
 moved-requires : tie.Need-moved-requires
 moved-requires c κs = search needs
 
+class-fault-requires : tie.Need-class-fault-requires
+class-fault-requires c κs = search needs
+
 declined-requires : tie.Need-declined-requires
 declined-requires c κs = search needs
 
@@ -27,10 +30,10 @@ unfolding final
 returns c = rw (c .before .if1 .taken) (c .at-check .ensures)
 
 returns-2 : tie.Need-returns-2
-returns-2 c = type-taken _ _ _ _ (c .before .before .before .before .if1 .left) (c .before .before .before .class-of .ensures) _ (sym (c .before .before .possible .ensures) ∙ c .before .if2 .taken) (c .moved .ensures)
+returns-2 c = type-taken _ _ _ _ _ (c .before .before .before .before .if1 .left) (c .before .before .before .class-of .ensures) _ (sym (c .before .before .possible .ensures) ∙ c .before .if2 .taken) (c .moved .ensures)
 
 returns-3 : tie.Need-returns-3
-returns-3 c = type-declined _ _ _ _ (c .before .before .before .before .if1 .left) (c .before .before .before .class-of .ensures) _ (sym (c .before .before .possible .ensures) ∙ c .before .if2 .left) (c .declined .ensures)
+returns-3 c = type-declined _ _ _ _ _ (c .before .before .before .before .before .if1 .left) (c .before .before .before .before .class-of .ensures) _ _ (c .before .class-fault .ensures) (sym (c .before .before .before .possible .ensures) ∙ c .before .before .if2 .left) (c .declined .ensures)
 
 pub at-header-spec : {M : Type 1} → statement M
 at-header-spec =
@@ -40,6 +43,7 @@ at-header-spec =
     class-of-requires
     possible-requires
     moved-requires
+    class-fault-requires
     declined-requires
     returns
     returns-2

@@ -2,7 +2,6 @@
 -- Assumes nothing.
 use mathlib.Core.Path.{refl, sym, _∙_}
 use Rattle.rules.specs.Judge.{final, fits, after, fault}
-use Rattle.rules.specs.Table.{document01}
 use Rattle.rules.specs.Steps.{takes, declines}
 use borrow.Author.Needs.{needs}
 use Rattle.listener.proofs.at_kind.Statement.{statement}
@@ -18,12 +17,12 @@ declined-requires : tie.Need-declined-requires
 declined-requires c κs = search needs
 
 returns : tie.Need-returns
-unfolding final fits after fault document01
-returns c = takes document01 _ _ _ _ _ refl (sym (c .before .before .message-kind .ensures) ∙ c .before .if1 .taken) refl (c .moved .ensures)
+unfolding final fits after fault
+returns c = takes _ _ _ _ _ _ refl (sym (c .before .before .message-kind .ensures) ∙ c .before .if1 .taken) refl (c .moved .ensures)
 
 returns-2 : tie.Need-returns-2
-unfolding final fits after fault document01
-returns-2 c = declines document01 _ _ _ _ refl (sym (c .before .before .message-kind .ensures) ∙ c .before .if1 .left) (c .declined .ensures)
+unfolding final fits after fault
+returns-2 c = declines _ _ _ _ _ refl (sym (c .before .before .message-kind .ensures) ∙ c .before .if1 .left) (c .declined .ensures)
 
 pub at-kind-spec : {M : Type 1} → statement M
 at-kind-spec =

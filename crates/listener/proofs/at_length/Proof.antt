@@ -5,7 +5,6 @@ use native.Mathlib.Omega.{arith}
 use Rattle.rules.specs.Tests.{both}
 use Rattle.rules.specs.Judge.{final, fits, contents, after, fault}
 use Rattle.rules.specs.Returns.{T-of}
-use Rattle.rules.specs.Table.{document01}
 use Rattle.rules.specs.Steps.{takes, declines, room-left}
 use borrow.Author.Needs.{needs}
 use Rattle.listener.proofs.at_length.Statement.{statement}
@@ -33,11 +32,11 @@ declined-requires c κs = search needs
 
 returns : tie.Need-returns
 unfolding final fits after fault
-returns c = takes document01 _ _ _ _ _ refl (sym (c .before .before .before .length-fits .ensures) ∙ c .before .before .if1 .taken) (c .before .contents .ensures ∙ ap (contents _ _ 0 0) (omega arith)) (c .moved .ensures)
+returns c = takes _ _ _ _ _ _ refl (sym (c .before .before .before .length-fits .ensures) ∙ c .before .before .if1 .taken) (c .before .contents .ensures ∙ ap (contents _ _ 0 0) (omega arith)) (c .moved .ensures)
 
 returns-2 : tie.Need-returns-2
 unfolding final fits after fault
-returns-2 c = declines document01 _ _ _ _ refl (sym (c .before .before .length-fits .ensures) ∙ c .before .if1 .left) (c .declined .ensures)
+returns-2 c = declines _ _ _ _ _ refl (sym (c .before .before .length-fits .ensures) ∙ c .before .if1 .left) (c .declined .ensures)
 
 pub at-length-spec : {M : Type 1} → statement M
 at-length-spec =

@@ -2,7 +2,6 @@
 -- Assumes nothing.
 use mathlib.Core.Path.{refl}
 use Rattle.rules.specs.Judge.{final, fits, after, fault}
-use Rattle.rules.specs.Table.{document01}
 use Rattle.rules.specs.Returns.{yes-le, no-le}
 use Rattle.rules.specs.Steps.{takes, declines}
 use borrow.Author.Needs.{needs}
@@ -16,12 +15,12 @@ declined-requires : tie.Need-declined-requires
 declined-requires c κs = search needs
 
 returns : tie.Need-returns
-unfolding final fits after fault document01
-returns c = takes document01 _ _ _ _ _ refl (yes-le _ _ (c .before .if1 .taken)) refl (c .moved .ensures)
+unfolding final fits after fault
+returns c = takes _ _ _ _ _ _ refl (yes-le _ _ (c .before .if1 .taken)) refl (c .moved .ensures)
 
 returns-2 : tie.Need-returns-2
-unfolding final fits after fault document01
-returns-2 c = declines document01 _ _ _ _ refl (no-le _ _ (c .before .if1 .left)) (c .declined .ensures)
+unfolding final fits after fault
+returns-2 c = declines _ _ _ _ _ refl (no-le _ _ (c .before .if1 .left)) (c .declined .ensures)
 
 pub at-size-spec : {M : Type 1} → statement M
 at-size-spec = tie.close (tie.spec moved-requires declined-requires returns returns-2)

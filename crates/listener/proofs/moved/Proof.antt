@@ -8,11 +8,11 @@ use Rattle.listener.proofs.moved.Tie as tie
 wrapping-add-u8-requires : tie.Need-wrapping-add-u8-requires
 wrapping-add-u8-requires c κs = search needs
 
-add-t5 : tie.Need-add-t5
-add-t5 c = search needs
+add-t6 : tie.Need-add-t6
+add-t6 c = search needs
 
 returns : tie.Need-returns
 returns c = rw (c .before .wrapping-add-u8 .ensures, add-one)
 
 pub moved-spec : {M : Type 1} → statement M
-moved-spec = tie.close (tie.spec wrapping-add-u8-requires add-t5 returns)
+moved-spec = tie.close (tie.spec wrapping-add-u8-requires add-t6 returns)

@@ -6,7 +6,7 @@ use Prim.Native.Nat.{_≤_, _-_}
 use native.Mathlib.Omega.{arith}
 use lib.ListN.{length, drop}
 use lib.Dec.{T}
-use Rattle.rules.specs.Table.{document01}
+use Rattle.rules.specs.Table.{rulesOf}
 use Rattle.rules.specs.Judge.{machine, inRange}
 use Rattle.rules.specs.declared.State.{State}
 use Rattle.listener.specs.Heard.{stopped, runFrom, runOf}
@@ -16,10 +16,10 @@ use Rattle.listener.proofs.run.Statement.{statement}
 use Rattle.listener.proofs.run.Tie as tie
 
 abbrev Inv-loop : tie.InvT-loop
-Inv-loop octets cur₀ i₀ cur i = (i ≤ length octets) × T (inRange document01 cur) × (runFrom i (machine document01) cur (drop i octets) ≡ runOf (machine document01) cur₀ octets)
+Inv-loop book octets cur₀ i₀ cur i = (i ≤ length octets) × T (inRange (rulesOf book) cur) × (runFrom i (machine (rulesOf book)) cur (drop i octets) ≡ runOf (machine (rulesOf book)) cur₀ octets)
 
 abbrev μ-loop : tie.MeasureT-loop
-μ-loop octets cur₀ i₀ cur i = length octets - i
+μ-loop book octets cur₀ i₀ cur i = length octets - i
 
 loop-holds : tie.Need-loop-holds Inv-loop μ-loop
 loop-holds c = (search needs, c .before .pre, run-zero _ _ _)
@@ -28,7 +28,7 @@ enum-known-cur : tie.Need-enum-known-cur Inv-loop μ-loop
 enum-known-cur c = search needs
 
 onward-requires : tie.Need-onward-requires Inv-loop μ-loop
-onward-requires c κs = (subst (λ (w : State). T (inRange document01 w)) (c .before .cur .given .1) (c .before .before .before .before .loop .inv .1), c .before .before .before .loop-test .taken)
+onward-requires c κs = (subst (λ (w : State). T (inRange (rulesOf (c .before .before .before .before .before .before .args .book)) w)) (c .before .cur .given .1) (c .before .before .before .before .loop .inv .1), c .before .before .before .loop-test .taken)
 
 loop-less : tie.Need-loop-less Inv-loop μ-loop
 loop-less c = omega (arith, c .onward .ensures .further, c .onward .ensures .inside)
@@ -37,7 +37,7 @@ loop-again : tie.Need-loop-again Inv-loop μ-loop
 loop-again c =
     let on = c .onward .ensures in
     let at = c .before .before .before .before .before .loop in
-    (on .inside, on .in-range, on .same ∙ ap (λ (w : State). runFrom (at .i) (machine document01) w (drop (at .i) (c .before .before .before .before .before .before .before .args .octets .now))) (sym (c .before .before .cur .given .1)) ∙ at .inv .2)
+    (on .inside, on .in-range, on .same ∙ ap (λ (w : State). runFrom (at .i) (machine (rulesOf (c .before .before .before .before .before .before .before .args .book))) w (drop (at .i) (c .before .before .before .before .before .before .before .args .octets .now))) (sym (c .before .before .cur .given .1)) ∙ at .inv .2)
 
 enum-told : tie.Need-enum-told Inv-loop μ-loop
 enum-told c = search needs

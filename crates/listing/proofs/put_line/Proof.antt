@@ -1,7 +1,8 @@
 -- `listing::put_line` meets its contract: key, value and line end, one behind the other.
 -- Assumes nothing.
 use mathlib.Core.Path.{_∙_, ap}
-use Rattle.rules.specs.Table.{document01, classOf, styleOf, ascii}
+use Rattle.rules.specs.Table.{rulesOf, classOf, styleOf, ascii}
+use Rattle.rules.specs.declared.Book.the-variants.{PresentLenient}
 use Rattle.rules.specs.declared.Class.{Class}
 use Rattle.listing.specs.Put.{put-three, put-same, room-first, room-second, room-third}
 use Rattle.listing.proofs.Putting.{room-same}
@@ -25,13 +26,13 @@ put-value-requires : tie.Need-put-value-requires
 unfolding lineText lineOf kinds ascii
 put-value-requires c κs =
     let start = c .before .before .before .before .before .before .before .before in
-    room-same _ _ _ _ (ap (λ (k : Class). printed (styleOf k) (start .args .contents .now)) (c .before .before .before .before .before .class-of .ensures ∙ ap (classOf document01) (key-at (start .args .i) (start .pre .0) .kind))) (room-second _ _ _ _ _ (start .pre .1) _ _ (c .before .before .before .put-key .ensures))
+    room-same _ _ _ _ (ap (λ (k : Class). printed (styleOf k) (start .args .contents .now)) (c .before .before .before .before .before .class-of .ensures ∙ ap (classOf (rulesOf PresentLenient)) (key-at (start .args .i) (start .pre .0) .kind))) (room-second _ _ _ _ _ (start .pre .1) _ _ (c .before .before .before .put-key .ensures))
 
 put-octet-requires : tie.Need-put-octet-requires
 unfolding lineText lineOf kinds ascii
 put-octet-requires c κs =
     let start = c .before .before .before .before .before .before .before .before .before .before .before .before in
-    room-third _ _ _ _ _ (start .pre .1) _ _ (c .before .before .before .before .before .before .before .put-key .ensures) _ _ (put-same _ _ _ _ _ _ (ap (λ (k : Class). printed (styleOf k) (start .args .contents .now)) (c .before .before .before .before .before .before .before .before .before .class-of .ensures ∙ ap (classOf document01) (key-at (start .args .i) (start .pre .0) .kind))) (c .before .before .before .put-value .ensures))
+    room-third _ _ _ _ _ (start .pre .1) _ _ (c .before .before .before .before .before .before .before .put-key .ensures) _ _ (put-same _ _ _ _ _ _ (ap (λ (k : Class). printed (styleOf k) (start .args .contents .now)) (c .before .before .before .before .before .before .before .before .before .class-of .ensures ∙ ap (classOf (rulesOf PresentLenient)) (key-at (start .args .i) (start .pre .0) .kind))) (c .before .before .before .put-value .ensures))
 
 same-length : tie.Need-same-length
 same-length c = search needs
@@ -40,7 +41,7 @@ returns : tie.Need-returns
 unfolding lineText lineOf kinds ascii
 returns c =
     let start = c .before .before .before .before .before .before .before .before .before .before .before .before .before .before .before in
-    put-three _ _ _ _ _ _ _ _ _ _ _ (c .before .before .before .before .before .before .before .before .before .before .put-key .ensures) (put-same _ _ _ _ _ _ (ap (λ (k : Class). printed (styleOf k) (start .args .contents .now)) (c .before .before .before .before .before .before .before .before .before .before .before .before .class-of .ensures ∙ ap (classOf document01) (key-at (start .args .i) (start .pre .0) .kind))) (c .before .before .before .before .before .before .put-value .ensures)) (c .before .before .put-octet .ensures)
+    put-three _ _ _ _ _ _ _ _ _ _ _ (c .before .before .before .before .before .before .before .before .before .before .put-key .ensures) (put-same _ _ _ _ _ _ (ap (λ (k : Class). printed (styleOf k) (start .args .contents .now)) (c .before .before .before .before .before .before .before .before .before .before .before .before .class-of .ensures ∙ ap (classOf (rulesOf PresentLenient)) (key-at (start .args .i) (start .pre .0) .kind))) (c .before .before .before .before .before .before .put-value .ensures)) (c .before .before .put-octet .ensures)
 
 pub put-line-spec : {M : Type 1} → statement M
 put-line-spec =

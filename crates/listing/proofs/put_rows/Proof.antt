@@ -5,14 +5,15 @@ use native.Mathlib.Omega.{arith}
 use lib.ListN.{take}
 use Rattle.listing.specs.Put.{Put}
 use Rattle.listing.specs.Listing.{rowsAt, rowCount, written}
-use Rattle.rules.specs.Table.{document01}
+use Rattle.rules.specs.Table.{rulesOf}
+use Rattle.rules.specs.declared.Book.the-variants.{PresentLenient}
 use Rattle.listing.proofs.Rows.{no-rows, row-room, row-more, all-rows}
 use borrow.Author.Needs.{needs}
 use Rattle.listing.proofs.put_rows.Statement.{statement}
 use Rattle.listing.proofs.put_rows.Tie as tie
 
 abbrev Inv-loop : tie.InvT-loop
-Inv-loop octets out₀ at end₀ i₀ out end i = (i ≤ rowCount) × Put (written (rowsAt document01 octets (take i (document01 .rows)))) at out₀ end out
+Inv-loop octets out₀ at end₀ i₀ out end i = (i ≤ rowCount) × Put (written (rowsAt (rulesOf PresentLenient) octets (take i ((rulesOf PresentLenient) .rows)))) at out₀ end out
 
 abbrev μ-loop : tie.MeasureT-loop
 μ-loop octets out₀ at end₀ i₀ out end i = rowCount - i

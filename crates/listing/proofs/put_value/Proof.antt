@@ -102,6 +102,43 @@ put-hex-requires-3 c κs = room-same _ _ _ _ (ap hex (c .before .octet5 .ensures
 enum-told-11 : tie.Need-enum-told-11
 enum-told-11 c = search needs
 
+enum-told-12 : tie.Need-enum-told-12
+enum-told-12 c = search needs
+
+put-requires-4 : tie.Need-put-requires-4
+unfolding printed styleOf
+put-requires-4 c κs = room-same _ _ _ _ (ap (λ (k : Class). printed (styleOf k) (c .before .before .before .before .before .args .contents .now)) (sym (c .before .enum-told12 .given .1))) (c .before .before .before .before .before .pre)
+
+enum-told-13 : tie.Need-enum-told-13
+enum-told-13 c = search needs
+
+put-requires-5 : tie.Need-put-requires-5
+unfolding printed styleOf
+put-requires-5 c κs = room-same _ _ _ _ (ap (λ (k : Class). printed (styleOf k) (c .before .before .before .before .before .args .contents .now)) (sym (c .before .enum-told13 .given .1))) (c .before .before .before .before .before .pre)
+
+enum-told-14 : tie.Need-enum-told-14
+enum-told-14 c = search needs
+
+octet-requires-6 : tie.Need-octet-requires-6
+octet-requires-6 c κs = search needs
+
+put-hex-requires-4 : tie.Need-put-hex-requires-4
+unfolding printed styleOf
+put-hex-requires-4 c κs = room-same _ _ _ _ (ap hex (c .before .octet6 .ensures) ∙ ap (λ (k : Class). printed (styleOf k) (c .before .before .before .before .before .before .args .contents .now)) (sym (c .before .before .enum-told14 .given .1))) (c .before .before .before .before .before .before .pre)
+
+enum-told-15 : tie.Need-enum-told-15
+enum-told-15 c = search needs
+
+octet-requires-7 : tie.Need-octet-requires-7
+octet-requires-7 c κs = search needs
+
+put-hex-requires-5 : tie.Need-put-hex-requires-5
+unfolding printed styleOf
+put-hex-requires-5 c κs = room-same _ _ _ _ (ap hex (c .before .octet7 .ensures) ∙ ap (λ (k : Class). printed (styleOf k) (c .before .before .before .before .before .before .args .contents .now)) (sym (c .before .before .enum-told15 .given .1))) (c .before .before .before .before .before .before .pre)
+
+enum-told-16 : tie.Need-enum-told-16
+enum-told-16 c = search needs
+
 same-length : tie.Need-same-length
 same-length c = search needs
 
@@ -176,6 +213,38 @@ returns-11 : tie.Need-returns-11
 unfolding printed styleOf
 returns-11 c = put-same _ _ _ _ _ _ (ap (λ (k : Class). printed (styleOf k) (c .before .before .before .before .args .contents .now)) (sym (c .enum-told11 .given .1))) (put-none _ _)
 
+same-length-11 : tie.Need-same-length-11
+same-length-11 c = search needs
+
+returns-12 : tie.Need-returns-12
+unfolding printed styleOf
+returns-12 c = put-same _ _ _ _ _ _ (ap (λ (k : Class). printed (styleOf k) (c .before .before .before .before .before .before .before .before .args .contents .now)) (sym (c .before .before .before .before .enum-told12 .given .1))) (c .before .before .put4 .ensures)
+
+same-length-12 : tie.Need-same-length-12
+same-length-12 c = search needs
+
+returns-13 : tie.Need-returns-13
+unfolding printed styleOf
+returns-13 c = put-same _ _ _ _ _ _ (ap (λ (k : Class). printed (styleOf k) (c .before .before .before .before .before .before .before .before .args .contents .now)) (sym (c .before .before .before .before .enum-told13 .given .1))) (c .before .before .put5 .ensures)
+
+same-length-13 : tie.Need-same-length-13
+same-length-13 c = search needs
+
+returns-14 : tie.Need-returns-14
+unfolding printed styleOf
+returns-14 c = put-same _ _ _ _ _ _ (ap hex (c .before .before .before .before .octet6 .ensures) ∙ ap (λ (k : Class). printed (styleOf k) (c .before .before .before .before .before .before .before .before .before .args .contents .now)) (sym (c .before .before .before .before .before .enum-told14 .given .1))) (c .before .before .put-hex4 .ensures)
+
+same-length-14 : tie.Need-same-length-14
+same-length-14 c = search needs
+
+returns-15 : tie.Need-returns-15
+unfolding printed styleOf
+returns-15 c = put-same _ _ _ _ _ _ (ap hex (c .before .before .before .before .octet7 .ensures) ∙ ap (λ (k : Class). printed (styleOf k) (c .before .before .before .before .before .before .before .before .before .args .contents .now)) (sym (c .before .before .before .before .before .enum-told15 .given .1))) (c .before .before .put-hex5 .ensures)
+
+returns-16 : tie.Need-returns-16
+unfolding printed styleOf
+returns-16 c = put-same _ _ _ _ _ _ (ap (λ (k : Class). printed (styleOf k) (c .before .before .before .before .args .contents .now)) (sym (c .enum-told16 .given .1))) (put-none _ _)
+
 pub put-value-spec : {M : Type 1} → statement M
 put-value-spec =
     tie.close
@@ -207,6 +276,17 @@ put-value-spec =
     octet-requires-5
     put-hex-requires-3
     enum-told-11
+    enum-told-12
+    put-requires-4
+    enum-told-13
+    put-requires-5
+    enum-told-14
+    octet-requires-6
+    put-hex-requires-4
+    enum-told-15
+    octet-requires-7
+    put-hex-requires-5
+    enum-told-16
     same-length
     returns
     same-length-2
@@ -227,4 +307,13 @@ put-value-spec =
     returns-9
     same-length-10
     returns-10
-    returns-11)
+    returns-11
+    same-length-11
+    returns-12
+    same-length-12
+    returns-13
+    same-length-13
+    returns-14
+    same-length-14
+    returns-15
+    returns-16)

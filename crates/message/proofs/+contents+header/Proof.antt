@@ -19,10 +19,10 @@ use Rattle.message.proofs.+contents+header.{statement}
 use Rattle.message.proofs.+contents+header.Tie.{close}
 
 abbrev μ-contents : Measures 1 contents-kinds.ps ℕ
-μ-contents κs a = a .1 .1 .1 .1 .0 * 2 + 1
+μ-contents κs a = a .1 .1 .1 .1 .1 .0 * 2 + 1
 
 abbrev μ-header : Measures 1 header-kinds.ps ℕ
-μ-header κs a = a .1 .1 .0 * 2
+μ-header κs a = a .1 .1 .1 .0 * 2
 
 abbrev contents-at : ℕ → In 1 contents-kinds.ps
 contents-at t = and 1 contents-kinds.ps (is 1 contents-kinds.ps μ-contents t) contents.Pre
@@ -91,7 +91,7 @@ contents-returns : (t : ℕ) → contents-lts.Need-returns (
   header-below t,
   header.Post,
 ) (contents-at t) contents.Post
-contents-returns t c = body-fine _ _ _ _ _ (c .before .before .before .before .inside .ensures) _ _ (c .before .before .went .given .1) (c .header .ensures)
+contents-returns t c = body-fine _ _ _ _ _ _ (c .before .before .before .before .inside .ensures _) _ _ (c .before .before .went .given .1) (c .header .ensures)
 
 contents-returns-2 : (t : ℕ) → contents-lts.Need-returns-2 (
   inside-reads.Asked,
@@ -99,7 +99,7 @@ contents-returns-2 : (t : ℕ) → contents-lts.Need-returns-2 (
   header-below t,
   header.Post,
 ) (contents-at t) contents.Post
-contents-returns-2 t c = body-wrong _ _ _ _ _ (c .before .before .before .inside .ensures) _ (c .before .went2 .given .1)
+contents-returns-2 t c = body-wrong _ _ _ _ _ _ (c .before .before .before .inside .ensures _) _ (c .before .went2 .given .1)
 
 contents-returns-3 : (t : ℕ) → contents-lts.Need-returns-3 (
   inside-reads.Asked,
@@ -107,7 +107,7 @@ contents-returns-3 : (t : ℕ) → contents-lts.Need-returns-3 (
   header-below t,
   header.Post,
 ) (contents-at t) contents.Post
-contents-returns-3 t c = body-short _ _ _ _ _ (c .before .before .inside .ensures) (c .enum-told .given .1)
+contents-returns-3 t c = body-short _ _ _ _ _ _ (c .before .before .inside .ensures _) (c .enum-told .given .1)
 
 header-check-requires : (t : ℕ) → header-lts.Need-check-requires (
   check-reads.Asked,
@@ -127,7 +127,7 @@ header-returns : (t : ℕ) → header-lts.Need-returns (
   contents-below t,
   contents.Post,
 ) (header-at t) header.Post
-header-returns t c = rw (c .before .if1 .taken) (c .check .ensures)
+header-returns t c = rw (c .before .if1 .taken) (c .check .ensures _)
 
 header-ahead-requires : (t : ℕ) → header-lts.Need-ahead-requires (
   check-reads.Asked,
@@ -197,7 +197,7 @@ header-returns-2 : (t : ℕ) → header-lts.Need-returns-2 (
   contents-below t,
   contents.Post,
 ) (header-at t) header.Post
-header-returns-2 t c = head-good _ _ _ _ (c .before .before .before .before .ahead .ensures .0) _ _ _ _ _ (c .before .before .found .given .1) (c .contents .ensures)
+header-returns-2 t c = head-good _ _ _ _ _ (c .before .before .before .before .ahead .ensures .0) _ _ _ _ _ (c .before .before .found .given .1) (c .contents .ensures)
 
 header-returns-3 : (t : ℕ) → header-lts.Need-returns-3 (
   check-reads.Asked,
@@ -207,7 +207,7 @@ header-returns-3 : (t : ℕ) → header-lts.Need-returns-3 (
   contents-below t,
   contents.Post,
 ) (header-at t) header.Post
-header-returns-3 t c = head-wrong _ _ _ _ (c .before .before .before .ahead .ensures .0) _ (c .before .found2 .given .1)
+header-returns-3 t c = head-wrong _ _ _ _ _ (c .before .before .before .ahead .ensures .0) _ (c .before .found2 .given .1)
 
 header-returns-4 : (t : ℕ) → header-lts.Need-returns-4 (
   check-reads.Asked,
@@ -217,7 +217,7 @@ header-returns-4 : (t : ℕ) → header-lts.Need-returns-4 (
   contents-below t,
   contents.Post,
 ) (header-at t) header.Post
-header-returns-4 t c = head-short _ _ _ _ (c .before .before .ahead .ensures .0) (c .enum-told .given .1)
+header-returns-4 t c = head-short _ _ _ _ _ (c .before .before .ahead .ensures .0) (c .enum-told .given .1)
 
 pub +contents+header-spec : {M : Type 1} → statement M
 +contents+header-spec = close μ-contents μ-header (λ t. contents-lts.spec (

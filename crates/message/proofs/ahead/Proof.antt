@@ -11,7 +11,7 @@ use Rattle.message.proofs.ahead.Tie as tie
 
 returns : tie.Need-returns
 unfolding onHead HeadFits
-returns c = (ends-early _ _ _ _ (c .if1 .taken), tt)
+returns c = (ends-early _ _ _ _ _ (c .if1 .taken), tt)
 
 shared-slice-read-t : tie.Need-shared-slice-read-t
 shared-slice-read-t c = search needs
@@ -31,15 +31,18 @@ wrapping-add-u8-requires c κs = search needs
 length-at-requires : tie.Need-length-at-requires
 length-at-requires c κs = search needs
 
-cast-t15 : tie.Need-cast-t15
-cast-t15 c = search needs
+class-fault-requires : tie.Need-class-fault-requires
+class-fault-requires c κs = search needs
+
+cast-t17 : tie.Need-cast-t17
+cast-t17 c = search needs
 
 returns-2 : tie.Need-returns-2
-returns-2 c = (type-on _ _ _ _ _ (λ z. omega arith) (c .before .before .before .before .before .before .if1 .left) (c .before .before .before .before .class-of .ensures) _ (c .before .wrapping-add-u8 .ensures) (sym (c .before .before .before .possible .ensures) ∙ c .before .before .if2 .taken) ∙ c .length-at .ensures .0 ∙ two-on _ _ _, c .length-at .ensures .1)
+returns-2 c = (type-on _ _ _ _ _ _ (λ z. omega arith) (c .before .before .before .before .before .before .if1 .left) (c .before .before .before .before .class-of .ensures) _ (c .before .wrapping-add-u8 .ensures) (sym (c .before .before .before .possible .ensures) ∙ c .before .before .if2 .taken) ∙ c .length-at .ensures .0 _ ∙ two-on _ _ _ _, c .length-at .ensures .1)
 
 returns-3 : tie.Need-returns-3
 unfolding onHead HeadFits
-returns-3 c = (type-spoils _ _ _ _ _ (λ z. omega arith) (c .before .before .before .before .if1 .left) (c .before .before .class-of .ensures) (sym (c .before .possible .ensures) ∙ c .if2 .left), tt)
+returns-3 c = (type-spoils _ _ _ _ _ _ (λ z. omega arith) (c .before .before .before .before .before .if1 .left) (c .before .before .before .class-of .ensures) _ (c .class-fault .ensures) (sym (c .before .before .possible .ensures) ∙ c .before .if2 .left), tt)
 
 pub ahead-spec : {M : Type 1} → statement M
 ahead-spec =
@@ -52,6 +55,7 @@ ahead-spec =
     add-length-at
     wrapping-add-u8-requires
     length-at-requires
-    cast-t15
+    class-fault-requires
+    cast-t17
     returns-2
     returns-3)

@@ -2,6 +2,7 @@
 -- The measure is what is left of the length. Assumes nothing.
 use Prim.Native.Nat.{_≤_, _-_}
 use native.Mathlib.Omega.{arith}
+use Rattle.rules.specs.Table.{Rules}
 use Rattle.rules.specs.Returns.{via}
 use Rattle.message.specs.Verdict.{onBody}
 use Rattle.message.proofs.Turns.{Read, none-read, one-more, all-read, cut-short, content-spoils}
@@ -10,13 +11,13 @@ use Rattle.message.proofs.inside.Statement.{statement}
 use Rattle.message.proofs.inside.Tie as tie
 
 abbrev Inv-loop : tie.InvT-loop
-Inv-loop s at class length room sum total₀ memory₀ index₀ total memory index = (index ≤ length) × Read s class length room sum at index memory total
+Inv-loop s at class length room sum total₀ memory₀ index₀ total memory index = (index ≤ length) × ((R : Rules) → Read R s class length room sum at index memory total)
 
 abbrev μ-loop : tie.MeasureT-loop
 μ-loop s at class length room sum total₀ memory₀ index₀ total memory index = length - index
 
 loop-holds : tie.Need-loop-holds Inv-loop μ-loop
-loop-holds c = (search needs, none-read _ _ _ _ _ _ (omega arith))
+loop-holds c = (search needs, λ R. none-read R _ _ _ _ _ _ (omega arith))
 
 cast-i : tie.Need-cast-i Inv-loop μ-loop
 cast-i c = search needs
@@ -26,7 +27,7 @@ add-i c = search needs
 
 returns : tie.Need-returns Inv-loop μ-loop
 unfolding onBody
-returns c = cut-short _ _ _ _ _ _ _ _ _ (c .before .loop-test .taken) (c .if1 .taken) (c .before .before .loop .inv .1)
+returns c R = cut-short R _ _ _ _ _ _ _ _ _ (c .before .loop-test .taken) (c .if1 .taken) (c .before .before .loop .inv .1 R)
 
 shared-slice-read-x : tie.Need-shared-slice-read-x Inv-loop μ-loop
 shared-slice-read-x c = search needs
@@ -50,7 +51,7 @@ loop-again : tie.Need-loop-again Inv-loop μ-loop
 loop-again c =
     let at = c .before .before .before .before .before .before .before .loop in (
       search needs,
-      one-more _ _ _ _ _ _ _ _ _ _ _ (c .before .before .before .before .before .before .loop-test .taken) (c .before .before .before .before .before .if1 .left) (via _ _ _ (c .before .before .before .content-ok .ensures) (c .before .before .if2 .taken)) (c .before .wrapping-add-u8 .ensures) (c .remember .ensures) (at .inv .1),
+      λ R. one-more R _ _ _ _ _ _ _ _ _ _ _ (c .before .before .before .before .before .before .loop-test .taken) (c .before .before .before .before .before .if1 .left) (via _ _ _ (c .before .before .before .content-ok .ensures) (c .before .before .if2 .taken)) (c .before .wrapping-add-u8 .ensures) (c .remember .ensures) (at .inv .1 R),
     )
 
 cast-t17 : tie.Need-cast-t17 Inv-loop μ-loop
@@ -58,11 +59,11 @@ cast-t17 c = search needs
 
 returns-2 : tie.Need-returns-2 Inv-loop μ-loop
 unfolding onBody
-returns-2 c = content-spoils _ _ _ _ _ _ _ _ _ (c .before .before .before .before .loop-test .taken) (c .before .before .before .if1 .left) (via _ _ _ (c .before .content-ok .ensures) (c .if2 .left)) (c .before .before .before .before .before .loop .inv .1)
+returns-2 c R = content-spoils R _ _ _ _ _ _ _ _ _ (c .before .before .before .before .loop-test .taken) (c .before .before .before .if1 .left) (via _ _ _ (c .before .content-ok .ensures) (c .if2 .left)) (c .before .before .before .before .before .loop .inv .1 R)
 
 returns-3 : tie.Need-returns-3 Inv-loop μ-loop
 unfolding onBody
-returns-3 c = all-read _ _ _ _ _ _ _ _ _ (c .before .loop .inv .0) (c .loop-test .left) (c .before .loop .inv .1)
+returns-3 c R = all-read R _ _ _ _ _ _ _ _ _ (c .before .loop .inv .0) (c .loop-test .left) (c .before .loop .inv .1 R)
 
 pub inside-spec : {M : Type 1} → statement M
 inside-spec =

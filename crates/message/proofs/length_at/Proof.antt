@@ -2,6 +2,7 @@
 -- Assumes nothing.
 use mathlib.Core.Path.{sym, _∙_}
 use native.Mathlib.Omega.{arith}
+use Rattle.rules.specs.Judge.{fits}
 use Rattle.message.specs.Verdict.{onHead, HeadFits}
 use Rattle.message.proofs.Turns.{ends-early, fits-facts, length-on, length-spoils}
 use borrow.Author.Needs.{needs}
@@ -10,7 +11,7 @@ use Rattle.message.proofs.length_at.Tie as tie
 
 returns : tie.Need-returns
 unfolding onHead HeadFits
-returns c = (ends-early _ _ _ _ (c .if1 .taken), tt)
+returns c = (λ R. ends-early R _ _ _ _ (c .if1 .taken), tt)
 
 shared-slice-read-n : tie.Need-shared-slice-read-n
 shared-slice-read-n c = search needs
@@ -31,12 +32,12 @@ cast-t16 : tie.Need-cast-t16
 cast-t16 c = search needs
 
 returns-2 : tie.Need-returns-2
-unfolding onHead HeadFits
-returns-2 c = let k = sym (c .before .before .length-fits .ensures) ∙ c .before .if2 .taken in (length-on _ _ _ _ _ (c .before .before .before .before .if1 .left) _ (c .wrapping-add-u8 .ensures) k, let d = fits-facts _ _ _ k in (d .0, omega (arith, d .1)))
+unfolding onHead HeadFits fits
+returns-2 c = let k = sym (c .before .before .length-fits .ensures) ∙ c .before .if2 .taken in (λ R. length-on R _ _ _ _ _ (c .before .before .before .before .if1 .left) _ (c .wrapping-add-u8 .ensures) k, let d = fits-facts _ _ _ k in (d .0, omega (arith, d .1)))
 
 returns-3 : tie.Need-returns-3
-unfolding onHead HeadFits
-returns-3 c = (length-spoils _ _ _ _ _ (c .before .before .before .if1 .left) (sym (c .before .length-fits .ensures) ∙ c .if2 .left), tt)
+unfolding onHead HeadFits fits
+returns-3 c = (λ R. length-spoils R _ _ _ _ _ (c .before .before .before .if1 .left) (sym (c .before .length-fits .ensures) ∙ c .if2 .left), tt)
 
 pub length-at-spec : {M : Type 1} → statement M
 length-at-spec =

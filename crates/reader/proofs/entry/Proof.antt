@@ -1,7 +1,6 @@
 -- `reader::entry` meets its contract.
 -- Assumes nothing.
 use native.Mathlib.Omega.{arith}
-use Rattle.rules.specs.Table.{document01}
 use Rattle.message.specs.Searching.{found-inside}
 use Rattle.reader.proofs.Taking.{entry-found, entry-ended}
 use borrow.Author.Needs.{needs}
@@ -42,10 +41,10 @@ enum-told : tie.Need-enum-told
 enum-told c = search needs
 
 returns : tie.Need-returns
-returns c = entry-found document01 _ _ _ (c .before .before .before .before .before .before .before .parameter .ensures) _ _ _ _ (c .before .before .before .before .before .found .given .1) (c .text-length .ensures) _ _ _ (c .before .before .before .form-at .ensures) (c .before .value-of .ensures)
+returns c = entry-found _ _ _ _ (c .before .before .before .before .before .before .before .parameter .ensures) _ _ _ _ (c .before .before .before .before .before .found .given .1) (c .text-length .ensures) _ _ _ (c .before .before .before .form-at .ensures) (c .before .value-of .ensures)
 
 returns-2 : tie.Need-returns-2
-returns-2 c = entry-ended document01 _ _ _ (c .before .before .parameter .ensures) _ (c .enum-told .given .1)
+returns-2 c = entry-ended _ _ _ _ (c .before .before .parameter .ensures) _ (c .enum-told .given .1)
 
 pub entry-spec : {M : Type 1} → statement M
 entry-spec =

@@ -1,8 +1,9 @@
 -- `reader::pack` meets its contract: the verdict, then 9, then the texts.
 -- Assumes nothing.
+use mathlib.Core.Path.{_∙_, ap}
 use native.Mathlib.Omega.{arith}
-use Rattle.rules.specs.Table.{document01}
 use Rattle.reader.proofs.Laying.{packs-declined, packs-short, packs-whole, size-small}
+use Rattle.reader.specs.declared.Packed.the-variants.{Refused}
 use borrow.Author.Needs.{needs}
 use Rattle.reader.proofs.pack.Statement.{statement}
 use Rattle.reader.proofs.pack.Tie as tie
@@ -19,12 +20,15 @@ text-size-requires c κs = search needs
 cast-place : tie.Need-cast-place
 cast-place c =
     let start = c .before .before .before .before .before .before .before in
-    omega (arith, size-small document01 (start .args .octets .now) (start .args .area .now) _ (c .before .before .before .before .judge .ensures) _ (c .before .before .verdict .given .1) _ (c .text-size .ensures), c .before .known-told .given)
+    omega (arith, size-small _ (start .args .octets .now) (start .args .area .now) _ (c .before .before .before .before .judge .ensures) _ (c .before .before .verdict .given .1) _ (c .text-size .ensures), c .before .known-told .given)
+
+noted-requires : tie.Need-noted-requires
+noted-requires c κs = search needs
 
 returns : tie.Need-returns
 returns c =
-    let start = c .before .before .before .before .before .before .before .before in
-    let p = packs-short document01 (start .args .octets .now) (start .args .area .now) _ (c .before .before .before .before .before .judge .ensures) _ (c .before .before .before .verdict .given .1) _ (c .before .text-size .ensures) (c .if1 .taken) in (p .answer, p .area-is)
+    let start = c .before .before .before .before .before .before .before .before .before in
+    let p = packs-short _ (start .args .octets .now) (start .args .area .now) _ (c .before .before .before .before .before .before .judge .ensures) _ (c .before .before .before .before .verdict .given .1) _ (c .before .before .text-size .ensures) (c .before .if1 .taken) in (ap Refused (c .noted .ensures) ∙ p .answer, p .area-is)
 
 lay-texts-requires : tie.Need-lay-texts-requires
 lay-texts-requires c κs = search needs
@@ -38,10 +42,10 @@ same-length c = search needs
 returns-2 : tie.Need-returns-2
 returns-2 c =
     let start = c .before .before .before .before .before .before .before .before .before .before .before .before in
-    let p = packs-whole document01 (start .args .octets .now) (start .args .area .now) _ (c .before .before .before .before .before .before .before .before .before .judge .ensures) _ (c .before .before .before .before .before .before .before .verdict .given .1) _ _ (c .before .before .before .before .before .text-size .ensures) (c .before .before .before .before .if1 .left) (c .before .before .lay-texts .ensures) in (p .answer, p .area-is)
+    let p = packs-whole _ (start .args .octets .now) (start .args .area .now) _ (c .before .before .before .before .before .before .before .before .before .judge .ensures) _ (c .before .before .before .before .before .before .before .verdict .given .1) _ _ (c .before .before .before .before .before .text-size .ensures) (c .before .before .before .before .if1 .left) (c .before .before .lay-texts .ensures) in (p .answer, p .area-is)
 
 returns-3 : tie.Need-returns-3
-returns-3 c = let p = packs-declined document01 (c .before .before .before .before .before .before .args .octets .now) (c .before .before .before .before .before .before .args .area .now) _ (c .before .before .before .judge .ensures) _ (c .before .verdict2 .given .1) in (p .answer, p .area-is)
+returns-3 c = let p = packs-declined _ (c .before .before .before .before .before .before .args .octets .now) (c .before .before .before .before .before .before .args .area .now) _ (c .before .before .before .judge .ensures) _ (c .before .verdict2 .given .1) in (p .answer, p .area-is)
 
 pub pack-spec : {M : Type 1} → statement M
 pack-spec =
@@ -51,6 +55,7 @@ pack-spec =
     enum-known-verdict
     text-size-requires
     cast-place
+    noted-requires
     returns
     lay-texts-requires
     enum-known-verdict-2

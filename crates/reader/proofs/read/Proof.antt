@@ -1,6 +1,5 @@
 -- `reader::read` meets its contract: what becomes of the octets, and the draft to it.
 -- Assumes nothing.
-use Rattle.rules.specs.Table.{document01}
 use Rattle.reader.proofs.Laying.{reads-whole, reads-refused}
 use borrow.Author.Needs.{needs}
 use Rattle.reader.proofs.read.Statement.{statement}
@@ -25,13 +24,13 @@ same-length : tie.Need-same-length
 same-length c = search needs
 
 returns : tie.Need-returns
-returns c = (reads-whole document01 _ _ _ _ (c .before .before .before .before .before .pack .ensures .0) _ (c .before .enum-told .given .1) (c .draft-of .ensures), c .before .before .before .before .before .pack .ensures .1)
+returns c = (reads-whole _ _ _ _ _ (c .before .before .before .before .before .pack .ensures .0) _ (c .before .enum-told .given .1) (c .draft-of .ensures), c .before .before .before .before .before .pack .ensures .1)
 
 same-length-2 : tie.Need-same-length-2
 same-length-2 c = search needs
 
 returns-2 : tie.Need-returns-2
-returns-2 c = (reads-refused document01 _ _ _ _ (c .before .before .before .before .before .pack .ensures .0) _ (c .before .enum-told2 .given .1) (c .empty .ensures), c .before .before .before .before .before .pack .ensures .1)
+returns-2 c = (reads-refused _ _ _ _ _ (c .before .before .before .before .before .pack .ensures .0) _ (c .before .enum-told2 .given .1) (c .empty .ensures), c .before .before .before .before .before .pack .ensures .1)
 
 pub read-spec : {M : Type 1} → statement M
 read-spec =

@@ -1,7 +1,6 @@
 -- `reader::text_at` meets its contract.
 -- Assumes nothing.
 use native.Mathlib.Omega.{arith}
-use Rattle.rules.specs.Table.{document01}
 use Rattle.message.specs.Searching.{found-inside}
 use Rattle.reader.proofs.Taking.{text-found, text-ended}
 use borrow.Author.Needs.{needs}
@@ -17,20 +16,20 @@ enum-known-found c = search needs
 text-length-requires : tie.Need-text-length-requires
 text-length-requires c κs = search needs
 
-cast-t9 : tie.Need-cast-t9
-cast-t9 c = search needs
+cast-t10 : tie.Need-cast-t10
+cast-t10 c = search needs
 
-add-t10 : tie.Need-add-t10
-add-t10 c = omega (arith, found-inside _ _ _ _ _ _ (c .before .before .before .before .parameter .ensures) (c .before .before .found .given .1))
+add-t11 : tie.Need-add-t11
+add-t11 c = omega (arith, found-inside _ _ _ _ _ _ (c .before .before .before .before .parameter .ensures) (c .before .before .found .given .1))
 
 enum-told : tie.Need-enum-told
 enum-told c = search needs
 
 returns : tie.Need-returns
-returns c = text-found document01 _ _ _ (c .before .before .before .before .parameter .ensures) _ _ _ _ (c .before .before .found .given .1) (c .text-length .ensures)
+returns c = text-found _ _ _ _ (c .before .before .before .before .parameter .ensures) _ _ _ _ (c .before .before .found .given .1) (c .text-length .ensures)
 
 returns-2 : tie.Need-returns-2
-returns-2 c = text-ended document01 _ _ _ (c .before .before .parameter .ensures) (c .enum-told .given .1)
+returns-2 c = text-ended _ _ _ _ (c .before .before .parameter .ensures) (c .enum-told .given .1)
 
 pub text-at-spec : {M : Type 1} → statement M
 text-at-spec =
@@ -39,8 +38,8 @@ text-at-spec =
     parameter-requires
     enum-known-found
     text-length-requires
-    cast-t9
-    add-t10
+    cast-t10
+    add-t11
     enum-told
     returns
     returns-2)

@@ -16,6 +16,9 @@ read-full-requires c κs = search needs
 returns : tie.Need-returns
 returns c = search needs
 
+array-read-book : tie.Need-array-read-book
+array-read-book c = search needs
+
 array-read-number : tie.Need-array-read-number
 array-read-number c = search needs
 
@@ -53,6 +56,7 @@ next-spec =
     slice-aggregate-read-full
     read-full-requires
     returns
+    array-read-book
     array-read-number
     array-read-number-2
     number-requires

@@ -2,8 +2,7 @@
 -- Assumes nothing.
 use mathlib.Core.Path.{refl, _∙_}
 use native.Mathlib.Omega.{arith}
-use Rattle.rules.specs.Table.{shape01}
-use Rattle.rules.specs.ContentJudge.{okAt}
+use Rattle.rules.specs.ContentJudge.{judgeOf}
 use Rattle.rules.proofs.AtIndex.{pair-late, pair-within}
 use borrow.Author.Needs.{needs}
 use Rattle.rules.proofs.date_ok.Statement.{statement}
@@ -22,23 +21,23 @@ pair-ok-requires-4 : tie.Need-pair-ok-requires-4
 pair-ok-requires-4 c κs = search needs
 
 returns : tie.Need-returns
-unfolding okAt shape01
+unfolding judgeOf
 returns c = c .pair-ok .ensures ∙ pair-within _ 0 _ _ _ _ _ _ refl (omega arith) (omega arith)
 
 returns-2 : tie.Need-returns-2
-unfolding okAt shape01
+unfolding judgeOf
 returns-2 c = c .pair-ok2 .ensures ∙ pair-within _ 1 _ _ _ _ _ _ refl (omega arith) (omega arith)
 
 returns-3 : tie.Need-returns-3
-unfolding okAt shape01
+unfolding judgeOf
 returns-3 c = c .pair-ok3 .ensures ∙ pair-within _ 2 _ _ _ _ _ _ refl (omega arith) (omega arith)
 
 returns-4 : tie.Need-returns-4
-unfolding okAt shape01
+unfolding judgeOf
 returns-4 c = c .pair-ok4 .ensures ∙ pair-within _ 3 _ _ _ _ _ _ refl (omega arith) (omega arith)
 
 returns-5 : tie.Need-returns-5
-unfolding okAt shape01
+unfolding judgeOf
 returns-5 c = pair-late _ _ _ _ (omega arith) (omega arith)
 
 pub date-ok-spec : {M : Type 1} → statement M

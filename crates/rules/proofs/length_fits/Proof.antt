@@ -1,7 +1,5 @@
 -- `rules::length_fits` meets its contract: a length of the class that fits the room.
 -- Assumes nothing.
-use Rattle.rules.specs.Judge.{fits}
-use Rattle.rules.specs.Table.{document01}
 use Rattle.rules.specs.Returns.{tests}
 use borrow.Author.Needs.{needs}
 use Rattle.rules.proofs.length_fits.Statement.{statement}
@@ -14,11 +12,9 @@ room-ok-requires : tie.Need-room-ok-requires
 room-ok-requires c κs = search needs
 
 returns : tie.Need-returns
-unfolding fits document01
 returns c = search tests
 
 returns-2 : tie.Need-returns-2
-unfolding fits document01
 returns-2 c = search tests
 
 pub length-fits-spec : {M : Type 1} → statement M

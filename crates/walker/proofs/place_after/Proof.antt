@@ -6,8 +6,8 @@ use borrow.Author.Needs.{needs}
 use Rattle.walker.proofs.place_after.Statement.{statement}
 use Rattle.walker.proofs.place_after.Tie as tie
 
-step-at-requires : tie.Need-step-at-requires
-step-at-requires c κs = search needs
+step-here-requires : tie.Need-step-here-requires
+step-here-requires c κs = search needs
 
 enum-known-step : tie.Need-enum-known-step
 enum-known-step c = search needs
@@ -20,21 +20,21 @@ enum-known-step-2 c = search needs
 
 returns : tie.Need-returns
 unfolding after
-returns c = rw (sym (c .before .before .before .step-at .ensures) ∙ c .before .step .given .1) refl
+returns c = rw (sym (c .before .before .before .step-here .ensures) ∙ c .before .step .given .1) refl
 
 returns-2 : tie.Need-returns-2
 unfolding after
-returns-2 c = rw (sym (c .before .before .step-at .ensures) ∙ c .enum-told .given .1) refl
+returns-2 c = rw (sym (c .before .before .step-here .ensures) ∙ c .enum-told .given .1) refl
 
 returns-3 : tie.Need-returns-3
 unfolding after
-returns-3 c = rw (sym (c .before .before .before .step-at .ensures) ∙ c .before .step2 .given .1) refl
+returns-3 c = rw (sym (c .before .before .before .step-here .ensures) ∙ c .before .step2 .given .1) refl
 
 pub place-after-spec : {M : Type 1} → statement M
 place-after-spec =
     tie.close
     (tie.spec
-    step-at-requires
+    step-here-requires
     enum-known-step
     enum-told
     enum-known-step-2

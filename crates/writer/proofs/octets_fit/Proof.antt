@@ -5,7 +5,6 @@ use mathlib.Core.Path.{_≡_, refl}
 use Prim.Native.Nat.{_≤_, _-_}
 use native.Mathlib.Omega.{arith}
 use lib.ListN.{drop}
-use Rattle.rules.specs.Table.{shape01}
 use Rattle.rules.specs.ContentJudge.{fitsFrom}
 use Rattle.rules.specs.Returns.{via}
 use Rattle.writer.proofs.Fitting.{all-stand, stands, stands-not}
@@ -14,7 +13,7 @@ use Rattle.writer.proofs.octets_fit.Statement.{statement}
 use Rattle.writer.proofs.octets_fit.Tie as tie
 
 abbrev Inv-loop : tie.InvT-loop
-Inv-loop class part n memory₀ index₀ memory index = (index ≤ n) × (fitsFrom (shape01 class) n index memory (drop index part) ≡ fitsFrom (shape01 class) n 0 0 part)
+Inv-loop class part n memory₀ index₀ memory index = (index ≤ n) × (fitsFrom class n index memory (drop index part) ≡ fitsFrom class n 0 0 part)
 
 abbrev μ-loop : tie.MeasureT-loop
 μ-loop class part n memory₀ index₀ memory index = n - index

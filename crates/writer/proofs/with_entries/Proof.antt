@@ -26,13 +26,13 @@ returns : tie.Need-returns
 unfolding onMeasure
 returns c =
     let start = c .before .before .before .before .before .before in
-    entries-went _ _ _ _ (simp length-map at (start .good .0 .1 .1 .1 .1 .0 .1 .0 .1)) (start .pre) (c .before .before .before .before .measure-entries .ensures) (c .before .before .measured .given .1) (c .refusal .ensures)
+    entries-went _ _ _ _ _ (simp length-map at (start .good .1 .0 .1 .1 .1 .1 .0 .1 .0 .1)) (start .pre) (c .before .before .before .before .measure-entries .ensures) (c .before .before .measured .given .1) (c .refusal .ensures)
 
 returns-2 : tie.Need-returns-2
 unfolding onMeasure
 returns-2 c =
     let start = c .before .before .before .before .before .before in
-    entries-went _ _ _ _ (simp length-map at (start .good .0 .1 .1 .1 .1 .0 .1 .0 .1)) (start .pre) (c .before .before .before .before .measure-entries .ensures) (c .before .before .measured2 .given .1) (c .with-room .ensures)
+    entries-went _ _ _ _ _ (simp length-map at (start .good .1 .0 .1 .1 .1 .1 .0 .1 .0 .1)) (start .pre) (c .before .before .before .before .measure-entries .ensures) (c .before .before .measured2 .given .1) (c .with-room .ensures)
 
 pub with-entries-spec : {M : Type 1} → statement M
 with-entries-spec =

@@ -17,17 +17,17 @@ enum-known-answer c = search needs
 sub-put-message : tie.Need-sub-put-message
 sub-put-message c =
     let start = c .before .before .before .before .before .before .before in
-    let h = layable (start .args .draft) (start .args .texts .now) _ _ _ (c .before .before .before .before .judge .ensures) (c .before .before .answer .given .1) in omega arith
+    let h = layable _ (start .args .draft) (start .args .texts .now) _ _ _ (c .before .before .before .before .judge .ensures) (c .before .before .answer .given .1) in omega arith
 
 cast-put-message : tie.Need-cast-put-message
 cast-put-message c =
     let start = c .before .before .before .before .before .before .before in
-    let h = layable (start .args .draft) (start .args .texts .now) _ _ _ (c .before .before .before .before .judge .ensures) (c .before .before .answer .given .1) in omega arith
+    let h = layable _ (start .args .draft) (start .args .texts .now) _ _ _ (c .before .before .before .before .judge .ensures) (c .before .before .answer .given .1) in omega arith
 
 put-message-requires : tie.Need-put-message-requires
 put-message-requires c κs =
     let start = c .before .before .before .before .before .before .before in
-    layable (start .args .draft) (start .args .texts .now) _ _ _ (c .before .before .before .before .judge .ensures) (c .before .before .answer .given .1) .0
+    layable _ (start .args .draft) (start .args .texts .now) _ _ _ (c .before .before .before .before .judge .ensures) (c .before .before .answer .given .1) .0
 
 enum-known-answer-2 : tie.Need-enum-known-answer-2
 enum-known-answer-2 c = search needs

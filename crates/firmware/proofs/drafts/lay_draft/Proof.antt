@@ -4,7 +4,8 @@ use Prim.Native.Nat.{ℕ}
 use mathlib.Core.Path.{_∙_, ap}
 use native.Mathlib.Omega.{arith}
 use lib.ListN.{length-set, replicate}
-use Rattle.rules.specs.Table.{document01}
+use Rattle.rules.specs.Table.{rulesOf}
+use Rattle.rules.specs.declared.Book.the-variants.{PresentLenient}
 use Rattle.draft.specs.Packing.{draftOf}
 use Rattle.message.specs.Parameters.{messageIn}
 use Rattle.firmware.proofs.DraftRecord.{headed, kind-of, count-small}
@@ -36,7 +37,7 @@ same-length c = search needs
 returns : tie.Need-returns
 returns c =
     let start = c .before .before .before .before .before .before .before .before .before .before .before in
-    headed (draftOf document01 (messageIn (start .args .octets .now))) _ _ _ (c .octet .ensures ∙ kind-of (start .args .octets .now)) (c .before .before .before .lay-entries .ensures .0) (c .before .before .before .lay-entries .ensures .1)
+    headed (draftOf (rulesOf PresentLenient) (messageIn (start .args .octets .now))) _ _ _ (c .octet .ensures ∙ kind-of (start .args .octets .now)) (c .before .before .before .lay-entries .ensures .0) (c .before .before .before .lay-entries .ensures .1)
 
 pub lay-draft-spec : {M : Type 1} → statement M
 lay-draft-spec =

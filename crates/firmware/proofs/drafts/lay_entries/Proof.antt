@@ -5,7 +5,8 @@ use mathlib.Core.Path.{sym, _∙_, ap}
 use native.Mathlib.Omega.{arith}
 use lib.ListN.{length, length-take, length-drop, length-replicate}
 use Rattle.rules.specs.Message.{most}
-use Rattle.rules.specs.Table.{document01}
+use Rattle.rules.specs.Table.{rulesOf}
+use Rattle.rules.specs.declared.Book.the-variants.{PresentLenient}
 use Rattle.reader.proofs.Laying.{left-ended, left-full}
 use Rattle.firmware.proofs.DraftRecord.{Recorded, recorded-first, recorded-long, recorded-small, recorded-more, recorded-end}
 use Rattle.rules.specs.Laying.{rest-laid}
@@ -67,7 +68,7 @@ same-length : tie.Need-same-length Inv-loop μ-loop
 same-length c = recorded-long _ _ _ _ _ (c .before .before .before .before .loop .inv) ∙ sym (ap length (c .before .before .before .before .before .before .before .pre) ∙ length-replicate {A = ℕ} 688 0)
 
 returns : tie.Need-returns Inv-loop μ-loop
-returns c = recorded-end _ _ _ _ _ (c .before .before .before .before .loop .inv) (left-ended document01 _ _ _ _ (c .before .before .before .loop-test .taken) (sym (c .enum-told .given .1) ∙ c .before .before .entry .ensures))
+returns c = recorded-end _ _ _ _ _ (c .before .before .before .before .loop .inv) (left-ended (rulesOf PresentLenient) _ _ _ _ (c .before .before .before .loop-test .taken) (sym (c .enum-told .given .1) ∙ c .before .before .entry .ensures))
 
 same-length-2 : tie.Need-same-length-2 Inv-loop μ-loop
 same-length-2 c = recorded-long _ _ _ _ _ (c .before .loop .inv) ∙ sym (ap length (c .before .before .before .before .pre) ∙ length-replicate {A = ℕ} 688 0)

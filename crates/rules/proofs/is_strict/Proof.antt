@@ -1,0 +1,39 @@
+-- `rules::is_strict` meets its contract.
+-- Assumes nothing.
+use Rattle.rules.specs.Contents.{someLength}
+use Rattle.rules.specs.Tests.{_=?_, pick, _≤?_, _or_}
+use Rattle.rules.specs.Table.{rulesOf, classFault, whole}
+use borrow.Author.Needs.{needs}
+use Rattle.rules.proofs.is_strict.Statement.{statement}
+use Rattle.rules.proofs.is_strict.Tie as tie
+
+enum-told : tie.Need-enum-told
+enum-told c = search needs
+
+enum-told-2 : tie.Need-enum-told-2
+enum-told-2 c = search needs
+
+enum-told-3 : tie.Need-enum-told-3
+enum-told-3 c = search needs
+
+enum-told-4 : tie.Need-enum-told-4
+enum-told-4 c = search needs
+
+returns : tie.Need-returns
+unfolding rulesOf classFault someLength whole pick _=?_ _≤?_ _or_
+returns c = rw (c .enum-told .given .1)
+
+returns-2 : tie.Need-returns-2
+unfolding rulesOf classFault someLength whole pick _=?_ _≤?_ _or_
+returns-2 c = rw (c .enum-told2 .given .1)
+
+returns-3 : tie.Need-returns-3
+unfolding rulesOf classFault someLength whole pick _=?_ _≤?_ _or_
+returns-3 c = rw (c .enum-told3 .given .1)
+
+returns-4 : tie.Need-returns-4
+unfolding rulesOf classFault someLength whole pick _=?_ _≤?_ _or_
+returns-4 c = rw (c .enum-told4 .given .1)
+
+pub is-strict-spec : {M : Type 1} → statement M
+is-strict-spec = tie.close (tie.spec enum-told enum-told-2 enum-told-3 enum-told-4 returns returns-2 returns-3 returns-4)
