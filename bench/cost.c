@@ -35,14 +35,14 @@ static size_t message(int which, uint8_t *o) {
 }
 
 static unsigned heard(uint64_t (*reset)(uint8_t *, size_t), uint64_t (*listen)(uint8_t *, size_t, const uint8_t *, size_t), const uint8_t *o, size_t n, size_t run) {
-    uint8_t l[ANTHERCUP_LISTENER];
+    uint8_t l[ANTHERCUP_LISTENER_OCTETS];
     uint64_t answer = reset(l, sizeof l);
     for (size_t at = 0; at < n; at += run) answer = listen(l, sizeof l, o + at, run);
     return anthercup_size(answer);
 }
 
 static unsigned ours(const char *what, const uint8_t *o, size_t n) {
-    static uint8_t desk[ANTHERCUP_DESK], draft[ANTHERCUP_DRAFT], texts[ANTHERCUP_TEXTS];
+    static uint8_t desk[ANTHERCUP_DESK_OCTETS], draft[ANTHERCUP_DRAFT_OCTETS], texts[ANTHERCUP_TEXTS_OCTETS];
     if (strcmp(what, "whole") == 0) return heard(anthercup_reset, anthercup_listen, o, n, n);
     if (strcmp(what, "octets") == 0) return heard(anthercup_reset, anthercup_listen, o, n, 1);
     if (strcmp(what, "read") == 0) return anthercup_size(anthercup_read(o, n, draft, sizeof draft, texts, sizeof texts)) + draft[1];

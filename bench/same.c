@@ -12,7 +12,7 @@ static unsigned long compared, heard;
 static void both(uint8_t *a, uint8_t *b, size_t size, const uint8_t *o, size_t n) {
     uint64_t x = anthercup_listen(a, size, o, n), y = peer_listen(b, size, o, n);
     compared++;
-    heard += anthercup_number(x) != ANTHERCUP_RECORD;
+    heard += anthercup_number(x) != ANTHERCUP_REFUSED_RECORD;
     if (x != y || memcmp(a, b, size) != 0) {
         printf("same: %llx and %llx, or another record\n", (unsigned long long)x, (unsigned long long)y);
         exit(1);

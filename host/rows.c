@@ -75,7 +75,7 @@ static void answer_is(const struct row *r, uint64_t answer) {
 }
 
 static void heard_in_runs(const struct row *r, const uint8_t *o, size_t n, size_t first, size_t then) {
-    uint8_t l[ANTHERCUP_LISTENER];
+    uint8_t l[ANTHERCUP_LISTENER_OCTETS];
     size_t at = 0, taken = 0;
     uint64_t answer = anthercup_reset(l, sizeof l);
     same("reset", (unsigned long)answer, 0);
@@ -101,34 +101,34 @@ static void all_cuttings(const struct row *r) {
 static void refused_as_it_was(uint8_t *record, size_t size) {
     uint8_t before[64], octet = 0x80;
     memcpy(before, record, size);
-    same("17", (unsigned long)anthercup_listen(record, size, &octet, 1), ANTHERCUP_RECORD);
+    same("17", (unsigned long)anthercup_listen(record, size, &octet, 1), ANTHERCUP_REFUSED_RECORD);
     same("a refused record", (unsigned long)memcmp(before, record, size), 0);
 }
 
 static void records_that_are_none(void) {
     uint8_t l[64];
     for (size_t size = 0; size < sizeof l; size++) {
-        if (size == ANTHERCUP_LISTENER) continue;
+        if (size == ANTHERCUP_LISTENER_OCTETS) continue;
         memset(l, 0, sizeof l);
         refused_as_it_was(l, size);
-        same("reset of another size", (unsigned long)anthercup_reset(l, size), ANTHERCUP_RECORD);
+        same("reset of another size", (unsigned long)anthercup_reset(l, size), ANTHERCUP_REFUSED_RECORD);
     }
-    for (size_t at = 0; at < ANTHERCUP_LISTENER; at++)
+    for (size_t at = 0; at < ANTHERCUP_LISTENER_OCTETS; at++)
         for (unsigned v = at == 0 ? 7 : 1; v < 256; v++) {
             if (at == 1) continue; /* the sum may be anything */
             memset(l, 0, sizeof l);
             l[at] = (uint8_t)v;
-            refused_as_it_was(l, ANTHERCUP_LISTENER);
+            refused_as_it_was(l, ANTHERCUP_LISTENER_OCTETS);
         }
 }
 
 /* the whole read of each row: as the listener, but 8 at the number of octets where it waits, and 7 where octets follow */
 static void read_whole(const struct row *r) {
-    uint8_t o[300], draft[ANTHERCUP_DRAFT], texts[ANTHERCUP_TEXTS], desk[ANTHERCUP_DESK];
+    uint8_t o[300], draft[ANTHERCUP_DRAFT_OCTETS], texts[ANTHERCUP_TEXTS_OCTETS], desk[ANTHERCUP_DESK_OCTETS];
     size_t n = octets_of(r->octets, o);
     unsigned number = r->number, place = r->place;
-    if (!r->number && !r->size) number = ANTHERCUP_EARLY, place = (unsigned)n;
-    if (r->size && r->size < n) number = ANTHERCUP_FOLLOWED, place = r->size;
+    if (!r->number && !r->size) number = ANTHERCUP_REFUSED_EARLY, place = (unsigned)n;
+    if (r->size && r->size < n) number = ANTHERCUP_REFUSED_FOLLOWED, place = r->size;
     uint64_t answer = anthercup_read(o, n, draft, sizeof draft, texts, sizeof texts);
     same(r->octets, anthercup_number(answer), number);
     same(r->octets, anthercup_place(answer), place);
@@ -140,7 +140,7 @@ static void read_whole(const struct row *r) {
 
 /* document 01's notices on a desk */
 static void notice_is(const char *octets, int waiting, unsigned lamp) {
-    uint8_t o[300], desk[ANTHERCUP_DESK];
+    uint8_t o[300], desk[ANTHERCUP_DESK_OCTETS];
     size_t n = octets_of(octets, o);
     same("new desk", (unsigned long)anthercup_new_desk(desk, sizeof desk), 0);
     same(octets, (unsigned long)anthercup_settle(desk, sizeof desk, o, n), 0);
@@ -150,7 +150,7 @@ static void notice_is(const char *octets, int waiting, unsigned lamp) {
 
 /* every place in range, and no reference twice */
 static int places_good(const uint8_t *desk) {
-    for (unsigned i = 0; i < ANTHERCUP_PLACES; i++) {
+    for (unsigned i = 0; i < ANTHERCUP_MOST_PLACES; i++) {
         if (anthercup_open(desk, i) > 65535) return 0;
         for (unsigned j = 0; j < i; j++)
             if (anthercup_open(desk, i) >= 0 && anthercup_open(desk, i) == anthercup_open(desk, j)) return 0;
@@ -160,26 +160,26 @@ static int places_good(const uint8_t *desk) {
 
 /* records of every size around the right one; of desks every value of every octet beside a desk of which nothing is known, and beside one that is full */
 static void other_records(void) {
-    uint8_t o[] = {0x82, 3, 0x13, 1, 2, 0x65}, record[ANTHERCUP_DRAFT + 16], before[sizeof record], texts[ANTHERCUP_TEXTS];
+    uint8_t o[] = {0x82, 3, 0x13, 1, 2, 0x65}, record[ANTHERCUP_DRAFT_OCTETS + 16], before[sizeof record], texts[ANTHERCUP_TEXTS_OCTETS];
     for (size_t size = 0; size < sizeof record; size++) {
         memset(record, 0x5A, sizeof record);
         uint64_t answer = anthercup_read(o, sizeof o, record, size, texts, sizeof texts);
-        same("the size of a draft", (unsigned long)answer, size == ANTHERCUP_DRAFT ? 0 : ANTHERCUP_RECORD);
-        for (size_t i = size == ANTHERCUP_DRAFT ? size : 0; i < sizeof record; i++) same("a draft that stays", record[i], 0x5A);
+        same("the size of a draft", (unsigned long)answer, size == ANTHERCUP_DRAFT_OCTETS ? 0 : ANTHERCUP_REFUSED_RECORD);
+        for (size_t i = size == ANTHERCUP_DRAFT_OCTETS ? size : 0; i < sizeof record; i++) same("a draft that stays", record[i], 0x5A);
         memset(record, 0, sizeof record);
-        if (size < 64) same("the size of a desk", anthercup_number(anthercup_settle(record, size, o, sizeof o)), size == ANTHERCUP_DESK ? 0 : ANTHERCUP_RECORD);
-        if (size < 64) same("the size of a new desk", anthercup_number(anthercup_new_desk(record, size)), size == ANTHERCUP_DESK ? 0 : ANTHERCUP_RECORD);
+        if (size < 64) same("the size of a desk", anthercup_number(anthercup_settle(record, size, o, sizeof o)), size == ANTHERCUP_DESK_OCTETS ? 0 : ANTHERCUP_REFUSED_RECORD);
+        if (size < 64) same("the size of a new desk", anthercup_number(anthercup_new_desk(record, size)), size == ANTHERCUP_DESK_OCTETS ? 0 : ANTHERCUP_REFUSED_RECORD);
     }
     for (unsigned full = 0; full < 2; full++)
-        for (size_t at = 0; at < ANTHERCUP_DESK; at++)
+        for (size_t at = 0; at < ANTHERCUP_DESK_OCTETS; at++)
             for (unsigned v = 0; v < 256; v++) {
-                uint8_t desk[ANTHERCUP_DESK] = {(uint8_t)full, full ? 255 : 0, full ? 2 : 0, 0};
-                for (unsigned i = 0; i < ANTHERCUP_PLACES; i++) desk[4 + 3 * i] = (uint8_t)(full ? i + 2 : 0);
+                uint8_t desk[ANTHERCUP_DESK_OCTETS] = {(uint8_t)full, full ? 255 : 0, full ? 2 : 0, 0};
+                for (unsigned i = 0; i < ANTHERCUP_MOST_PLACES; i++) desk[4 + 3 * i] = (uint8_t)(full ? i + 2 : 0);
                 desk[at] = (uint8_t)v;
                 int good = desk[0] <= 1 && (desk[0] == 1 || desk[1] == 0) && desk[2] <= 2 && desk[3] == 0 && places_good(desk);
                 memcpy(before, desk, sizeof desk);
                 uint64_t answer = anthercup_settle(desk, sizeof desk, o, sizeof o);
-                same("a desk's codes", (unsigned long)answer, good ? 0 : ANTHERCUP_RECORD);
+                same("a desk's codes", (unsigned long)answer, good ? 0 : ANTHERCUP_REFUSED_RECORD);
                 if (good) same("waiting", (unsigned long)anthercup_waiting(desk), 2);
                 else same("a desk that stays", (unsigned long)memcmp(before, desk, sizeof desk), 0);
             }
@@ -192,16 +192,16 @@ static uint64_t about(uint8_t *desk, uint8_t state, unsigned reference, int lamp
     o[1] = (uint8_t)(n - 2);
     for (size_t i = 0; i < n; i++) sum = (uint8_t)(sum + o[i]);
     o[n] = (uint8_t)(0 - sum);
-    return anthercup_settle(desk, ANTHERCUP_DESK, o, n + 1);
+    return anthercup_settle(desk, ANTHERCUP_DESK_OCTETS, o, n + 1);
 }
 
 static void holds(const uint8_t *desk, unsigned place, int32_t reference) { same("the reference in a place", (unsigned long)anthercup_open(desk, place), (unsigned long)reference); }
 
 /* added once, the lowest free place, the others stay, unset does nothing, a repeat after the removal adds again, clearing */
 static void references(void) {
-    uint8_t desk[ANTHERCUP_DESK], once[ANTHERCUP_DESK];
+    uint8_t desk[ANTHERCUP_DESK_OCTETS], once[ANTHERCUP_DESK_OCTETS];
     anthercup_new_desk(desk, sizeof desk);
-    for (unsigned i = 0; i < ANTHERCUP_PLACES; i++) holds(desk, i, -1);
+    for (unsigned i = 0; i < ANTHERCUP_MOST_PLACES; i++) holds(desk, i, -1);
     same("added", (unsigned long)about(desk, 0xFF, 0x0102, 0), 0);
     holds(desk, 0, 0x0102);
     memcpy(once, desk, sizeof once);
@@ -225,14 +225,14 @@ static void references(void) {
 
 /* sixteen places: all but one taken, all taken, by others or by the reference itself */
 static void places(void) {
-    uint8_t desk[ANTHERCUP_DESK], full[ANTHERCUP_DESK];
+    uint8_t desk[ANTHERCUP_DESK_OCTETS], full[ANTHERCUP_DESK_OCTETS];
     anthercup_new_desk(desk, sizeof desk);
-    for (unsigned i = 0; i < ANTHERCUP_PLACES; i++) {
+    for (unsigned i = 0; i < ANTHERCUP_MOST_PLACES; i++) {
         same("a place is free", (unsigned long)about(desk, 0xFF, 100 + i, 0), 0);
         holds(desk, i, (int32_t)(100 + i));
     }
     memcpy(full, desk, sizeof full);
-    same("no place", (unsigned long)about(desk, 0xFF, 116, 1), ANTHERCUP_NO_PLACE);
+    same("no place", (unsigned long)about(desk, 0xFF, 116, 1), ANTHERCUP_REFUSED_NO_PLACE);
     same("no place, and no lamp", (unsigned long)memcmp(full, desk, sizeof full), 0);
     same("unset", (unsigned long)about(desk, 0x55, 116, 0), 0);
     same("not there", (unsigned long)about(desk, 0x00, 116, 0), 0);
@@ -242,7 +242,7 @@ static void places(void) {
     same("taken out", (unsigned long)about(desk, 0x00, 107, 0), 0);
     same("a place again", (unsigned long)about(desk, 0xFF, 116, 0), 0);
     holds(desk, 6, 106), holds(desk, 7, 116), holds(desk, 8, 108);
-    same("and none again", (unsigned long)about(desk, 0xFF, 107, 0), ANTHERCUP_NO_PLACE);
+    same("and none again", (unsigned long)about(desk, 0xFF, 107, 0), ANTHERCUP_REFUSED_NO_PLACE);
 }
 
 int main(void) {

@@ -37,12 +37,12 @@ static void as_second(const uint8_t *o, size_t n, struct second_answer s, uint64
     same("place", o, n, anthercup_place(answer), s.place);
     same("size", o, n, anthercup_size(answer), s.size);
     same("taken", o, n, taken, s.taken);
-    same("waits", o, n, (unsigned long)anthercup_waits(answer), s.answer == SECOND_WAITS);
+    same("waits", o, n, (unsigned long)anthercup_listen_waits(answer), s.answer == SECOND_WAITS);
     same("octet 7", o, n, (unsigned long)(answer >> 56), 0);
 }
 
 static void in_runs(struct traffic *t, const uint8_t *o, size_t n, struct second_answer whole, uint32_t most) {
-    uint8_t l[ANTHERCUP_LISTENER];
+    uint8_t l[ANTHERCUP_LISTENER_OCTETS];
     size_t at = 0, taken = 0;
     same("reset", o, 0, (unsigned long)anthercup_reset(l, sizeof l), 0);
     for (;;) {
@@ -58,16 +58,16 @@ static void in_runs(struct traffic *t, const uint8_t *o, size_t n, struct second
 
 static void any_record(struct traffic *t) {
     uint8_t l[40], before[40], octet = (uint8_t)traffic_number(t, 256);
-    size_t size = traffic_number(t, 4) ? ANTHERCUP_LISTENER : traffic_number(t, sizeof l);
+    size_t size = traffic_number(t, 4) ? ANTHERCUP_LISTENER_OCTETS : traffic_number(t, sizeof l);
     for (size_t i = 0; i < size; i++) l[i] = (uint8_t)(traffic_number(t, 3) ? 0 : traffic_number(t, 16) ? traffic_number(t, 12) : traffic_number(t, 256));
     memcpy(before, l, size);
     uint64_t answer = anthercup_listen(l, size, &octet, 1);
-    if (anthercup_number(answer) == ANTHERCUP_RECORD) {
-        same("17 alone", before, size, (unsigned long)answer, ANTHERCUP_RECORD);
+    if (anthercup_number(answer) == ANTHERCUP_REFUSED_RECORD) {
+        same("17 alone", before, size, (unsigned long)answer, ANTHERCUP_REFUSED_RECORD);
         same("a record on 17", before, size, (unsigned long)memcmp(l, before, size), 0);
     } else {
-        same("a record that is heard", before, size, size, ANTHERCUP_LISTENER);
-        same("and heard again", before, size, anthercup_number(anthercup_listen(l, size, &octet, 0)) == ANTHERCUP_RECORD, 0);
+        same("a record that is heard", before, size, size, ANTHERCUP_LISTENER_OCTETS);
+        same("and heard again", before, size, anthercup_number(anthercup_listen(l, size, &octet, 0)) == ANTHERCUP_REFUSED_RECORD, 0);
     }
 }
 
@@ -96,7 +96,7 @@ static void entry_is(const uint8_t *o, size_t n, const uint8_t *draft, unsigned 
 
 /* a whole read into a record and an area that hold noise: what is not written must stay, all that is written must be as the second reader has it */
 static void read_as_second(struct traffic *t, const uint8_t *o, size_t n, size_t draft_len, size_t area) {
-    uint8_t draft[ANTHERCUP_DRAFT + 8], texts[300], draft_before[sizeof draft], texts_before[sizeof texts];
+    uint8_t draft[ANTHERCUP_DRAFT_OCTETS + 8], texts[300], draft_before[sizeof draft], texts_before[sizeof texts];
     struct second_draft s;
     memset(draft, (int)traffic_number(t, 256), sizeof draft);
     memset(texts, (int)traffic_number(t, 256), sizeof texts);
@@ -105,8 +105,8 @@ static void read_as_second(struct traffic *t, const uint8_t *o, size_t n, size_t
     uint64_t answer = anthercup_read(o, n, draft, draft_len, texts, area);
     struct second_verdict v = second_read(o, n, area, &s);
     size_t laid = 0;
-    if (draft_len != ANTHERCUP_DRAFT) {
-        v.number = ANTHERCUP_RECORD;
+    if (draft_len != ANTHERCUP_DRAFT_OCTETS) {
+        v.number = ANTHERCUP_REFUSED_RECORD;
         v.place = 0;
     }
     same("read: number", o, n, anthercup_number(answer), v.number);
@@ -122,8 +122,8 @@ static void read_as_second(struct traffic *t, const uint8_t *o, size_t n, size_t
         same("read: message type", o, n, anthercup_message_type(draft), s.message_type);
         same("read: entries", o, n, anthercup_entries(draft), s.entries);
         for (size_t i = 2; i < 8; i++) same("read: header", o, n, draft[i], 0);
-        for (unsigned i = 0; i < ANTHERCUP_ENTRIES; i++) entry_is(o, n, draft, i, &s.entry[i]);
-        same("read: behind the record", o, n, (unsigned long)memcmp(draft + ANTHERCUP_DRAFT, draft_before + ANTHERCUP_DRAFT, sizeof draft - ANTHERCUP_DRAFT), 0);
+        for (unsigned i = 0; i < ANTHERCUP_MOST_ENTRIES; i++) entry_is(o, n, draft, i, &s.entry[i]);
+        same("read: behind the record", o, n, (unsigned long)memcmp(draft + ANTHERCUP_DRAFT_OCTETS, draft_before + ANTHERCUP_DRAFT_OCTETS, sizeof draft - ANTHERCUP_DRAFT_OCTETS), 0);
     }
     same("read: the rest of the area", o, n, (unsigned long)memcmp(texts + laid, texts_before + laid, sizeof texts - laid), 0);
 }
@@ -131,11 +131,11 @@ static void read_as_second(struct traffic *t, const uint8_t *o, size_t n, size_t
 /* with room; some with every area near the limit; and with records of other sizes */
 static void reads(struct traffic *t, const uint8_t *o, size_t n) {
     struct second_draft s;
-    read_as_second(t, o, n, ANTHERCUP_DRAFT, ANTHERCUP_TEXTS);
-    if (traffic_number(t, 8) == 0 && second_read(o, n, ANTHERCUP_TEXTS, &s).number == 0)
-        for (size_t area = s.text_octets < 2 ? 0 : s.text_octets - 2u; area <= s.text_octets + 1u; area++) read_as_second(t, o, n, ANTHERCUP_DRAFT, area);
+    read_as_second(t, o, n, ANTHERCUP_DRAFT_OCTETS, ANTHERCUP_TEXTS_OCTETS);
+    if (traffic_number(t, 8) == 0 && second_read(o, n, ANTHERCUP_TEXTS_OCTETS, &s).number == 0)
+        for (size_t area = s.text_octets < 2 ? 0 : s.text_octets - 2u; area <= s.text_octets + 1u; area++) read_as_second(t, o, n, ANTHERCUP_DRAFT_OCTETS, area);
     if (traffic_number(t, 4) == 0)
-        read_as_second(t, o, n, traffic_number(t, 2) ? traffic_number(t, ANTHERCUP_DRAFT) : ANTHERCUP_DRAFT - 2 + traffic_number(t, 5), traffic_number(t, 260));
+        read_as_second(t, o, n, traffic_number(t, 2) ? traffic_number(t, ANTHERCUP_DRAFT_OCTETS) : ANTHERCUP_DRAFT_OCTETS - 2 + traffic_number(t, 5), traffic_number(t, 260));
 }
 
 /* what a desk's record shows, as the second reader keeps it */
@@ -154,24 +154,24 @@ static int same_desk(struct second_desk a, struct second_desk b) {
 /* the same desk through both, and settled twice */
 static uint64_t settles(const uint8_t *o, size_t n, uint8_t *desk) {
     struct second_desk s = desk_of(desk), before = s;
-    uint8_t once[ANTHERCUP_DESK];
+    uint8_t once[ANTHERCUP_DESK_OCTETS];
     struct second_verdict v = second_settle(&s, o, n);
-    uint64_t answer = anthercup_settle(desk, ANTHERCUP_DESK, o, n);
+    uint64_t answer = anthercup_settle(desk, ANTHERCUP_DESK_OCTETS, o, n);
     same("settle: number", o, n, anthercup_number(answer), v.number);
     same("settle: place", o, n, anthercup_place(answer), v.place);
     same("settle: other fields", o, n, (unsigned long)(answer >> 24), 0);
     same("settle: desk", o, n, (unsigned long)same_desk(desk_of(desk), s), 1);
     if (v.number) same("settle: desk of a refusal", o, n, (unsigned long)same_desk(s, before), 1);
     memcpy(once, desk, sizeof once);
-    same("settle: twice", o, n, (unsigned long)(anthercup_settle(desk, ANTHERCUP_DESK, o, n) != answer || memcmp(once, desk, sizeof once)), 0);
+    same("settle: twice", o, n, (unsigned long)(anthercup_settle(desk, ANTHERCUP_DESK_OCTETS, o, n) != answer || memcmp(once, desk, sizeof once)), 0);
     return answer;
 }
 
 /* any record at all: 17 exactly where size, codes, places or a reference twice make it none */
 static void any_desk(struct traffic *t, const uint8_t *o, size_t n) {
     static const uint32_t ends[] = {1, 2, 3, 65535, 65536, 65537, 16777215};
-    uint8_t any[ANTHERCUP_DESK + 4] = {0}, was[sizeof any];
-    size_t size = traffic_number(t, 4) ? ANTHERCUP_DESK : traffic_number(t, sizeof any);
+    uint8_t any[ANTHERCUP_DESK_OCTETS + 4] = {0}, was[sizeof any];
+    size_t size = traffic_number(t, 4) ? ANTHERCUP_DESK_OCTETS : traffic_number(t, sizeof any);
     for (size_t i = 0; i < 3; i++) any[i] = (uint8_t)(traffic_number(t, 3) ? traffic_number(t, 3) : traffic_number(t, 256));
     if (traffic_number(t, 8) == 0) any[3] = (uint8_t)traffic_number(t, 4);
     for (uint32_t k = traffic_number(t, 4); k > 0; k--) {
@@ -183,27 +183,27 @@ static void any_desk(struct traffic *t, const uint8_t *o, size_t n) {
     if (any[0] > 1 || (any[0] == 0 && any[1] != 0) || any[3] != 0) s.waiting = SECOND_UNKNOWN - 1;
     if (any[2] > 2) s.lamp = 2;
     struct second_verdict v = second_settle(&s, o, n);
-    if (size != ANTHERCUP_DESK) v.number = 17, v.place = 0;
+    if (size != ANTHERCUP_DESK_OCTETS) v.number = 17, v.place = 0;
     uint64_t answer = anthercup_settle(any, size, o, n);
     same("any desk: number", was, size, anthercup_number(answer), v.number);
     same("any desk: place", was, size, anthercup_place(answer), v.place);
     if (v.number) same("any desk: stays", was, size, (unsigned long)memcmp(any, was, sizeof any), 0);
     else same("any desk: settled", was, size, (unsigned long)same_desk(desk_of(any), s), 1);
-    same("new desk", was, size, (unsigned long)anthercup_new_desk(any, size), size == ANTHERCUP_DESK ? 0 : ANTHERCUP_RECORD);
+    same("new desk", was, size, (unsigned long)anthercup_new_desk(any, size), size == ANTHERCUP_DESK_OCTETS ? 0 : ANTHERCUP_REFUSED_RECORD);
 }
 
 /* messages about a few references on one desk, cleared now and then: after each, a reference is open exactly as the last notice said that was done and added or
  * removed it */
 static void history(struct traffic *t, long messages) {
     static uint8_t last[65536];
-    uint8_t o[TRAFFIC_OCTETS], desk[ANTHERCUP_DESK];
+    uint8_t o[TRAFFIC_OCTETS], desk[ANTHERCUP_DESK_OCTETS];
     unsigned long full = 0;
     unsigned open = 0;
     anthercup_new_desk(desk, sizeof desk);
     for (long i = 0; i < messages; i++) {
         size_t n = traffic_about(t, o), start, length;
         uint64_t answer = settles(o, n, desk);
-        full += anthercup_number(answer) == ANTHERCUP_NO_PLACE;
+        full += anthercup_number(answer) == ANTHERCUP_REFUSED_NO_PLACE;
         if (anthercup_number(answer) == 0 && o[0] == 0x82 && second_counted(o, n, 0x0D, &start, &length) && o[start] != 0x55) {
             uint8_t *word = &last[o[start + 1] * 256 + o[start + 2]];
             open = open - *word + (o[start] == 0xFF);
@@ -215,7 +215,7 @@ static void history(struct traffic *t, long messages) {
             open = 0;
         }
         unsigned held = 0;
-        for (unsigned p = 0; p < ANTHERCUP_PLACES; p++)
+        for (unsigned p = 0; p < ANTHERCUP_MOST_PLACES; p++)
             if (anthercup_open(desk, p) >= 0) {
                 same("history: held is open", o, n, last[anthercup_open(desk, p)], 1);
                 held++;
@@ -228,7 +228,7 @@ static void history(struct traffic *t, long messages) {
 
 int main(int argc, char **argv) {
     struct traffic t;
-    uint8_t o[TRAFFIC_OCTETS], desk[ANTHERCUP_DESK];
+    uint8_t o[TRAFFIC_OCTETS], desk[ANTHERCUP_DESK_OCTETS];
     long messages = argc > 1 ? atol(argv[1]) : 200000;
     traffic_start(&t, 1);
     anthercup_new_desk(desk, sizeof desk);
