@@ -188,14 +188,14 @@ static inline int anthercup_listen_waits(uint64_t answer)
  *    9       with 6 the refusal's number
  *   10 to 15 0, kept for the parameter's number, the edition and the way
  *
- * A record is 17 where an octet that its stage does not use is not 0, or a
- * number is out of range: with 0 and 1 the octets so far are 0 and 1; with 2
- * octets and room add up to 5 to 257; with 3 the room is at least 1 and they
- * add up to 6 to 258; with 4 the index is below the length, and octets, length
- * and room add up to 5 to 257 and the index; a size is 6 to 258; a refusal has
- * a number of 1 to 6 and a place up to 257. Sum and memory are not judged: a
- * record with another sum or memory than any octets lead to is stepped by the
- * same rule. */
+ * A record is 17 where octet 0 is above 6 or a class above 10, an octet that
+ * its stage does not use is not 0, or a number is out of range: with 0 and 1
+ * the octets so far are 0 and 1; with 2 octets and room add up to 5 to 257;
+ * with 3 the room is at least 1 and they add up to 6 to 258; with 4 the index
+ * is below the length, and octets, length and room add up to 5 to 257 and the
+ * index; a size is 6 to 258; a refusal has a number of 1 to 6 and a place up to
+ * 257. Sum and memory are not judged: a record with another sum or memory than
+ * any octets lead to is stepped by the same rule. */
 
 /* Makes the record that of a new listener, whatever it holds. Number 0, or 17
  * where listener_len is not ANTHERCUP_LISTENER_OCTETS. */
