@@ -1,6 +1,7 @@
 /* A box's program, to copy from. It hears octets from standard input as the
  * modem gives them, shows who calls, the lamp, how many messages wait and
- * which are open, and settles notices on a desk.
+ * which are open, and settles notices on a desk. A file named as its argument
+ * is the directory: lines of caller=text.
  *
  * How a box listens. Before a message the line carries a channel seizure,
  * which a modem hears as some thirty octets 55H: while no message has begun
@@ -20,6 +21,9 @@
 /* a pause in milliseconds: at 1200 bit/s an octet takes 9 */
 enum { PAUSE = 100 };
 
+/* the octets that a directory may have here */
+enum { DIRECTORY = 4096 };
+
 /* The listener keeps no octets: the message is those heard since the reset,
  * and they are held here. */
 struct box {
@@ -28,35 +32,45 @@ struct box {
     uint8_t held[ANTHERCUP_MESSAGE_OCTETS];
     size_t count;
     int answered;
+    uint8_t directory[DIRECTORY];
+    size_t directory_len;
 };
 
-/* The number of the entry of a type that counts: the first of its type, unless
- * its rival stands before it. -1 where none counts. */
-static int counted(const uint8_t *draft, unsigned type, unsigned rival)
+static void show_refusal(uint64_t answer)
 {
-    for (unsigned i = 0; i < anthercup_entries(draft); i++) {
-        if (anthercup_entry_type(draft, i) == type)
-            return (int)i;
-        if (anthercup_entry_type(draft, i) == rival)
-            return -1;
-    }
-    return -1;
+    unsigned number = anthercup_number(answer);
+
+    printf("refused: %u at %u, %s\n", number, anthercup_place(answer),
+           anthercup_text(number));
 }
 
-static void show_call(const uint8_t *draft, const uint8_t *texts)
+/* Why a call has no caller, where the message says it. */
+static const char *absence(const struct box *b)
 {
-    int i = counted(draft, ANTHERCUP_PARAMETER_NAME,
-                    ANTHERCUP_PARAMETER_NAME_ABSENT);
+    uint64_t answer = anthercup_counted(b->held, b->count,
+                                        ANTHERCUP_PARAMETER_CALLER_ABSENT);
 
-    if (i < 0)
-        i = counted(draft, ANTHERCUP_PARAMETER_CALLER,
-                    ANTHERCUP_PARAMETER_CALLER_ABSENT);
-    if (i < 0)
-        printf("a call\n");
+    if (!anthercup_counts(answer))
+        return "";
+    if (b->held[anthercup_counted_start(answer)] == 'P')
+        return ", caller private";
+    return ", caller unavailable";
+}
+
+/* The caption; a call may have none. */
+static void show_call(const struct box *b)
+{
+    uint8_t part[ANTHERCUP_PART_OCTETS];
+    uint64_t answer = anthercup_caption(b->held, b->count, b->directory,
+                                        b->directory_len, part, sizeof part);
+
+    if (anthercup_number(answer))
+        show_refusal(answer);
+    else if (anthercup_part_length(part) == 0)
+        printf("a call%s\n", absence(b));
     else
-        printf("a call from %.*s\n",
-               (int)anthercup_entry_length(draft, (unsigned)i),
-               (const char *)anthercup_entry_text(draft, (unsigned)i, texts));
+        printf("a call from %.*s\n", (int)anthercup_part_length(part),
+               (const char *)anthercup_part_text(part, b->held, b->directory));
 }
 
 static void show_desk(const uint8_t *desk)
@@ -74,30 +88,19 @@ static void show_desk(const uint8_t *desk)
     printf("\n");
 }
 
-static void show_refusal(uint64_t answer)
-{
-    unsigned number = anthercup_number(answer);
-
-    printf("refused: %u at %u, %s\n", number, anthercup_place(answer),
-           anthercup_text(number));
-}
-
+/* A message is held whole: its first octet is its type. */
 static void show_message(struct box *b)
 {
-    uint8_t draft[ANTHERCUP_DRAFT_OCTETS], texts[ANTHERCUP_TEXTS_OCTETS];
-    uint64_t answer = anthercup_read(b->held, b->count, draft, sizeof draft,
-                                     texts, sizeof texts);
+    uint64_t answer;
 
-    if (anthercup_number(answer)) {
-        show_refusal(answer);
-    } else if (anthercup_message_type(draft) == ANTHERCUP_CALL) {
-        show_call(draft, texts);
-    } else {
-        answer = anthercup_settle(b->desk, sizeof b->desk, b->held, b->count);
-        if (anthercup_number(answer))
-            show_refusal(answer);
-        show_desk(b->desk);
+    if (b->held[0] == ANTHERCUP_CALL) {
+        show_call(b);
+        return;
     }
+    answer = anthercup_settle(b->desk, sizeof b->desk, b->held, b->count);
+    if (anthercup_number(answer))
+        show_refusal(answer);
+    show_desk(b->desk);
 }
 
 /* The line pauses: whatever was heard of a message is over. */
@@ -135,13 +138,36 @@ static void hear(struct box *b, const uint8_t *run, size_t n)
     }
 }
 
-int main(void)
+/* The directory from a file. */
+static int directory_read(struct box *b, const char *name)
+{
+    FILE *file = fopen(name, "rb");
+    int whole;
+
+    if (!file)
+        return 0;
+    b->directory_len = fread(b->directory, 1, sizeof b->directory, file);
+    whole = fgetc(file) == EOF && !ferror(file);
+    fclose(file);
+    return whole;
+}
+
+int main(int argc, char **argv)
 {
     struct pollfd line = {0, POLLIN, 0};
-    struct box b;
+    static struct box b;
     uint8_t run[64];
     ssize_t got = 1;
 
+    if (argc > 2) {
+        fprintf(stderr, "usage: box [DIRECTORY]\n");
+        return 2;
+    }
+    if (argc > 1 && !directory_read(&b, argv[1])) {
+        fprintf(stderr, "box: %s cannot be read, or has more than %d octets\n",
+                argv[1], DIRECTORY);
+        return 2;
+    }
     anthercup_new_desk(b.desk, sizeof b.desk);
     line_paused(&b);
     while (got > 0) {

@@ -1,5 +1,5 @@
-/* Document 01's rows through the archive, as the firmware calls it: heard whole, octet by octet and cut in two everywhere; read; settled; and records that are
- * no listener's, no draft's and no desk's.
+/* Document 01's rows through the archive, as the firmware calls it: heard whole, octet by octet and cut in two everywhere; read; settled; what
+ * counts and the caption; and records that are no listener's, no draft's, no part's and no desk's.
  * Says how many answers it compared; the first that differs ends it with status 1. */
 #include <stdio.h>
 #include <stdlib.h>
@@ -132,10 +132,97 @@ static void read_whole(const struct row *r) {
     uint64_t answer = anthercup_read(o, n, draft, sizeof draft, texts, sizeof texts);
     same(r->octets, anthercup_number(answer), number);
     same(r->octets, anthercup_place(answer), place);
+    answer = anthercup_counted(o, n, 0xFF);
+    same(r->octets, (unsigned long)answer, number + 256ul * place);
     anthercup_new_desk(desk, sizeof desk);
     answer = anthercup_settle(desk, sizeof desk, o, n);
     same(r->octets, anthercup_number(answer), number);
     same(r->octets, anthercup_place(answer), place);
+}
+
+/* where the contents of a type that count stand: start and length by hand, 0 and 0 where none count */
+static void counted_is(const char *octets, uint8_t type, unsigned start, unsigned length) {
+    uint8_t o[300];
+    size_t n = octets_of(octets, o);
+    uint64_t answer = anthercup_counted(o, n, type);
+    same(octets, (unsigned long)anthercup_counts(answer), start != 0);
+    same(octets, anthercup_counted_start(answer), start);
+    same(octets, anthercup_counted_length(answer), length);
+    same(octets, answer != ((uint64_t)length << 24) + ((uint64_t)start << 40), 0);
+}
+
+static const char call[] = "801101083036313531343330020534303931 32CB";
+
+static void counts(void) {
+    counted_is(call, ANTHERCUP_PARAMETER_TIME, 4, 8);
+    counted_is(call, ANTHERCUP_PARAMETER_CALLER, 14, 5);
+    for (unsigned type = 0; type < 256; type++)
+        if (type != ANTHERCUP_PARAMETER_TIME && type != ANTHERCUP_PARAMETER_CALLER) counted_is(call, (uint8_t)type, 0, 0);
+    counted_is("8006040150020137EB", ANTHERCUP_PARAMETER_CALLER_ABSENT, 4, 1);
+    counted_is("8006040150020137EB", ANTHERCUP_PARAMETER_CALLER, 0, 0);
+    counted_is("8006020137040150EB", ANTHERCUP_PARAMETER_CALLER, 4, 1);
+    counted_is("8006020137040150EB", ANTHERCUP_PARAMETER_CALLER_ABSENT, 0, 0);
+    counted_is("800608014F070141D9", ANTHERCUP_PARAMETER_NAME_ABSENT, 4, 1);
+    counted_is("800608014F070141D9", ANTHERCUP_PARAMETER_NAME, 0, 0);
+    counted_is("820613010213010549", ANTHERCUP_PARAMETER_WAITING, 4, 1);
+    counted_is("800305010077", 0x05, 0, 0); /* carried */
+}
+
+/* the caption of a message and a directory: side, start and length by hand */
+static void caption_is(const char *octets, const char *directory, size_t size,
+                       int side, size_t start, size_t length) {
+    uint8_t o[300], part[ANTHERCUP_PART_OCTETS];
+    size_t n = octets_of(octets, o);
+    memset(part, 0x5A, sizeof part);
+    uint64_t answer = anthercup_caption(o, n, (const uint8_t *)directory, size, part, sizeof part);
+    same(directory, answer != 0, 0);
+    same(directory, (unsigned long)anthercup_part_in_directory(part), (unsigned long)side);
+    same(directory, anthercup_part_start(part), start);
+    same(directory, anthercup_part_length(part), length);
+    for (size_t i = 1; i < 8; i++) same("a part's octets that are kept", part[i], 0);
+}
+
+static void captions(void) {
+    static const struct {
+        const char *octets, *directory;
+        int side;
+        size_t start, length;
+    } cases[] = {
+        {call, "", 0, 14, 5},
+        {call, "409=A\n40912\n40912=B=C\n40912=D\n", 1, 18, 3},
+        {call, "1=A\n40912=B", 1, 10, 1},
+        {call, "40912=\n", 1, 6, 0},
+        {call, "40912=B\r\n", 1, 6, 2},
+        {call, "=40912\n409123=A\n0912=B\n\n", 0, 14, 5},
+        {"80080703416E6E02013717", "7=A\n", 0, 4, 3},
+        {"800608014F070141D9", "A=B\n", 0, 0, 0},
+        {"8006040150020137EB", "7=A\n", 0, 0, 0},
+    };
+    static char wide[70000];
+    for (size_t i = 0; i < sizeof cases / sizeof cases[0]; i++)
+        caption_is(cases[i].octets, cases[i].directory, strlen(cases[i].directory), cases[i].side,
+                   cases[i].start, cases[i].length);
+    memset(wide, '\n', sizeof wide);
+    memcpy(wide + sizeof wide - 9, "40912=Ann", 9);
+    caption_is(call, wide, sizeof wide, 1, sizeof wide - 3, 3);
+}
+
+/* refusals as the whole read's, ahead of them 17 by the size alone, and the part's record as it was */
+static void no_captions(void) {
+    uint8_t o[300], part[ANTHERCUP_PART_OCTETS + 16];
+    for (size_t i = 0; i < sizeof rows / sizeof rows[0]; i++) {
+        size_t n = octets_of(rows[i].octets, o);
+        for (size_t size = 0; size <= sizeof part; size++) {
+            uint64_t read = anthercup_counted(o, n, ANTHERCUP_PARAMETER_CALLER), answer;
+            unsigned number = anthercup_number(read), place = anthercup_place(read);
+            if (number == 0 && size == ANTHERCUP_PART_OCTETS) continue;
+            if (size != ANTHERCUP_PART_OCTETS) number = ANTHERCUP_REFUSED_RECORD, place = 0;
+            memset(part, 0x5A, sizeof part);
+            answer = anthercup_caption(o, n, o, 0, part, size);
+            same(rows[i].octets, (unsigned long)answer, number + 256ul * place);
+            for (size_t k = 0; k < sizeof part; k++) same("a part that stays", part[k], 0x5A);
+        }
+    }
 }
 
 /* document 01's notices on a desk */
@@ -256,6 +343,9 @@ int main(void) {
     notice_is("820313010265", 2, ANTHERCUP_LAMP_UNKNOWN);
     notice_is("820613010213010549", 2, ANTHERCUP_LAMP_UNKNOWN);
     notice_is("8006040150020137EB", -1, ANTHERCUP_LAMP_UNKNOWN);
+    counts();
+    captions();
+    no_captions();
     other_records();
     references();
     places();

@@ -1,6 +1,7 @@
 /* The deepest message, 85 parameters in 258 octets, on a painted stack: read,
- * settled and heard; the deepest octet touched by each call is printed. More
- * than 13 KB ends it with status 1, since the header says less. */
+ * settled, asked for what counts and for its caption, and heard; the deepest
+ * octet touched by each call is printed. More than the header says ends it with
+ * status 1. */
 #include <stdio.h>
 #include <string.h>
 
@@ -10,7 +11,7 @@ enum { PAINTED = 1 << 18, WANTED = 13 * 1024, HEARD = 1024 };
 
 static uint8_t o[ANTHERCUP_MESSAGE_OCTETS], draft[ANTHERCUP_DRAFT_OCTETS],
     texts[ANTHERCUP_TEXTS_OCTETS], desk[ANTHERCUP_DESK_OCTETS],
-    listener[ANTHERCUP_LISTENER_OCTETS];
+    listener[ANTHERCUP_LISTENER_OCTETS], part[ANTHERCUP_PART_OCTETS];
 
 /* L is 255: carried texts of one octet; the checksum last */
 static size_t message(uint8_t type)
@@ -28,6 +29,20 @@ static size_t message(uint8_t type)
     for (size_t i = 0; i < n; i++)
         sum = (uint8_t)(sum + o[i]);
     o[n++] = (uint8_t)-sum;
+    return n;
+}
+
+/* a call whose caller, 7, stands last, and whose directory has a line for it */
+static const uint8_t line[] = {'7', '=', 'A', 'n', 'n'};
+
+static size_t called(void)
+{
+    size_t n = message(ANTHERCUP_CALL);
+
+    o[n - 1] = (uint8_t)(o[n - 1] + o[n - 4] - ANTHERCUP_PARAMETER_CALLER
+                         + o[n - 2] - '7');
+    o[n - 4] = ANTHERCUP_PARAMETER_CALLER;
+    o[n - 2] = '7';
     return n;
 }
 
@@ -60,7 +75,8 @@ static int failed(const char *what, uint64_t answer)
 
 int main(void)
 {
-    size_t n = message(ANTHERCUP_NOTICE), read, settle, listen;
+    size_t n = message(ANTHERCUP_NOTICE), read, settle, listen, counted,
+           caption;
     uint64_t answer;
 
     if (n != ANTHERCUP_MESSAGE_OCTETS)
@@ -83,6 +99,20 @@ int main(void)
     if (answer)
         return failed("settle", answer);
 
+    paint();
+    answer = anthercup_counted(o, n, ANTHERCUP_PARAMETER_USER);
+    counted = touched();
+    if (answer)
+        return failed("counted", answer);
+
+    n = called();
+    paint();
+    answer = anthercup_caption(o, n, line, sizeof line, part, sizeof part);
+    caption = touched();
+    if (answer || anthercup_part_length(part) != 3)
+        return failed("caption", answer);
+    n = message(ANTHERCUP_NOTICE);
+
     anthercup_reset(listener, sizeof listener);
     paint();
     answer = anthercup_listen(listener, sizeof listener, o, n);
@@ -91,7 +121,8 @@ int main(void)
         return failed("listen", answer);
 
     printf("stack: 258 octets, 85 parameters: read %zu octets of stack, settle "
-           "%zu, listen %zu\n",
-           read, settle, listen);
-    return read > WANTED || settle > WANTED || listen > HEARD;
+           "%zu, counted %zu, caption %zu, listen %zu\n",
+           read, settle, counted, caption, listen);
+    return read > WANTED || settle > WANTED || counted > WANTED
+        || caption > WANTED || listen > HEARD;
 }

@@ -1,7 +1,8 @@
 /* Traffic through the archive and the second reader in one process: each message is heard whole, octet by octet and in runs of random cuts, and every
  * answer, place, size and count of octets taken is held to what the second reader says of the octets offered so far. Records are handed back after every
  * call, and records of random octets are refused with 17 as they were, or are stepped. Each is read whole, with areas on both sides of what its texts need
- * and records of other sizes: every entry, every text and all that must stay. Each is settled on a desk, twice, and so is a history of messages about a few
+ * and records of other sizes: every entry, every text and all that must stay.
+ * Where what counts stands is asked for some types, and the caption with directories of many kinds. Each is settled on a desk, twice, and so is a history of messages about a few
  * references, of which the last word on each is kept here too. Says how many answers it compared; a difference ends it with status 1. */
 #include <stdio.h>
 #include <stdlib.h>
@@ -11,7 +12,7 @@
 #include "second.h"
 #include "traffic.h"
 
-static unsigned long compared;
+static unsigned long compared, by_line;
 
 static void differ(const char *what, const uint8_t *o, size_t n, unsigned long got, unsigned long wanted) {
     printf("traffic: %s: got %lu, wanted %lu, after", what, got, wanted);
@@ -167,6 +168,66 @@ static uint64_t settles(const uint8_t *o, size_t n, uint8_t *desk) {
     return answer;
 }
 
+/* of some types what counts, and number and place of the whole read where the octets are no message */
+static void counts(struct traffic *t, const uint8_t *o, size_t n, struct second_verdict v) {
+    for (unsigned i = 0; i < 3; i++) {
+        uint32_t type = traffic_number(t, i ? 32 : 256);
+        size_t start = 0, length = 0;
+        int one = second_counted(o, n, (uint8_t)type, &start, &length);
+        uint64_t answer = anthercup_counted(o, n, (uint8_t)type);
+        same("counted: number", o, n, anthercup_number(answer), v.number);
+        same("counted: place", o, n, anthercup_place(answer), v.place);
+        same("counted: whether", o, n, (unsigned long)anthercup_counts(answer), (unsigned long)one);
+        same("counted: start", o, n, anthercup_counted_start(answer), start);
+        same("counted: length", o, n, anthercup_counted_length(answer), length);
+        same("counted: octet 7", o, n, (unsigned long)(answer >> 56), 0);
+    }
+}
+
+/* a line of a directory about a caller: for it, for one that it begins or that begins it, without an = behind it, or with any octet before it */
+static size_t line(struct traffic *t, uint8_t *d, const uint8_t *caller,
+                   size_t length) {
+    static const char *const texts[] = {"", "Ann", "B=C", "=", "the post\r", "40912=x"};
+    const char *text = texts[traffic_number(t, sizeof texts / sizeof texts[0])];
+    uint32_t sort = traffic_number(t, 8);
+    size_t n = 0, some = sort < 4 ? length : traffic_number(t, (uint32_t)length + 1);
+    if (sort == 7) d[n++] = (uint8_t)traffic_number(t, 256);
+    for (size_t i = 0; i < some; i++) d[n++] = caller[i];
+    if (sort == 6) d[n++] = '7';
+    if (sort != 3) d[n++] = '=';
+    for (size_t i = 0; text[i]; i++) d[n++] = (uint8_t)text[i];
+    d[n++] = '\n';
+    return n;
+}
+
+/* the caption, with a directory about the caller that counts, or about 7 */
+static void caption(struct traffic *t, const uint8_t *o, size_t n) {
+    uint8_t d[6 * 64], part[ANTHERCUP_PART_OCTETS + 4], was[sizeof part];
+    size_t size = traffic_number(t, 16) ? ANTHERCUP_PART_OCTETS : traffic_number(t, sizeof part);
+    size_t octets = 0, start = 0, length = 0;
+    const uint8_t *caller = (const uint8_t *)"7";
+    if (second_counted(o, n, 0x02, &start, &length)) caller = o + start;
+    else length = 1;
+    for (uint32_t k = traffic_number(t, 6); k > 0; k--) octets += line(t, d + octets, caller, length);
+    if (octets && traffic_number(t, 2)) octets--;
+    struct second_part s = second_caption(o, n, d, octets);
+    if (size != ANTHERCUP_PART_OCTETS) s.number = ANTHERCUP_REFUSED_RECORD, s.place = 0;
+    memset(part, 0x5A, sizeof part);
+    memcpy(was, part, sizeof was);
+    uint64_t answer = anthercup_caption(o, n, d, octets, part, size);
+    same("caption: word", o, n, (unsigned long)answer, s.number + 256ul * s.place);
+    if (s.number) {
+        same("caption: stays", o, n, (unsigned long)memcmp(part, was, sizeof part), 0);
+        return;
+    }
+    same("caption: side", o, n, (unsigned long)anthercup_part_in_directory(part), s.slice == SECOND_IN_DIRECTORY);
+    same("caption: start", o, n, anthercup_part_start(part), s.start);
+    same("caption: length", o, n, anthercup_part_length(part), s.length);
+    for (size_t i = 1; i < 8; i++) same("caption: kept", o, n, part[i], 0);
+    for (size_t i = ANTHERCUP_PART_OCTETS; i < sizeof part; i++) same("caption: behind", o, n, part[i], was[i]);
+    by_line += s.slice == SECOND_IN_DIRECTORY;
+}
+
 /* any record at all: 17 exactly where size, codes, places or a reference twice make it none */
 static void any_desk(struct traffic *t, const uint8_t *o, size_t n) {
     static const uint32_t ends[] = {1, 2, 3, 65535, 65536, 65537, 16777215};
@@ -240,10 +301,14 @@ int main(int argc, char **argv) {
         if (i % 8 == 0) in_runs(&t, o, n, whole, 1);
         any_record(&t);
         reads(&t, o, n);
+        struct second_draft s;
+        counts(&t, o, n, second_read(o, n, ANTHERCUP_TEXTS_OCTETS, &s));
+        caption(&t, o, n);
         settles(o, n, desk);
         any_desk(&t, o, n);
         if (i % 64 == 0) anthercup_new_desk(desk, sizeof desk);
     }
+    if (by_line == 0) differ("caption: no line of a directory", o, 0, 0, 1);
     history(&t, messages / 4);
     printf("traffic: %ld messages, %lu answers as the second reader has them\n", messages, compared);
     return 0;

@@ -1,18 +1,21 @@
 /*
- * Anthercup for the boxes' firmware: the listener, the reader and the desk
- * (document 01, Listening, Drafts and The desk; document 02, Q-6).
+ * Anthercup for the boxes' firmware: the listener, the reader, what counts, the
+ * caption and the desk (document 01, Listening, Drafts, What counts, The caption
+ * and The desk; document 02, Q-6).
  *
  * Link with the archive: cc app.c -lanthercup (tools/install puts header,
  * archive and a pkg-config file in place). The archive is for x86-64 alone,
  * position-independent, uses SSE registers and needs memset of the
  * C library. It has no data of its own: calls on different records may run at
  * the same time, in threads or interrupts. Stack, measured on the deepest
- * message: read and settle each use less than 13 KB, listen less than 1 KB.
+ * message: read, settle, counted and caption use less than 13 KB each, listen
+ * less than 1 KB.
  *
  * What the caller owes. Octets are handed over as a pointer and a length. A
  * pointer is never null, also where the length is 0, and what is lent for
  * writing overlaps nothing else. The octets of a message, from the reset on,
- * are held by the caller: 258 suffice, and read and settle want them whole.
+ * are held by the caller: 258 suffice; read, counted, caption and settle want
+ * them whole.
  * Indices of entries are below anthercup_entries(), places of a desk below
  * ANTHERCUP_MOST_PLACES.
  *
@@ -30,10 +33,11 @@
  *   octet 0 (lowest)  the number of a refusal; 0 where there is none
  *   octets 1 and 2    the place of a refusal; 0 where there is none
  *   octets 3 and 4    a size: listen gives the message's size, 0 while it
- *                     waits; read gives the text octets laid down; 0 in every
- *                     refusal
- *   octets 5 and 6    octets taken by this call of listen, the spoiling one
- *                     counted; 0 with 17
+ *                     waits; read gives the text octets laid down; counted
+ *                     gives the length of what counts; 0 in every refusal
+ *   octets 5 and 6    listen gives the octets that this call took, the
+ *                     spoiling one included, 0 with 17; counted gives the
+ *                     start of what counts; 0 in all other answers
  *   octet 7           0, kept: bits 0 to 6 for the parameter's number, bit 7
  *                     for the edition
  */
@@ -56,6 +60,7 @@ extern "C" {
 #define ANTHERCUP_LISTENER_OCTETS 16
 #define ANTHERCUP_DRAFT_OCTETS 688
 #define ANTHERCUP_TEXTS_OCTETS 253 /* a text area that is never too short */
+#define ANTHERCUP_PART_OCTETS 24
 #define ANTHERCUP_DESK_OCTETS 52
 #define ANTHERCUP_MOST_ENTRIES 85
 #define ANTHERCUP_MOST_PLACES 16
@@ -226,9 +231,8 @@ uint64_t anthercup_listen(uint8_t *listener, size_t listener_len,
  *    6, 7    0
  * What a record does not use is 0, and so is every entry that is not used.
  *
- * A draft has every parameter, repeats too. Of a type the first entry counts,
- * unless its rival stands before it: 02H and 04H are rivals, and 07H and 08H;
- * carried ones never count. */
+ * A draft has every parameter, repeats too; which of them count, and which text
+ * a display shows, say anthercup_counted and anthercup_caption. */
 
 enum anthercup_values {
     ANTHERCUP_VALUE_CODE = 0,
@@ -327,6 +331,84 @@ static inline const uint8_t *
 anthercup_entry_text(const uint8_t *draft, unsigned i, const uint8_t *texts)
 {
     return texts + anthercup_entry_start(draft, i);
+}
+
+/* ---- What counts, and the caption ---- */
+
+/* Of one whole message, where the contents of a parameter type stand that
+ * count: those of the first parameter of the type, unless its rival stands
+ * before it (02H and 04H are rivals, and 07H and 08H). Carried types never
+ * count. Number 0, or 1 to 8. Any type may be asked for. */
+uint64_t anthercup_counted(const uint8_t *octets, size_t octets_len,
+                           uint8_t type);
+
+/* Of counted's answer alone: whether the type counts in that message; then its
+ * contents are the length octets of the message from start on, start and length
+ * being 0 otherwise. */
+static inline int anthercup_counts(uint64_t answer)
+{
+    return anthercup_taken(answer) != 0;
+}
+
+static inline unsigned anthercup_counted_start(uint64_t answer)
+{
+    return anthercup_taken(answer);
+}
+
+static inline unsigned anthercup_counted_length(uint64_t answer)
+{
+    return anthercup_size(answer);
+}
+
+/* The caption of one whole message, as a part of the message or of a directory:
+ * the name that counts; else, if a caller counts, the text after the first = on
+ * the first line of the directory whose text before it is that caller; else the
+ * caller; else the empty part at the message's start. Lines end with octet 0AH,
+ * the last perhaps without; a line with no = is passed over. A directory may
+ * have any size, 0 included.
+ *
+ * The part's record is only written, in octets:
+ *    0       0 a part of the message, 1 of the directory
+ *    1 to 7  0, kept
+ *    8 to 15 where the part starts in it, low octet first
+ *   16 to 23 how long it is, low octet first
+ * Number 0; or 17 where part_len is not ANTHERCUP_PART_OCTETS, then 1 to 8, and
+ * the record holds what it held: ask of a part only after number 0. */
+uint64_t anthercup_caption(const uint8_t *octets, size_t octets_len,
+                           const uint8_t *directory, size_t directory_len,
+                           uint8_t *part, size_t part_len);
+
+static inline int anthercup_part_in_directory(const uint8_t *part)
+{
+    return part[0];
+}
+
+static inline size_t anthercup_part_start(const uint8_t *part)
+{
+    uint64_t start = 0;
+
+    for (unsigned i = 8; i < 16; i++)
+        start |= (uint64_t)part[i] << 8 * (i - 8);
+    return (size_t)start;
+}
+
+static inline size_t anthercup_part_length(const uint8_t *part)
+{
+    uint64_t length = 0;
+
+    for (unsigned i = 16; i < 24; i++)
+        length |= (uint64_t)part[i] << 8 * (i - 16);
+    return (size_t)length;
+}
+
+/* Where the part begins, in the message and the directory that were handed
+ * in. */
+static inline const uint8_t *anthercup_part_text(const uint8_t *part,
+                                                 const uint8_t *octets,
+                                                 const uint8_t *directory)
+{
+    return (anthercup_part_in_directory(part) ? directory : octets)
+        + anthercup_part_start(part);
 }
 
 /* ---- The desk ----

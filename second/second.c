@@ -3,13 +3,17 @@
  * below and second_is_message; "Listening" asks of each prefix whether it is
  * a message or can still become one; the read, the desk, the caption and the
  * listing look only at octets that are known to be a message. No state is
- * handed from octet to octet. -DSECOND_WRONG makes it wrong on purpose.
+ * handed from octet to octet. -DSECOND_WRONG=N makes it wrong on
+ * purpose: 1 in a limit, 2 in the line for a caller, 3 in what counts.
  */
 #include "second.h"
 
 #include <string.h>
 
-#ifdef SECOND_WRONG
+#ifndef SECOND_WRONG
+#define SECOND_WRONG 0
+#endif
+#if SECOND_WRONG == 1
 #define NUMBER_LIMIT 18 /* a comparison with this must fail */
 #else
 #define NUMBER_LIMIT 20
@@ -353,7 +357,8 @@ static int counts(const uint8_t *o, uint8_t type, struct parameter *q)
     if (!is_listed(type))
         return 0;
     while (next_parameter(o, &place, q)) {
-        if (q->type == type || q->type == rules[type].rival)
+        if (q->type == type
+            || (SECOND_WRONG != 3 && q->type == rules[type].rival))
             return q->type == type;
     }
     return 0;
@@ -675,7 +680,8 @@ static int look_up(const uint8_t *d, size_t octets, const uint8_t *caller,
 
         end = find(d, line, octets, 0x0A);
         equals = find(d, line, end, '=');
-        if (equals < end && equals - line == n
+        if (equals < end
+            && (equals - line == n || (SECOND_WRONG == 2 && equals - line > n))
             && memcmp(d + line, caller, n) == 0) {
             part->slice = SECOND_IN_DIRECTORY;
             part->start = equals + 1;

@@ -12,4 +12,7 @@ pub mod RecordSettles
 pub mod RecordHears
 pub mod RecordReads
 pub mod DraftRecord
+pub mod PartRecord
+pub mod RecordParts
+pub mod Findings
 pub mod Coding

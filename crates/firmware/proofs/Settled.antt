@@ -6,6 +6,8 @@ use Rattle.firmware.proofs.anthercup_listen.Reads as listen
 use Rattle.firmware.proofs.anthercup_read.Reads as read
 use Rattle.firmware.proofs.anthercup_new_desk.Reads as new-desk
 use Rattle.firmware.proofs.anthercup_settle.Reads as settle
+use Rattle.firmware.proofs.anthercup_counted.Reads as counted
+use Rattle.firmware.proofs.anthercup_caption.Reads as caption
 
 pub anthercup-reset-settled : (κs : _) (a : _) (r r' : _) (s s' : _) → reset.Post κs a r s → reset.Post κs a r' s' → (r ≡ r') × (s .0 .now ≡ s' .0 .now)
 anthercup-reset-settled κs a r r' s s' p q = (p .0 ∙ sym (q .0), p .1 ∙ sym (q .1))
@@ -21,3 +23,9 @@ anthercup-new-desk-settled κs a r r' s s' p q = (p .0 ∙ sym (q .0), p .1 ∙ 
 
 pub anthercup-settle-settled : (κs : _) (a : _) (r r' : _) (s s' : _) → settle.Post κs a r s → settle.Post κs a r' s' → (r ≡ r') × (s .0 .now ≡ s' .0 .now)
 anthercup-settle-settled κs a r r' s s' p q = (p .0 ∙ sym (q .0), p .1 ∙ sym (q .1))
+
+pub anthercup-counted-settled : (κs : _) (a : _) (r r' : _) (s s' : _) → counted.Post κs a r s → counted.Post κs a r' s' → r ≡ r'
+anthercup-counted-settled κs a r r' s s' p q = p ∙ sym q
+
+pub anthercup-caption-settled : (κs : _) (a : _) (r r' : _) (s s' : _) → caption.Post κs a r s → caption.Post κs a r' s' → (r ≡ r') × (s .1 .1 .0 .now ≡ s' .1 .1 .0 .now)
+anthercup-caption-settled κs a r r' s s' p q = (p .0 ∙ sym (q .0), p .1 ∙ sym (q .1))

@@ -11,6 +11,16 @@ use Rattle.listener.specs.declared.Heard.{Heard}
 use Rattle.listener.specs.Heard.{numberOf, placeOf, sizeOf, heardOf, newListener}
 use Rattle.draft.specs.Packing.{draftOf}
 use Rattle.message.specs.Parameters.{messageIn}
+use Rattle.message.specs.declared.Verdict.{Verdict}
+use Rattle.message.specs.declared.Verdict.the-variants.{Accepted, Declined}
+use Rattle.message.specs.declared.Part.{Part}
+use Rattle.message.specs.declared.Part.the-variants.{At, Nowhere}
+use Rattle.message.specs.Verdict.{verdictOf}
+use Rattle.message.specs.Walking.{countedAt}
+use Rattle.caption.specs.declared.Found.{Found}
+use Rattle.caption.specs.declared.Found.the-variants as found
+use Rattle.caption.specs.Caption as caption
+use Rattle.caption.specs.Caption.{findOf}
 use Rattle.reader.specs.declared.Packed.{Packed}
 use Rattle.reader.specs.declared.Packed.the-variants.{Texts, Refused}
 use Rattle.reader.specs.Read.{packOf, areaAfter}
@@ -20,6 +30,7 @@ use Rattle.desk.specs.Settle as settle
 use Rattle.desk.specs.Settle.{newDesk, settleOf}
 use Rattle.firmware.specs.DeskRecord.{isRecord, deskIn, deskRecord}
 use Rattle.firmware.specs.DraftRecord.{draftRecord}
+use Rattle.firmware.specs.PartRecord.{partRecord}
 use Rattle.firmware.specs.declared.Outcome.{Outcome}
 use Rattle.firmware.specs.declared.Decoded.{Decoded}
 use Rattle.firmware.specs.declared.Decoded.the-variants.{Known, Unknown}
@@ -92,3 +103,32 @@ settleAnswer c o = pick (isRecord c) (deskWord (settleOf (rulesOf PresentLenient
 
 unfoldable pub settleRecord : List ℕ → List ℕ → List ℕ
 settleRecord c o = pick (isRecord c) (deskRecord (settleOf (rulesOf PresentLenient) (deskIn c) o .desk)) c
+
+-- ---- what counts: the size is the length of the contents that count, and their start stands in octets 5 and 6; 0 and 0 where none count
+unfoldable pub partWord : Part → ℕ
+partWord (At start n) = packed 0 0 n start
+partWord Nowhere = packed 0 0 0 0
+
+-- octets that the whole read declines get its number and place
+unfoldable pub countedUnder : Verdict → List ℕ → ℕ → ℕ
+countedUnder (Accepted n) o t = partWord (countedAt (rulesOf PresentLenient) o t)
+countedUnder (Declined f) o t = packed (f .number) (f .place) 0 0
+
+unfoldable pub countedAnswer : List ℕ → ℕ → ℕ
+countedAnswer o t = countedUnder (verdictOf (rulesOf PresentLenient) o) o t
+
+-- ---- the caption: the record is only written, so its size alone is judged
+unfoldable pub foundWord : Found → ℕ
+foundWord r = packed (caption.numberOf r) (caption.placeOf r) 0 0
+
+-- the record of the part that is found; as it was with a refusal
+unfoldable pub partFrom : List ℕ → Found → List ℕ
+partFrom c (found.InMessage start n) = partRecord 0 start n
+partFrom c (found.InDirectory start n) = partRecord 1 start n
+partFrom c (found.Refused f) = c
+
+unfoldable pub captionAnswer : List ℕ → List ℕ → List ℕ → ℕ
+captionAnswer o d c = pick (length c =? 24) (foundWord (findOf (rulesOf PresentLenient) o d)) badRecord
+
+unfoldable pub captionRecord : List ℕ → List ℕ → List ℕ → List ℕ
+captionRecord o d c = pick (length c =? 24) (partFrom c (findOf (rulesOf PresentLenient) o d)) c

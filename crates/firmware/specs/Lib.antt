@@ -3,7 +3,9 @@ pub mod Record
 pub mod Word
 pub mod DeskRecord
 pub mod DraftRecord
+pub mod PartRecord
 pub mod Exports
 pub mod RecordHears
 pub mod RecordReads
 pub mod RecordSettles
+pub mod RecordParts

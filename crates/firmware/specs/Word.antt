@@ -1,8 +1,8 @@
 -- The answer of an export, packed into one word: octet 0 (the lowest) the number, 0 where there is none; octets 1 and 2 the place; octets 3 and 4 a size;
--- octets 5 and 6 the octets taken; octet 7 is 0, kept for what may come.
+-- octets 5 and 6 the octets taken, or the start of what counts; octet 7 is 0, kept for what may come.
 -- Assumes nothing.
 use Prim.Native.Nat.{ℕ, _+_, _*_, _/_, _%_, _<_}
-use mathlib.Core.Path.{_≡_}
+use mathlib.Core.Path.{_≡_, refl}
 use native.Mathlib.Omega.{arith}
 
 unfoldable pub packed : ℕ → ℕ → ℕ → ℕ → ℕ
@@ -21,8 +21,9 @@ wordSize w = w / 16777216 % 65536
 unfoldable pub wordTaken : ℕ → ℕ
 wordTaken w = w / 1099511627776 % 65536
 
--- what is packed is read back
+-- what is packed is read back, and the word holds nothing else: octet 7 is 0
 pub record Unpacked (k p n t w : ℕ) : Type 0 where
+  pub whole : w ≡ packed k p n t
   pub number : wordNumber w ≡ k
   pub place : wordPlace w ≡ p
   pub size : wordSize w ≡ n
@@ -30,4 +31,4 @@ pub record Unpacked (k p n t w : ℕ) : Type 0 where
 
 pub unpacked : (k p n t : ℕ) → k < 256 → p < 65536 → n < 65536 → t < 65536 → Unpacked k p n t (packed k p n t)
 unfolding packed wordNumber wordPlace wordSize wordTaken
-unpacked k p n t a b c d = record { number = omega arith; place = omega arith; size = omega arith; taken = omega arith }
+unpacked k p n t a b c d = record { whole = refl; number = omega arith; place = omega arith; size = omega arith; taken = omega arith }

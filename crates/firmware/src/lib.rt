@@ -1,10 +1,15 @@
-// The listener and the reader for the boxes' firmware, which is C: records of octets, and answers packed into one word (include/anthercup.h says the same to C).
+// The listener, the reader, the desk, what counts and the caption for the boxes' firmware, which is C: records of octets, and answers packed into one word (include/anthercup.h says the same to C).
 mod desks;
 mod drafts;
+mod parts;
 
+use caption::Found;
 use desks::DESK;
 use listener::Answer;
 use listener::Listener;
+use message::Part;
+use message::Verdict;
+use parts::PART;
 use reader::Packed;
 use rules::Book;
 use rules::Fault;
@@ -17,6 +22,8 @@ ghost use lib.ListN.{length};
 ghost use Rattle.rules.specs.Table.{rulesOf};
 ghost use Rattle.rules.specs.declared.Book.the-variants as book;
 ghost use Rattle.listener.specs.Heard.{numberOf, placeOf, sizeOf};
+ghost use Rattle.message.specs.Walking.{countedAt};
+ghost use Rattle.caption.specs.Caption.{findOf};
 ghost use Rattle.reader.specs.Read.{packOf, areaAfter};
 ghost use Rattle.firmware.specs.Record as record-of;
 ghost use Rattle.firmware.specs.Word as word;
@@ -382,6 +389,38 @@ fn desk_word(a: desk::Answer) -> u64
     }
 }
 
+// In a message: the contents of a type that count, their length as the size, and their start in octets 5 and 6; 0 and 0 where none count.
+fn counted_in(octets: &[u8], kind: u8) -> u64
+    requires { ⌜ length (now octets) ≤ 258 ⌝ }
+    ensures { λ r. ⌜ r ≡ exports.partWord (countedAt (rulesOf book.PresentLenient) (now (octets .entry)) kind) ⌝ }
+{
+    let part = message::counted(Book::PresentLenient, octets, kind);
+    match part {
+        Part::At { start, length: n } => packed(0, 0, n as u16, start),
+        Part::Nowhere => packed(0, 0, 0, 0),
+    }
+}
+
+// The record of the part that is found; as it was with a refusal.
+fn caption_into(octets: &[u8], directory: &[u8], cells: &mut [u8]) -> u64
+    requires { ⌜ length (now cells) ≡ 24 ⌝ }
+    ensures answer { λ r. ⌜ r ≡ exports.foundWord (findOf (rulesOf book.PresentLenient) (now (octets .entry)) (now (directory .entry))) ⌝ }
+    ensures cells { λ r. ⌜ now (cells .exit) ≡ exports.partFrom (now (cells .entry)) (findOf (rulesOf book.PresentLenient) (now (octets .entry)) (now (directory .entry))) ⌝ }
+{
+    let found = caption::find(Book::PresentLenient, octets, directory);
+    match found {
+        Found::InMessage { start, length: n } => {
+            parts::lay_part(cells, 0, start, n);
+            packed(0, 0, 0, 0)
+        }
+        Found::InDirectory { start, length: n } => {
+            parts::lay_part(cells, 1, start, n);
+            packed(0, 0, 0, 0)
+        }
+        Found::Refused(f) => packed(f.number, f.place, 0, 0),
+    }
+}
+
 // Makes the record that of a new listener, whatever it holds; another size than 16 is 17.
 #[no_mangle]
 pub extern "C" fn anthercup_reset(cells: &mut [u8]) -> u64
@@ -452,6 +491,31 @@ pub extern "C" fn anthercup_settle(cells: &mut [u8], octets: &[u8]) -> u64
         let answer = done.answer;
         desks::encode(cells, after);
         desk_word(answer)
+    } else {
+        packed(17, 0, 0, 0)
+    }
+}
+
+// Where the contents of a type that count stand in a whole message, or one of 1 to 8 with its place.
+#[no_mangle]
+pub extern "C" fn anthercup_counted(octets: &[u8], kind: u8) -> u64
+    ensures { λ r. ⌜ r ≡ exports.countedAnswer (now (octets .entry)) kind ⌝ }
+{
+    let verdict = message::judge(Book::PresentLenient, octets);
+    match verdict {
+        Verdict::Accepted { size: _ } => counted_in(octets, kind),
+        Verdict::Declined { fault } => packed(fault.number, fault.place, 0, 0),
+    }
+}
+
+// The caption of a whole message: the part's record, or one of 1 to 8 with its place and the record as it was; a record of another size than 24 is 17.
+#[no_mangle]
+pub extern "C" fn anthercup_caption(octets: &[u8], directory: &[u8], cells: &mut [u8]) -> u64
+    ensures answer { λ r. ⌜ r ≡ exports.captionAnswer (now (octets .entry)) (now (directory .entry)) (now (cells .entry)) ⌝ }
+    ensures cells { λ r. ⌜ now (cells .exit) ≡ exports.captionRecord (now (octets .entry)) (now (directory .entry)) (now (cells .entry)) ⌝ }
+{
+    if cells.len() == PART {
+        caption_into(octets, directory, cells)
     } else {
         packed(17, 0, 0, 0)
     }

@@ -5,6 +5,8 @@
 use Prim.Native.Nat.{ℕ, _≤_}
 use mathlib.Core.Path.{_≡_, refl, _∙_, ap}
 use mathlib.Core.Logic.{_⊎_, inl, inr, _↔_}
+use mathlib.Core.List.{List}
+use mathlib.Core.Option.{Option, none, some}
 use native.Mathlib.Omega.{arith}
 use lib.ListN.{length}
 use lib.Dec.{T}
@@ -15,10 +17,13 @@ use Rattle.rules.specs.declared.Book.the-variants.{PresentLenient}
 use Rattle.rules.specs.declared.Fault.{Fault}
 use Rattle.rules.specs.Refusals.{noted}
 use Rattle.rules.specs.Language.{languageOf}
+use Rattle.rules.specs.Message.{Accepts}
+use Rattle.rules.specs.Counting.{counted, counted-iff}
 use Rattle.listener.specs.declared.Answer.the-variants as listened
 use Rattle.listener.proofs.Hearing as hearing
 use Rattle.listener.proofs.listen.Reads as listen
-use Rattle.message.specs.declared.Verdict.the-variants.{Declined as Judged}
+use Rattle.message.specs.declared.Verdict.{Verdict}
+use Rattle.message.specs.declared.Verdict.the-variants.{Accepted, Declined as Judged}
 use Rattle.message.specs.Judges.{verdictNumber, verdict-lenient}
 use Rattle.message.proofs.Judging.{verdicts}
 use Rattle.message.proofs.judge.Reads as judge
@@ -37,7 +42,9 @@ use Rattle.writer.proofs.write.Reads as write
 use Rattle.desk.specs.declared.Answer.the-variants as settled
 use Rattle.desk.proofs.Settling.{settling}
 use Rattle.desk.proofs.settle.Reads as settle
+use Rattle.caption.specs.declared.Found.{Found}
 use Rattle.caption.specs.declared.Found.the-variants as found
+use Rattle.caption.specs.Caption as caption
 use Rattle.caption.proofs.Finding.{finding}
 use Rattle.caption.proofs.find.Reads as find
 use Rattle.walker.specs.declared.Step.the-variants as step
@@ -46,6 +53,7 @@ use Rattle.walker.proofs.step_at.Reads as step-at
 use Rattle.firmware.specs.Word.{wordNumber}
 use Rattle.firmware.specs.RecordHears.{Sound, Seventeen}
 use Rattle.firmware.specs.RecordReads.{RecordReads}
+use Rattle.firmware.specs.RecordParts.{RecordCounts, RecordFinds}
 use Rattle.rules.specs.ContentLaw.{lenient-others}
 use Rattle.rules.specs.InRange.{given-lenient}
 use Rattle.firmware.proofs.Hearing as records
@@ -54,6 +62,9 @@ use Rattle.firmware.proofs.Settlings as settlings
 use Rattle.firmware.proofs.anthercup_listen.Reads as anthercup-listen
 use Rattle.firmware.proofs.anthercup_read.Reads as anthercup-read
 use Rattle.firmware.proofs.anthercup_settle.Reads as anthercup-settle
+use Rattle.firmware.proofs.Findings as findings
+use Rattle.firmware.proofs.anthercup_counted.Reads as anthercup-counted
+use Rattle.firmware.proofs.anthercup_caption.Reads as anthercup-caption
 
 -- a number from the first to the second
 abbrev pub From : ℕ → ℕ → ℕ → Type 0
@@ -148,3 +159,38 @@ anthercup-read-refuses κs a r s p o = go (decide (length (a .1 .0 .now) =? 688)
 pub anthercup-settle-refuses : (κs : _) (a : _) (r : _) (s : _) → anthercup-settle.Post κs a r s → Octets (a .0 .now) → Octets (a .1 .0 .now) →
     ((wordNumber r ≤ 8) ⊎ ((wordNumber r ≡ 17) ⊎ (wordNumber r ≡ 21))) × (1 ≤ wordNumber r → s .0 .now ≡ a .0 .now)
 anthercup-settle-refuses κs a r s p q o = (settlings.numbers κs a r s p o, settlings.refusal-stays κs a r s p q o)
+
+-- what counts: 0 or 1 to 8; nothing is lent for writing
+pub anthercup-counted-refuses : (κs : _) (a : _) (r : _) (s : _) → anthercup-counted.Post κs a r s → Octets (a .0 .now) → wordNumber r ≤ 8
+anthercup-counted-refuses κs a r s p o = go (x .verdict) refl
+  where
+    x : RecordCounts (a .0 .now) (a .1 .0) r
+    x = findings.counted-word κs a r s p o
+
+    of-message : (d : Accepts (rulesOf PresentLenient) (a .0 .now)) (v : Option (List ℕ)) → counted (rulesOf PresentLenient) (d .0) (a .1 .0) ≡ v → wordNumber r ≤ 8
+    of-message d none e = omega (arith, x .none-counts (d .0) (d .1) (d .2) e .number)
+    of-message d (some v) e = omega (arith, x .counts (d .0) (d .1) (d .2) v (counted-iff (rulesOf PresentLenient) (d .0) (a .1 .0) v .0 e) .number)
+
+    go : (v : Verdict) → x .verdict ≡ v → wordNumber r ≤ 8
+    go (Accepted n) e = of-message (x .judged .accepted n .0 e .1) _ refl
+    go (Judged f) e = omega (arith, x .refused f e .number, eight-lenient _ .0 (x .judged .numbers f e) .1)
+
+-- the caption: 17 for a record of another size, else 0 or 1 to 8; with a number the record stays
+pub anthercup-caption-refuses : (κs : _) (a : _) (r : _) (s : _) → anthercup-caption.Post κs a r s → Octets (a .0 .now) →
+    ((wordNumber r ≤ 8) ⊎ (wordNumber r ≡ 17)) × (1 ≤ wordNumber r → s .1 .1 .0 .now ≡ a .1 .1 .0 .now)
+unfolding caption.numberOf
+anthercup-caption-refuses κs a r s p o = go (decide (length (a .1 .1 .0 .now) =? 24))
+  where
+    found-so : (y : RecordFinds (a .0 .now) (a .1 .0 .now) (a .1 .1 .0 .now) r (s .1 .1 .0 .now)) (x : Found) → y .found ≡ x →
+        ((wordNumber r ≤ 8) ⊎ (wordNumber r ≡ 17)) × (1 ≤ wordNumber r → s .1 .1 .0 .now ≡ a .1 .1 .0 .now)
+    found-so y (found.InMessage start n) e = let z = y .word .number ∙ ap caption.numberOf e in (inl (omega (arith, z)), λ h. absurd (omega (arith, z)))
+    found-so y (found.InDirectory start n) e = let z = y .word .number ∙ ap caption.numberOf e in (inl (omega (arith, z)), λ h. absurd (omega (arith, z)))
+    found-so y (found.Refused f) e =
+        let z = y .word .number ∙ ap caption.numberOf e in
+        let k = y .finds .judged .numbers f (y .finds .refused f .0 e) in
+        (inl (omega (arith, z, eight-lenient _ .0 k .1)), λ h. y .refused f e)
+
+    go : T (length (a .1 .1 .0 .now) =? 24) ⊎ (T (length (a .1 .1 .0 .now) =? 24) → ⊥) →
+        ((wordNumber r ≤ 8) ⊎ (wordNumber r ≡ 17)) × (1 ≤ wordNumber r → s .1 .1 .0 .now ≡ a .1 .1 .0 .now)
+    go (inl t) = let y = findings.record-caption κs a r s p o (eq-of _ _ t) in found-so y (y .found) refl
+    go (inr n) = let y = findings.seventeen κs a r s p (λ e. n (of-eq _ _ e)) in (inr (y .word .number), λ h. y .cells)

@@ -1,0 +1,78 @@
+-- `firmware::caption_into` meets its contract: the record is written where a part was found.
+-- Assumes nothing.
+use mathlib.Core.Path.{sym, _∙_, ap}
+use Rattle.caption.specs.Caption.{numberOf, placeOf}
+use Rattle.firmware.specs.Exports.{foundWord, partFrom}
+use borrow.Author.Needs.{needs}
+use Rattle.firmware.proofs.caption_into.Statement.{statement}
+use Rattle.firmware.proofs.caption_into.Tie as tie
+
+find-requires : tie.Need-find-requires
+find-requires c κs = search needs
+
+enum-known-found : tie.Need-enum-known-found
+enum-known-found c = search needs
+
+lay-part-requires : tie.Need-lay-part-requires
+lay-part-requires c κs = search needs
+
+packed-requires : tie.Need-packed-requires
+packed-requires c κs = search needs
+
+enum-known-found-2 : tie.Need-enum-known-found-2
+enum-known-found-2 c = search needs
+
+lay-part-requires-2 : tie.Need-lay-part-requires-2
+lay-part-requires-2 c κs = search needs
+
+packed-requires-2 : tie.Need-packed-requires-2
+packed-requires-2 c κs = search needs
+
+enum-known-found-3 : tie.Need-enum-known-found-3
+enum-known-found-3 c = search needs
+
+packed-requires-3 : tie.Need-packed-requires-3
+packed-requires-3 c κs = search needs
+
+same-length : tie.Need-same-length
+same-length c = search needs
+
+returns : tie.Need-returns
+unfolding foundWord partFrom numberOf placeOf
+returns c =
+    let e = sym (c .before .before .before .before .before .before .found .given .1) ∙ c .before .before .before .before .before .before .before .before .find .ensures in
+    (c .packed .ensures ∙ ap foundWord e, c .before .before .before .lay-part .ensures ∙ ap (partFrom _) e)
+
+same-length-2 : tie.Need-same-length-2
+same-length-2 c = search needs
+
+returns-2 : tie.Need-returns-2
+unfolding foundWord partFrom numberOf placeOf
+returns-2 c =
+    let e = sym (c .before .before .before .before .before .before .found2 .given .1) ∙ c .before .before .before .before .before .before .before .before .find .ensures in
+    (c .packed2 .ensures ∙ ap foundWord e, c .before .before .before .lay-part2 .ensures ∙ ap (partFrom _) e)
+
+returns-3 : tie.Need-returns-3
+unfolding foundWord partFrom numberOf placeOf
+returns-3 c =
+    let e = sym (c .before .before .found3 .given .1) ∙ c .before .before .before .before .find .ensures in
+    (c .packed3 .ensures ∙ ap foundWord e, ap (partFrom (c .before .before .before .before .before .before .before .before .args .cells .now)) e)
+
+pub caption-into-spec : {M : Type 1} → statement M
+caption-into-spec =
+    tie.close
+    (tie.spec
+    find-requires
+    enum-known-found
+    lay-part-requires
+    packed-requires
+    enum-known-found-2
+    lay-part-requires-2
+    packed-requires-2
+    enum-known-found-3
+    packed-requires-3
+    same-length
+    returns
+    same-length-2
+    returns-2
+    returns-3)

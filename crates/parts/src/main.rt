@@ -1,0 +1,433 @@
+// Reading by value, walking, captions and drafts, run (document 01, Drafts and The caption): reads cases from standard
+// input, a message and a directory each behind its length in two octets, then the size of a text area in two octets,
+// and prints for each what `reader::read`, the walker, `caption` and `writer::write` answer, and whether the message
+// comes back from its draft. What it must print was written by the second reader, some rows by hand (tools/replay). All
+// is by the present edition, and types without a row are carried.
+use caption::Found;
+use draft::Draft;
+use draft::Entry;
+use draft::Flat;
+use draft::Value;
+use libc::STDIN_FILENO;
+use libc::STDOUT_FILENO;
+use reader::Packed;
+use rules::Book;
+use rules::Fault;
+use rules::MOST;
+use walker::Step;
+use walker::Walker;
+use writer::Written;
+ghost use mathlib.Core.Path.{_≡_};
+ghost use Prim.Native.Nat.{_≤_};
+ghost use lib.ListN.{length};
+ghost use Rattle.walker.specs.Moves.{begun, seen, moved};
+
+// The most octets that a message has, and the most that its texts have (document 01, The message).
+const LONGEST: usize = 258;
+
+const TEXTS: usize = 253;
+
+// The most octets of a case: some more than a message has, and a directory's.
+const HEARD: usize = 300;
+
+const LENT: usize = 200;
+
+// From this number on the kinds of value have a text (`draft::form_of`).
+const TEXT: u8 = 3;
+
+fn say(text: &[u8]) {
+    io::write_all(STDOUT_FILENO, text);
+}
+
+fn say_number(text: &[u8], n: u64) {
+    say(text);
+    io::print_decimal(STDOUT_FILENO, n);
+}
+
+fn say_octet(x: u8) {
+    io::print_hex(STDOUT_FILENO, x as u64, 2);
+}
+
+fn say_octets(octets: &[u8]) {
+    let mut i: usize = 0;
+    while i < octets.len() {
+        say_octet(octets[i]);
+        i += 1;
+    }
+    say(b"\n");
+}
+
+fn say_fault(text: &[u8], fault: Fault) {
+    say_number(text, fault.number as u64);
+    say_number(b" at ", fault.place as u64);
+    say(b"\n");
+}
+
+fn say_whether(text: &[u8], same: bool) {
+    say(text);
+    if same {
+        say(b" same\n");
+    } else {
+        say(b" other\n");
+    }
+}
+
+// The text of a value, which lies in the area (document 01, Drafts).
+fn say_text(texts: &[u8], start: usize, size: usize) {
+    if draft::lies(texts, start, size) {
+        let end = start + size;
+        say_octets(&texts[start..end]);
+    } else {
+        say(b"outside\n");
+    }
+}
+
+fn say_numbers(value: Flat) {
+    say_number(b"", value.first as u64);
+    say_number(b" ", value.second as u64);
+    say_number(b" ", value.third as u64);
+    say_number(b" ", value.fourth as u64);
+    say(b"\n");
+}
+
+// Type, kind of value, and the value: four numbers, 0 where it has fewer; or a text in hex.
+fn say_entry(entry: Entry, texts: &[u8]) {
+    let value = entry.value;
+    let flat = draft::flatten(value);
+    say_octet(entry.kind);
+    say_number(b" ", flat.form as u64);
+    say(b" ");
+    if flat.form < TEXT {
+        say_numbers(flat);
+    } else {
+        say_text(texts, flat.start, flat.length);
+    }
+}
+
+fn say_entries(draft: Draft, texts: &[u8]) {
+    let n = draft.count;
+    let entries = draft.entries;
+    let mut i = 0;
+    while i < MOST {
+        if n <= i {
+            return;
+        }
+        let entry = entries[i];
+        say_entry(entry, texts);
+        i += 1;
+    }
+}
+
+fn other(x: u8) -> u8 {
+    255 - x
+}
+
+// What was written is read again: it is the draft, no longer with another octet in its text area, and never the draft
+// with no entries (document 01, Drafts).
+fn say_again(draft: Draft, texts: &[u8], written: &[u8]) {
+    let mut area = [0u8; TEXTS];
+    let reading = reader::read(Book::PresentLenient, written, &mut area);
+    let again = reading.draft;
+    say_whether(b"again", draft::same(draft, texts, again, &area));
+    area[0] = other(area[0]);
+    say_whether(b"spoilt", draft::same(draft, texts, again, &area));
+    say_whether(
+        b"empty",
+        draft::same(draft, texts, draft::empty(draft.kind), &area),
+    );
+}
+
+fn say_written(message: &[u8], draft: Draft, texts: &[u8], written: &[u8]) {
+    say_number(b"write ", written.len() as u64);
+    say_whether(b"", rules::same_octets(written, message));
+    say_again(draft, texts, written);
+}
+
+// The draft is written, and what is written read again.
+fn say_write(message: &[u8], draft: Draft, texts: &[u8]) {
+    let mut out = [0u8; LONGEST];
+    let answer = writer::write(Book::PresentLenient, draft, texts, &mut out);
+    match answer {
+        Written::Message { size } => {
+            let n = size as usize;
+            if n <= LONGEST {
+                say_written(message, draft, texts, &out[..n]);
+            }
+        }
+        Written::Declined { fault } => say_fault(b"write ", fault),
+    }
+}
+
+fn say_draft(draft: Draft, octets: u16, texts: &[u8]) {
+    say(b"read ");
+    say_octet(draft.kind);
+    say_number(b" ", draft.count as u64);
+    say_number(b" ", octets as u64);
+    say(b"\n");
+    say_entries(draft, texts);
+}
+
+// An entry whose text, where it has one, lies one octet further on.
+fn further(entry: Entry) -> Entry {
+    let kind = entry.kind;
+    let value = entry.value;
+    match value {
+        Value::Text { start, length } => Entry {
+            kind,
+            value: Value::Text {
+                start: std::num::wrapping_add_usize(start, 1),
+                length,
+            },
+        },
+        Value::Carried { start, length } => Entry {
+            kind,
+            value: Value::Carried {
+                start: std::num::wrapping_add_usize(start, 1),
+                length,
+            },
+        },
+        _ => entry,
+    }
+}
+
+fn elsewhere(draft: Draft) -> Draft {
+    let kind = draft.kind;
+    let count = draft.count;
+    let mut entries = draft.entries;
+    let mut i = 0;
+    while i < MOST {
+        let entry = further(entries[i]);
+        entries[i] = entry;
+        i += 1;
+    }
+    Draft {
+        kind,
+        count,
+        entries,
+    }
+}
+
+// A draft's texts may lie anywhere in their area (document 01, Drafts): here they begin at its octet 1.
+fn say_elsewhere(message: &[u8]) {
+    let mut area = [0u8; TEXTS + 1];
+    let reading = reader::read(Book::PresentLenient, message, &mut area[1..]);
+    let draft = elsewhere(reading.draft);
+    say_write(message, draft, &area);
+}
+
+// The whole read into an area that every message's texts fit.
+fn say_read(message: &[u8]) {
+    let mut area = [0u8; TEXTS];
+    let reading = reader::read(Book::PresentLenient, message, &mut area);
+    let answer = reading.answer;
+    let draft = reading.draft;
+    match answer {
+        Packed::Texts { octets } => {
+            say_draft(draft, octets, &area);
+            say_write(message, draft, &area);
+            say_elsewhere(message);
+        }
+        Packed::Refused { fault } => say_fault(b"read ", fault),
+    }
+}
+
+fn say_texts(answer: Packed) {
+    match answer {
+        Packed::Texts { octets } => {
+            say_number(b": texts ", octets as u64);
+            say(b"\n");
+        }
+        Packed::Refused { fault } => say_fault(b": ", fault),
+    }
+}
+
+// The whole read into an area of a stated size.
+fn say_room(message: &[u8], room: usize)
+    requires { ⌜ room ≤ 253 ⌝ }
+{
+    let mut area = [0u8; TEXTS];
+    let reading = reader::read(Book::PresentLenient, message, &mut area[..room]);
+    let answer = reading.answer;
+    say_number(b"room ", room as u64);
+    say_texts(answer);
+}
+
+// What a new walker sees.
+fn first(message: &[u8]) -> Step
+    ensures { λ r. ⌜ r ≡ seen (begun (message .entry)) ⌝ }
+{
+    walker::look(walker::new(message))
+}
+
+// What a walker at a place sees when it has moved on.
+fn onward(message: &[u8], place: usize) -> Step
+    ensures { λ r. ⌜ r ≡ seen (moved (record { message = message .entry; place = place })) ⌝ }
+{
+    walker::look(walker::next(Walker { message, place }))
+}
+
+fn say_step(step: Step) {
+    match step {
+        Step::Parameter {
+            kind,
+            start,
+            length,
+            next: _,
+        } => {
+            say(b"step ");
+            say_octet(kind);
+            say_number(b" ", start as u64);
+            say_number(b" ", length as u64);
+            say(b"\n");
+        }
+        Step::NoMore => say(b"step none\n"),
+        Step::Refused(fault) => say_fault(b"step ", fault),
+    }
+}
+
+// Each parameter, 85 at most, and twice what comes after the last.
+fn say_steps(message: &[u8]) {
+    let mut step = first(message);
+    let mut place: usize = 2;
+    let mut turns: usize = 0;
+    while turns <= MOST {
+        say_step(step);
+        match step {
+            Step::Parameter {
+                kind: _,
+                start: _,
+                length: _,
+                next,
+            } => {
+                step = onward(message, place);
+                place = next;
+                turns += 1;
+            }
+            Step::NoMore => {
+                say_step(onward(message, place));
+                return;
+            }
+            Step::Refused(fault) => {
+                say_step(onward(message, place));
+                return;
+            }
+        }
+    }
+}
+
+// At how many places a parameter begins; where none does, the walker says so (document 01, Drafts).
+fn beginnings(message: &[u8]) -> usize {
+    let mut count: usize = 0;
+    let mut place: usize = 0;
+    while place < message.len() {
+        let step = walker::step_at(Book::PresentLenient, message, place);
+        match step {
+            Step::Parameter {
+                kind: _,
+                start: _,
+                length: _,
+                next: _,
+            } => {
+                count += 1;
+                place += 1;
+            }
+            Step::NoMore => {
+                place += 1;
+            }
+            Step::Refused(_) => {
+                return 0;
+            }
+        }
+    }
+    count
+}
+
+fn say_beginnings(message: &[u8]) {
+    say_number(b"begins ", beginnings(message) as u64);
+    say(b"\n");
+}
+
+fn say_part(text: &[u8], start: usize, size: usize) {
+    say_number(text, start as u64);
+    say_number(b" ", size as u64);
+    say(b"\n");
+}
+
+fn say_find(message: &[u8], directory: &[u8]) {
+    let found = caption::find(Book::PresentLenient, message, directory);
+    match found {
+        Found::InMessage { start, length } => say_part(b"find message ", start, length),
+        Found::InDirectory { start, length } => say_part(b"find directory ", start, length),
+        Found::Refused(fault) => say_fault(b"find ", fault),
+    }
+}
+
+fn say_caption<'a>(message: &'a [u8], directory: &'a [u8]) {
+    let text = caption::caption(Book::PresentLenient, message, directory);
+    say(b"caption=");
+    say_octets(text);
+}
+
+fn show<'a>(message: &'a [u8], directory: &'a [u8], room: usize)
+    requires { ⌜ room ≤ 253 ⌝ }
+{
+    say_read(message);
+    say_room(message, room);
+    say_steps(message);
+    say_beginnings(message);
+    say_find(message, directory);
+    say_caption(message, directory);
+}
+
+fn fill(octets: &mut [u8], n: usize) -> usize
+    requires { ⌜ n ≤ length (now octets) ⌝ }
+    ensures { λ r. ⌜ r ≤ n ⌝ }
+{
+    io::read_full(STDIN_FILENO, &mut octets[..n])
+}
+
+fn number(high: u8, low: u8) -> usize {
+    256 * (high as usize) + low as usize
+}
+
+// The number in the next two octets; one that is too large for any case where the input ends.
+fn size() -> usize {
+    let mut octets = [0u8; 2];
+    if io::read_full(STDIN_FILENO, &mut octets) < 2 {
+        return 65536;
+    }
+    number(octets[0], octets[1])
+}
+
+// Says whether there was one more.
+fn next() -> bool {
+    let n = size();
+    if HEARD < n {
+        return false;
+    }
+    let mut message = [0u8; HEARD];
+    let got = fill(&mut message, n);
+    let m = size();
+    if LENT < m {
+        return false;
+    }
+    let mut directory = [0u8; LENT];
+    let lent = fill(&mut directory, m);
+    let room = size();
+    if TEXTS < room {
+        return false;
+    }
+    show(&message[..got], &directory[..lent], room);
+    true
+}
+
+fn main() {
+    let mut count: u64 = 0;
+    while count < 1000000 {
+        if next() {
+            count += 1;
+        } else {
+            return;
+        }
+    }
+}
