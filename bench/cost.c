@@ -1,5 +1,5 @@
-/* One piece of work on one message, many times, for counting instructions: WHO is none, ours, second or peer (a plain C listener), WHAT is whole, octets
- * (heard whole, or octet by octet), read or settle. Says what came out last, so that no work is left out. */
+/* One piece of work on one message, many times, for counting instructions: WHO is none, ours, second, peer (a plain C listener) or tuned (tuned C),
+ * WHAT is whole, octets (heard whole, or octet by octet), read or settle. Says what came out last, so that no work is left out. */
 #include <stdio.h>
 #include <stdlib.h>
 #include <string.h>
@@ -7,6 +7,7 @@
 #include "anthercup.h"
 #include "peer.h"
 #include "second.h"
+#include "tuned.h"
 
 /* parameters as octets; the message around them is made */
 static size_t message(int which, uint8_t *o) {
@@ -66,6 +67,14 @@ static unsigned second(const char *what, const uint8_t *o, size_t n) {
 
 static unsigned peer(const char *what, const uint8_t *o, size_t n) { return heard(peer_reset, peer_listen, o, n, strcmp(what, "whole") == 0 ? n : 1); }
 
+static unsigned tuned(const char *what, const uint8_t *o, size_t n) {
+    static uint8_t desk[ANTHERCUP_DESK_OCTETS], draft[ANTHERCUP_DRAFT_OCTETS], texts[ANTHERCUP_TEXTS_OCTETS];
+    if (strcmp(what, "whole") == 0) return heard(tuned_reset, tuned_listen, o, n, n);
+    if (strcmp(what, "octets") == 0) return heard(tuned_reset, tuned_listen, o, n, 1);
+    if (strcmp(what, "read") == 0) return anthercup_size(tuned_read(o, n, draft, sizeof draft, texts, sizeof texts)) + draft[1];
+    return anthercup_number(tuned_settle(desk, sizeof desk, o, n));
+}
+
 int main(int argc, char **argv) {
     uint8_t o[300];
     unsigned last = 0;
@@ -75,6 +84,7 @@ int main(int argc, char **argv) {
         if (strcmp(argv[1], "ours") == 0) last = ours(argv[2], o, n);
         if (strcmp(argv[1], "second") == 0) last = second(argv[2], o, n);
         if (strcmp(argv[1], "peer") == 0) last = peer(argv[2], o, n);
+        if (strcmp(argv[1], "tuned") == 0) last = tuned(argv[2], o, n);
     }
     printf("%u\n", last);
     return 0;

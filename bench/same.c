@@ -1,4 +1,8 @@
-/* The peer of the benchmark does our work: the same words and the same records, on traffic in random runs and on records of random octets. */
+/* The peers of the benchmark do our work: the same words, records and areas.
+ * The plain listener and the tuned C hear traffic in random runs, and records
+ * of random octets; the tuned C reads it into areas of random sizes, and
+ * settles it on a desk that lives on and on desks of random octets. Usage:
+ * same [SEED] */
 #include <stdio.h>
 #include <stdlib.h>
 #include <string.h>
@@ -6,41 +10,180 @@
 #include "anthercup.h"
 #include "peer.h"
 #include "traffic.h"
+#include "tuned.h"
 
-static unsigned long compared, heard;
+enum { MESSAGES = 40000, ANY = 60 };
 
-static void both(uint8_t *a, uint8_t *b, size_t size, const uint8_t *o, size_t n) {
-    uint64_t x = anthercup_listen(a, size, o, n), y = peer_listen(b, size, o, n);
-    compared++;
-    heard += anthercup_number(x) != ANTHERCUP_REFUSED_RECORD;
-    if (x != y || memcmp(a, b, size) != 0) {
-        printf("same: %llx and %llx, or another record\n", (unsigned long long)x, (unsigned long long)y);
-        exit(1);
+static unsigned long heard, sound, reads, accepted, nines, settled, done, full;
+
+static void fail(const char *what, uint64_t x, uint64_t y)
+{
+    printf("same: %s: %llx and %llx, or another record\n", what,
+           (unsigned long long)x, (unsigned long long)y);
+    exit(1);
+}
+
+/* ---- Listening ---- */
+
+struct records {
+    uint8_t ours[ANY], peer[ANY], tuned[ANY];
+};
+
+static void all_hear(struct records *r, size_t size, const uint8_t *o,
+                     size_t n)
+{
+    uint64_t x = anthercup_listen(r->ours, size, o, n);
+    uint64_t y = peer_listen(r->peer, size, o, n);
+    uint64_t z = tuned_listen(r->tuned, size, o, n);
+
+    heard++;
+    sound += anthercup_number(x) != ANTHERCUP_REFUSED_RECORD;
+    if (x != y || memcmp(r->ours, r->peer, size) != 0)
+        fail("listen", x, y);
+    if (x != z || memcmp(r->ours, r->tuned, size) != 0)
+        fail("listen, tuned", x, z);
+}
+
+static void in_runs(struct traffic *t, const uint8_t *o, size_t n)
+{
+    struct records r;
+
+    anthercup_reset(r.ours, ANTHERCUP_LISTENER_OCTETS);
+    peer_reset(r.peer, ANTHERCUP_LISTENER_OCTETS);
+    tuned_reset(r.tuned, ANTHERCUP_LISTENER_OCTETS);
+    for (size_t at = 0, run; at < n; at += run) {
+        run = traffic_number(t, 12);
+        if (run > n - at)
+            run = n - at;
+        all_hear(&r, ANTHERCUP_LISTENER_OCTETS, o + at, run);
     }
 }
 
-int main(void) {
-    struct traffic t;
-    uint8_t o[TRAFFIC_OCTETS], a[40], b[40];
-    traffic_start(&t, 2);
-    for (int i = 0; i < 40000; i++) {
-        size_t n = traffic_next(&t, o), at = 0;
-        anthercup_reset(a, 16);
-        peer_reset(b, 16);
-        while (at < n) {
-            size_t run = traffic_number(&t, 12);
-            if (run > n - at) run = n - at;
-            both(a, b, 16, o + at, run);
-            at += run;
-        }
-        for (int k = 0; k < 20; k++) {
-            size_t size = traffic_number(&t, 8) ? 16 : traffic_number(&t, sizeof a);
-            for (size_t j = 0; j < size; j++) a[j] = (uint8_t)(traffic_number(&t, 2) ? 0 : traffic_number(&t, 8) ? traffic_number(&t, 14) : traffic_number(&t, 256));
-            if (size > 10 && traffic_number(&t, 2)) memset(a + 10, 0, size - 10);
-            memcpy(b, a, sizeof a);
-            both(a, b, size, o, n < 5 ? n : 5);
-        }
+static uint8_t any_octet(struct traffic *t)
+{
+    if (traffic_number(t, 2))
+        return 0;
+    return (uint8_t)traffic_number(t, traffic_number(t, 8) ? 14 : 256);
+}
+
+static void any_record(struct traffic *t, const uint8_t *o, size_t n)
+{
+    struct records r = {{0}, {0}, {0}};
+    size_t size = traffic_number(t, 8) ? ANTHERCUP_LISTENER_OCTETS
+                                       : traffic_number(t, 40);
+
+    for (size_t i = 0; i < size; i++)
+        r.ours[i] = any_octet(t);
+    if (size > 10 && traffic_number(t, 2))
+        memset(r.ours + 10, 0, size - 10);
+    if (size > 10 && traffic_number(t, 2))
+        r.ours[9] = 0, r.ours[0] = 4;
+    memcpy(r.peer, r.ours, ANY);
+    memcpy(r.tuned, r.ours, ANY);
+    all_hear(&r, size, o, n < 5 ? n : 5);
+}
+
+/* ---- Reading ---- */
+
+static void both_read(struct traffic *t, const uint8_t *o, size_t n)
+{
+    static uint8_t a[700], b[700], s[300], u[300];
+    size_t size = traffic_number(t, 50) ? ANTHERCUP_DRAFT_OCTETS
+                                        : traffic_number(t, sizeof a);
+    size_t area = traffic_number(t, 3) ? ANTHERCUP_TEXTS_OCTETS
+                                       : traffic_number(t, 254);
+    uint64_t x, y;
+
+    for (size_t i = 0; i < sizeof a; i++)
+        a[i] = b[i] = (uint8_t)traffic_number(t, 256);
+    memset(s, 0xEE, sizeof s);
+    memset(u, 0xEE, sizeof u);
+    x = anthercup_read(o, n, a, size, s, area);
+    y = tuned_read(o, n, b, size, u, area);
+    reads++;
+    accepted += anthercup_number(x) == 0;
+    nines += anthercup_number(x) == ANTHERCUP_REFUSED_AREA;
+    if (x != y || memcmp(a, b, sizeof a) || memcmp(s, u, sizeof s))
+        fail("read", x, y);
+}
+
+/* ---- Settling ---- */
+
+static void both_settle(uint8_t *a, uint8_t *b, size_t size, const uint8_t *o,
+                        size_t n)
+{
+    uint64_t x = anthercup_settle(a, size, o, n);
+    uint64_t y = tuned_settle(b, size, o, n);
+
+    settled++;
+    done += anthercup_number(x) == 0;
+    full += anthercup_number(x) == ANTHERCUP_REFUSED_NO_PLACE;
+    if (x != y || memcmp(a, b, ANTHERCUP_DESK_OCTETS))
+        fail("settle", x, y);
+}
+
+static void any_desk(struct traffic *t, const uint8_t *o, size_t n)
+{
+    uint8_t a[ANY] = {0}, b[ANY];
+    size_t size = traffic_number(t, 20) ? ANTHERCUP_DESK_OCTETS
+                                        : 51 + traffic_number(t, 3);
+
+    a[0] = (uint8_t)traffic_number(t, traffic_number(t, 8) ? 2 : 4);
+    a[1] = (uint8_t)traffic_number(t, traffic_number(t, 2) ? 256 : 1);
+    a[2] = (uint8_t)traffic_number(t, traffic_number(t, 8) ? 3 : 5);
+    a[3] = traffic_number(t, 20) == 0;
+    for (size_t i = 4; i < ANTHERCUP_DESK_OCTETS; i += 3) {
+        if (traffic_number(t, 2))
+            continue;
+        a[i] = (uint8_t)traffic_number(t, traffic_number(t, 2) ? 256 : 30);
+        a[i + 1] = (uint8_t)traffic_number(t, 2);
+        a[i + 2] = traffic_number(t, 100) == 0;
     }
-    printf("same: %lu calls alike, %lu of them heard\n", compared, heard);
-    return 0;
+    memcpy(b, a, sizeof b);
+    both_settle(a, b, size, o, n);
+}
+
+static void one_message(struct traffic *t, uint8_t *a, uint8_t *b,
+                        const uint8_t *o, size_t n)
+{
+    in_runs(t, o, n);
+    for (int k = 0; k < 20; k++)
+        any_record(t, o, n);
+    both_read(t, o, n);
+    both_settle(a, b, ANTHERCUP_DESK_OCTETS, o, n);
+}
+
+static void one_notice(struct traffic *t, uint8_t *a, uint8_t *b, uint8_t *o)
+{
+    size_t n = traffic_about(t, o);
+
+    both_read(t, o, n);
+    both_settle(a, b, ANTHERCUP_DESK_OCTETS, o, n);
+    any_desk(t, o, n);
+    if (traffic_number(t, 40) == 0) {
+        anthercup_new_desk(a, ANTHERCUP_DESK_OCTETS);
+        tuned_new_desk(b, ANTHERCUP_DESK_OCTETS);
+    }
+}
+
+int main(int argc, char **argv)
+{
+    struct traffic t;
+    uint8_t o[TRAFFIC_OCTETS];
+    uint8_t a[ANTHERCUP_DESK_OCTETS], b[ANTHERCUP_DESK_OCTETS];
+
+    traffic_start(&t, argc > 1 ? (unsigned)atoi(argv[1]) : 2);
+    anthercup_new_desk(a, sizeof a);
+    tuned_new_desk(b, sizeof b);
+    for (int i = 0; i < MESSAGES; i++) {
+        size_t n = traffic_next(&t, o);
+
+        one_message(&t, a, b, o, n);
+        for (int k = 0; k < 5; k++)
+            one_notice(&t, a, b, o);
+    }
+    printf("same: %lu calls of listen alike, %lu on sound records; %lu reads, "
+           "%lu accepted, %lu with 9; %lu settlings, %lu done, %lu with 21\n",
+           heard, sound, reads, accepted, nines, settled, done, full);
+    return !(sound && accepted && nines && done && full);
 }

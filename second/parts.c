@@ -96,6 +96,10 @@ static void say_steps(const uint8_t *o, struct second_verdict v,
     SAY("step none\nstep none\nbegins %u\n", d->entries);
 }
 
+/* The code that the program lends stays with a refusal; else 0 is the message
+ * and 1 the directory. */
+#define LENT_CODE 7
+
 static void say_caption(const uint8_t *o, size_t n, const uint8_t *directory,
                         size_t octets)
 {
@@ -107,7 +111,7 @@ static void say_caption(const uint8_t *o, size_t n, const uint8_t *directory,
     else
         SAY("find %s %zu %zu\n", inside ? "message" : "directory", p.start,
             p.length);
-    SAY("caption=");
+    SAY("caption %d=", p.number ? LENT_CODE : !inside);
     say_octets((inside ? o : directory) + p.start, p.length);
 }
 
@@ -159,69 +163,69 @@ static const struct {
 } rows[] = {
     /* the text after the first = on the first line for the caller */
     {CALLER, "40912=Odile\n", 5,
-     CALLER_IS "find directory 6 5\ncaption=4f64696c65\n"},
+     CALLER_IS "find directory 6 5\ncaption 1=4f64696c65\n"},
     {CALLER, "40912=Odile", 5,
-     CALLER_IS "find directory 6 5\ncaption=4f64696c65\n"},
-    {CALLER, "40912=\n", 5, CALLER_IS "find directory 6 0\ncaption=\n"},
-    {CALLER, "40912=", 5, CALLER_IS "find directory 6 0\ncaption=\n"},
+     CALLER_IS "find directory 6 5\ncaption 1=4f64696c65\n"},
+    {CALLER, "40912=\n", 5, CALLER_IS "find directory 6 0\ncaption 1=\n"},
+    {CALLER, "40912=", 5, CALLER_IS "find directory 6 0\ncaption 1=\n"},
     {CALLER, "40912=a=b\r\n", 5,
-     CALLER_IS "find directory 6 4\ncaption=613d620d\n"},
+     CALLER_IS "find directory 6 4\ncaption 1=613d620d\n"},
     {CALLER, "40912=one\n40912=two\n", 5,
-     CALLER_IS "find directory 6 3\ncaption=6f6e65\n"},
+     CALLER_IS "find directory 6 3\ncaption 1=6f6e65\n"},
     {CALLER, "\n40912\n=z\n40912=x", 5,
-     CALLER_IS "find directory 16 1\ncaption=78\n"},
+     CALLER_IS "find directory 16 1\ncaption 1=78\n"},
     /* no line is for the caller: the caller itself */
-    {CALLER, "", 5, CALLER_IS "find message 4 5\ncaption=3430393132\n"},
-    {CALLER, "40912\n", 5, CALLER_IS "find message 4 5\ncaption=3430393132\n"},
+    {CALLER, "", 5, CALLER_IS "find message 4 5\ncaption 0=3430393132\n"},
+    {CALLER, "40912\n", 5, CALLER_IS "find message 4 5\ncaption 0=3430393132\n"},
     {CALLER, "409123=x\n4091=y\n=40912\n 40912=z\n", 5,
-     CALLER_IS "find message 4 5\ncaption=3430393132\n"},
+     CALLER_IS "find message 4 5\ncaption 0=3430393132\n"},
     /* the name that counts goes before the directory */
     {"80 0A 02 05 34 30 39 31 32 07 01 41 26", "40912=x\n", 5,
      "read 80 2 6\n02 3 3430393132\n07 3 41\n" TWICE(WRITTEN("13", "other"))
      "room 5: 9 at 6\nstep 02 4 5\nstep 07 11 1\nstep none\nstep none\n"
-     "begins 2\nfind message 11 1\ncaption=41\n"},
+     "begins 2\nfind message 11 1\ncaption 0=41\n"},
     /* a name behind 08H does not count */
     {"80 0D 08 01 50 07 01 41 02 05 34 30 39 31 32 CA", "40912=x\n", 6,
      "read 80 3 6\n08 0 80 0 0 0\n07 3 41\n02 3 3430393132\n"
      TWICE(WRITTEN("16", "other"))
      "room 6: texts 6\nstep 08 4 1\nstep 07 7 1\nstep 02 10 5\nstep none\n"
-     "step none\nbegins 3\nfind directory 6 1\ncaption=78\n"},
+     "step none\nbegins 3\nfind directory 6 1\ncaption 1=78\n"},
     /* no name and no caller count: the empty part at the message's start */
     {"80 06 04 01 50 02 01 37 EB", "7=x\n", 0,
      "read 80 2 1\n04 0 80 0 0 0\n02 3 37\n" TWICE(WRITTEN("9", "other"))
      "room 0: 9 at 1\nstep 04 4 1\nstep 02 7 1\nstep none\nstep none\n"
-     "begins 2\nfind message 0 0\ncaption=\n"},
+     "begins 2\nfind message 0 0\ncaption 0=\n"},
     {"82 03 0B 01 FF 70", "7=x\n", 0,
      "read 82 1 0\n0b 0 255 0 0 0\n" TWICE(WRITTEN("6", "same"))
      "room 0: texts 0\nstep 0b 4 1\nstep none\nstep none\nbegins 1\n"
-     "find message 0 0\ncaption=\n"},
+     "find message 0 0\ncaption 0=\n"},
     /* refusals */
     {"", "40912=x\n", 0,
      "read 8 at 0\nroom 0: 8 at 0\n" TWICE("step 8 at 0\n")
-     "begins 0\nfind 8 at 0\ncaption=\n"},
+     "begins 0\nfind 8 at 0\ncaption 7=\n"},
     {"82 03 0B 01 FF 71", "=x\n", 0,
      "read 6 at 5\nroom 0: 6 at 5\n" TWICE("step 6 at 5\n")
-     "begins 0\nfind 6 at 5\ncaption=\n"},
+     "begins 0\nfind 6 at 5\ncaption 7=\n"},
     {"82 03 0B 01 FF 70 00", "", 253,
      "read 7 at 6\nroom 253: 7 at 6\n" TWICE("step 7 at 6\n")
-     "begins 0\nfind 7 at 6\ncaption=\n"},
+     "begins 0\nfind 7 at 6\ncaption 7=\n"},
     /* a date; a state with a reference; a carried type, and a repeat */
     {"80 11 01 08 30 36 31 35 31 34 33 30 02 05 34 30 39 31 32 CB",
      "40912=x\n", 4,
      "read 80 2 5\n01 1 6 15 14 30\n02 3 3430393132\n"
      TWICE(WRITTEN("20", "other"))
      "room 4: 9 at 5\nstep 01 4 8\nstep 02 14 5\nstep none\nstep none\n"
-     "begins 2\nfind directory 6 1\ncaption=78\n"},
+     "begins 2\nfind directory 6 1\ncaption 1=78\n"},
     {"82 0F 0D 03 FF 01 02 05 02 00 FF 13 01 02 03 01 31 0C", "", 3,
      "read 82 4 3\n0d 2 255 258 0 0\n05 4 00ff\n13 0 2 0 0 0\n03 3 31\n"
      TWICE(WRITTEN("18", "other"))
      "room 3: texts 3\nstep 0d 4 3\nstep 05 9 2\nstep 13 13 1\n"
      "step 03 16 1\nstep none\nstep none\nbegins 4\nfind message 0 0\n"
-     "caption=\n"},
+     "caption 0=\n"},
     {"82 06 13 01 02 13 01 05 49", "", 0,
      "read 82 2 0\n13 0 2 0 0 0\n13 0 5 0 0 0\n" TWICE(WRITTEN("9", "same"))
      "room 0: texts 0\nstep 13 4 1\nstep 13 7 1\nstep none\nstep none\n"
-     "begins 2\nfind message 0 0\ncaption=\n"},
+     "begins 2\nfind message 0 0\ncaption 0=\n"},
 };
 
 /* the octets of "80 0B 01" */

@@ -4,13 +4,15 @@ use Prim.Native.Nat.{ℕ}
 use mathlib.Core.Path.{_≡_, refl, subst}
 use mathlib.Core.List.{List, [], _∷_}
 use lib.Dec.{T}
-use Rattle.rules.specs.Tests.{_≤?_, _=?_, _and_, _or_, pick, both}
+use Rattle.rules.specs.Tests.{_≤?_, _=?_, _and_, _or_, pick}
+use Rattle.rules.proofs.Tests.{both}
 use Rattle.rules.specs.Contents.{Range, Whole, text, within, inSet, allIn}
 use Rattle.rules.specs.Table.{rulesOf, classOf, rowOf, rowIn, numberSet, whole}
 use Rattle.rules.specs.declared.Book.{Book}
 use Rattle.rules.specs.declared.Book.the-variants.{PresentStrict, PresentLenient, OldStrict, OldLenient}
 use Rattle.rules.specs.Message.{Message, LegalMessage}
-use Rattle.rules.specs.Counting.{Counts, legal-counts}
+use Rattle.rules.specs.Counting.{Counts}
+use Rattle.rules.proofs.Counting.{legal-counts}
 use Rattle.caption.proofs.Directory.{Without}
 
 no-equals : (s : List Range) → (T (inSet s 0x3D) → ⊥) → (v : List ℕ) → T (allIn s v) → Without 0x3D v

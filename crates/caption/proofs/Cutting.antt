@@ -9,14 +9,15 @@ use native.Mathlib.Numerals.{add-one}
 use lib.ListN.{length, length-drop, take, drop, getD, drop-of-length-le}
 use lib.Seq.{drop-cons, drop-drop, length-take-le}
 use lib.Dec.{T}
-use Rattle.rules.specs.Tests.{_=?_, pick, pick-yes, pick-not, pick-case, both, of-eq, eq-of, le-of}
-use Rattle.rules.specs.Returns.{T-of}
-use Rattle.rules.specs.Pairwise.{octets-are}
+use Rattle.rules.specs.Tests.{_=?_, pick}
+use Rattle.rules.proofs.Tests.{pick-yes, pick-not, pick-case, both, of-eq, eq-of, le-of}
+use Rattle.rules.proofs.Returns.{T-of}
+use Rattle.rules.proofs.Pairwise.{octets-are}
 use Rattle.caption.specs.declared.Line.{Line}
 use Rattle.caption.specs.declared.Entry.{Entry}
 use Rattle.caption.specs.declared.Entry.the-variants.{Text, Missing}
 use Rattle.caption.specs.Lines.{onFirst, linesOf, indexOf, before, behind, names}
-use Rattle.caption.specs.Caption.{entryFrom, Cuts}
+use Rattle.caption.specs.Caption.{lookupFrom, Cuts}
 
 -- ---- the search for an octet x, from an index on
 module _ (x : ℕ) (s : List ℕ) (i : ℕ) (w : i + indexOf x (drop i s) ≡ indexOf x s) where
@@ -64,9 +65,9 @@ chosen a false x x' y y' e f g = ap (λ (z : Bool). pick z x y) (sym e) ∙ g
 
 -- ---- the search for an entry, from the line that begins at a place on
 module _ (caller d : List ℕ) (at : ℕ) where
-  pub entry-end : length d ≤ at → entryFrom caller at (linesOf (drop at d)) ≡ Missing
-  unfolding entryFrom linesOf
-  entry-end h = ap (λ (r : List ℕ). entryFrom caller at (linesOf r)) (drop-of-length-le d h)
+  pub entry-end : length d ≤ at → lookupFrom caller at (linesOf (drop at d)) ≡ Missing
+  unfolding lookupFrom linesOf
+  entry-end h = ap (λ (r : List ℕ). lookupFrom caller at (linesOf r)) (drop-of-length-le d h)
 
   module _ (h : at < length d) (rest : List ℕ) (w : rest ≡ drop at d) (l : Line) (e : l .size ≡ indexOf 0x0A rest) (n : l .named ≡ names caller (take (l .size) rest)) where
     abbrev line : List ℕ
@@ -94,16 +95,16 @@ module _ (caller d : List ℕ) (at : ℕ) where
         let c = for-caller t in
         ap₂ Text (omega (arith, c .0)) (omega (arith, c .0, line-size, length-drop (suc (indexOf 0x3D line)) line))
 
-    entry-on : entryFrom caller (at + suc (length line)) (linesOf (drop (at + suc (l .size)) d)) ≡ entryFrom caller (at + l .size + 1) (linesOf (drop (at + l .size + 1) d))
+    entry-on : lookupFrom caller (at + suc (length line)) (linesOf (drop (at + suc (l .size)) d)) ≡ lookupFrom caller (at + l .size + 1) (linesOf (drop (at + l .size + 1) d))
     entry-on =
         let z : at + suc (l .size) ≡ at + l .size + 1 = omega arith in
-        ap (λ (k : ℕ). entryFrom caller (at + suc k) (linesOf (drop (at + suc (l .size)) d))) line-size
-        ∙ ap (λ (k : ℕ). entryFrom caller k (linesOf (drop k d))) z
+        ap (λ (k : ℕ). lookupFrom caller (at + suc k) (linesOf (drop (at + suc (l .size)) d))) line-size
+        ∙ ap (λ (k : ℕ). lookupFrom caller k (linesOf (drop k d))) z
 
     pub cuts : Cuts caller d at l
-    unfolding entryFrom
+    unfolding lookupFrom
     cuts = record {
       inside = omega (arith, index-most 0x0A rest, rest-size);
       caller-inside = λ t. omega (arith, for-caller t .1, line-size);
-      goes = ap (entryFrom caller at) cut ∙ chosen _ (l .named) _ _ _ _ n entry-here entry-on;
+      goes = ap (lookupFrom caller at) cut ∙ chosen _ (l .named) _ _ _ _ n entry-here entry-on;
     }

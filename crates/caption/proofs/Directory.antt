@@ -3,21 +3,23 @@
 use Prim.Native.Nat.{ℕ, suc, _+_, _<_}
 use mathlib.Core.Path.{_≡_, refl, sym, _∙_, ap, ap₂, subst}
 use mathlib.Core.Bool.{Bool, true, false}
-use mathlib.Core.Logic.{_⊎_, inl, inr, _↔_}
+use mathlib.Core.Logic.{_⊎_, inl, inr}
 use mathlib.Core.List.{List, [], _∷_, _++_, append-assoc}
 use native.Mathlib.Nat.{zero-add}
 use native.Mathlib.Omega.{arith}
 use native.Mathlib.Numerals.{add-one}
 use lib.ListN.{length, length-append, take, drop, take-append-drop, drop-of-length-le}
-use lib.Seq.{take-length, length-take-le, take-append-seam, drop-append-add, drop-drop}
+use lib.Seq.{take-length, length-take-le, take-append-seam, take-at, drop-append-add, drop-drop}
 use lib.Dec.{T}
-use Rattle.rules.specs.Tests.{_=?_, pick, pick-yes, pick-not, both, join, of-eq, eq-of, of-le, le-of, decide, clash}
-use Rattle.rules.specs.Pairwise.{sameOctets, octets-are, octets-self}
+use Rattle.rules.specs.Tests.{_=?_, pick}
+use Rattle.rules.proofs.Tests.{pick-yes, pick-not, both, join, of-eq, eq-of, of-le, le-of, decide, clash}
+use Rattle.rules.specs.Pairwise.{sameOctets}
+use Rattle.rules.proofs.Pairwise.{octets-are, octets-self}
 use Rattle.caption.specs.declared.Entry.the-variants.{Text, Missing}
 use Rattle.caption.specs.Lines.{linesOf, indexOf, before, behind, names}
-use Rattle.caption.specs.Caption.{entryFrom, entryOf}
+use Rattle.caption.specs.Caption.{lookupFrom, lookup}
 use Rattle.caption.proofs.Cutting.{index-most, lines-cut}
-use Rattle.caption.specs.Directory.{For, NoneFor, FirstFor, span, textAt}
+use Rattle.caption.specs.Directory.{For, NoneFor, FirstFor, span, textPlace}
 
 -- no octet of a text is x
 abbrev pub Without : ℕ → List ℕ → Type 0
@@ -77,25 +79,43 @@ is-for caller l t =
     let e = octets-are (take (indexOf 0x3D l) l) caller (b .1) in
     (drop (suc (indexOf 0x3D l)) l, index-cut 0x3D l (omega (arith, le-of _ _ (b .0))) ∙ ap (λ (v : List ℕ). v ++ 0x3D ∷ drop (suc (indexOf 0x3D l)) l) e)
 
--- a caller has no = of its own, so that the first = of such a line is the one behind the caller
-pub names-iff : (caller l : List ℕ) → Without 0x3D caller → T (names caller l) ↔ For caller l
-names-iff caller l p = (is-for caller l, λ f. subst (λ (z : List ℕ). T (names caller z)) (sym (f .1)) (names-for caller (f .0) p))
+-- a line is for the caller where it begins with the caller and =
+abbrev marked : List ℕ → List ℕ
+marked caller = caller ++ 0x3D ∷ []
+
+module _ (caller l : List ℕ) where
+  begins-for : take (suc (length caller)) l ≡ marked caller → For caller l
+  begins-for e =
+      let rest = drop (suc (length caller)) l in
+      (rest, sym (take-append-drop (suc (length caller)) l) ∙ ap (λ (v : List ℕ). v ++ rest) e ∙ append-assoc caller (0x3D ∷ []) rest)
+
+  for-begins : For caller l → take (suc (length caller)) l ≡ marked caller
+  for-begins f =
+      ap (take (suc (length caller))) (f .1 ∙ sym (append-assoc caller (0x3D ∷ []) (f .0)))
+      ∙ take-at (marked caller) (f .0) (suc (length caller)) (omega (arith, length-append caller (0x3D ∷ [])))
+
+  for-told : For caller l ⊎ (For caller l → ⊥)
+  for-told = go (decide (sameOctets (take (suc (length caller)) l) (marked caller)))
+    where
+      go : T (sameOctets (take (suc (length caller)) l) (marked caller)) ⊎ (T (sameOctets (take (suc (length caller)) l) (marked caller)) → ⊥) → For caller l ⊎ (For caller l → ⊥)
+      go (inl t) = inl (begins-for (octets-are _ _ t))
+      go (inr n) = inr (λ f. n (rw (for-begins f) (octets-self (marked caller))))
 
 abbrev Among : List ℕ → List (List ℕ) → Type 0
 Among caller ls = ((b : List (List ℕ)) × (w : List ℕ) × (a : List (List ℕ)) × (ls ≡ b ++ (caller ++ 0x3D ∷ w) ∷ a) × NoneFor caller b) ⊎ NoneFor caller ls
 
-among : (caller : List ℕ) → Without 0x3D caller → (ls : List (List ℕ)) → Among caller ls
-among caller p [] = inr tt
-among caller p (l ∷ ls) = go (decide (names caller l)) (among caller p ls)
+among : (caller : List ℕ) (ls : List (List ℕ)) → Among caller ls
+among caller [] = inr tt
+among caller (l ∷ ls) = go (for-told caller l) (among caller ls)
   where
-    go : T (names caller l) ⊎ (T (names caller l) → ⊥) → Among caller ls → Among caller (l ∷ ls)
-    go (inl t) m = let f = is-for caller l t in inl ([], f .0, ls, ap (λ (z : List ℕ). z ∷ ls) (f .1), tt)
-    go (inr k) (inl f) = inl (l ∷ f .0, f .1, f .2, ap (λ (z : List (List ℕ)). l ∷ z) (f .3), (λ q. k (names-iff caller l p .1 q), f .4))
-    go (inr k) (inr n) = inr ((λ q. k (names-iff caller l p .1 q)), n)
+    go : For caller l ⊎ (For caller l → ⊥) → Among caller ls → Among caller (l ∷ ls)
+    go (inl f) m = inl ([], f .0, ls, ap (λ (z : List ℕ). z ∷ ls) (f .1), tt)
+    go (inr k) (inl f) = inl (l ∷ f .0, f .1, f .2, ap (λ (z : List (List ℕ)). l ∷ z) (f .3), (k, f .4))
+    go (inr k) (inr n) = inr (k, n)
 
 -- there is a first line for the caller, or none
-pub first-or-none : (caller d : List ℕ) → Without 0x3D caller → FirstFor caller d ⊎ NoneFor caller (linesOf d)
-first-or-none caller d p = told (among caller p (linesOf d))
+pub first-or-none : (caller d : List ℕ) → FirstFor caller d ⊎ NoneFor caller (linesOf d)
+first-or-none caller d = told (among caller (linesOf d))
   where
     told : Among caller (linesOf d) → FirstFor caller d ⊎ NoneFor caller (linesOf d)
     told (inl f) = inl (record { earlier = f .0; text = f .1; later = f .2; is = f .3; none = f .4 })
@@ -103,13 +123,13 @@ first-or-none caller d p = told (among caller p (linesOf d))
 
 -- ---- the search finds exactly that line
 module _ (caller : List ℕ) where
-  entry-none : (at : ℕ) (ls : List (List ℕ)) → NoneFor caller ls → entryFrom caller at ls ≡ Missing
-  unfolding entryFrom
+  entry-none : (at : ℕ) (ls : List (List ℕ)) → NoneFor caller ls → lookupFrom caller at ls ≡ Missing
+  unfolding lookupFrom
   entry-none at [] n = refl
   entry-none at (l ∷ ls) n = pick-not _ _ _ (λ t. n .0 (is-for caller l t)) ∙ entry-none (at + suc (length l)) ls (n .1)
 
-  entry-first : (w : List ℕ) → Without 0x3D caller → (later : List (List ℕ)) (at : ℕ) (ls : List (List ℕ)) → NoneFor caller ls → entryFrom caller at (ls ++ (caller ++ 0x3D ∷ w) ∷ later) ≡ Text (at + (span ls + suc (length caller))) (length w)
-  unfolding entryFrom span behind
+  entry-first : (w : List ℕ) → Without 0x3D caller → (later : List (List ℕ)) (at : ℕ) (ls : List (List ℕ)) → NoneFor caller ls → lookupFrom caller at (ls ++ (caller ++ 0x3D ∷ w) ∷ later) ≡ Text (at + (span ls + suc (length caller))) (length w)
+  unfolding lookupFrom span behind
   entry-first w p later at [] n =
       let k = index-at 0x3D caller w p in
       let z : at + suc (length caller) ≡ at + (0 + suc (length caller)) = omega arith in
@@ -122,14 +142,14 @@ module _ (caller : List ℕ) where
       ∙ entry-first w p later (at + suc (length l)) ls (n .1)
       ∙ ap (λ (i : ℕ). Text i (length w)) z
 
-  pub none-found : (d : List ℕ) → NoneFor caller (linesOf d) → entryOf caller d ≡ Missing
+  pub none-found : (d : List ℕ) → NoneFor caller (linesOf d) → lookup caller d ≡ Missing
   none-found d n = entry-none 0 (linesOf d) n
 
-  pub first-found : (d : List ℕ) → Without 0x3D caller → (e : FirstFor caller d) → entryOf caller d ≡ Text (textAt e) (length (e .text))
+  pub first-found : (d : List ℕ) → Without 0x3D caller → (e : FirstFor caller d) → lookup caller d ≡ Text (textPlace e) (length (e .text))
   first-found d p e =
-      ap (entryFrom caller 0) (e .is)
+      ap (lookupFrom caller 0) (e .is)
       ∙ entry-first (e .text) p (e .later) 0 (e .earlier) (e .none)
-      ∙ ap (λ (i : ℕ). Text i (length (e .text))) (zero-add (textAt e))
+      ∙ ap (λ (i : ℕ). Text i (length (e .text))) (zero-add (textPlace e))
 
 -- ---- and the text stands there
 lines-some : (d l : List ℕ) (ls : List (List ℕ)) → linesOf d ≡ l ∷ ls → 0 < length d
@@ -153,7 +173,8 @@ line-stands (x ∷ b) l a d e =
     let z : suc (length x) + span b ≡ suc k + span b = omega (arith, ap length h, length-take-le k d (index-most 0x0A d)) in
     (r .0, ap (λ (i : ℕ). drop i d) z ∙ sym (drop-drop (span b) (suc k) d) ∙ r .1)
 
-pub text-stands : (caller d : List ℕ) (e : FirstFor caller d) → take (length (e .text)) (drop (textAt e) d) ≡ e .text
+pub text-stands : (caller d : List ℕ) (e : FirstFor caller d) →
+    take (length (e .text)) (drop (textPlace e) d) ≡ e .text
 text-stands caller d e =
     let r = line-stands (e .earlier) _ (e .later) d (e .is) in
     ap (take (length (e .text)))

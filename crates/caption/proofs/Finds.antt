@@ -8,49 +8,47 @@ use mathlib.Core.Option.{none, some}
 use native.Mathlib.Omega.{arith}
 use lib.ListN.{length, take, drop}
 use lib.Dec.{T}
-use Rattle.rules.specs.Tests.{clash}
+use Rattle.rules.proofs.Tests.{clash}
 use Rattle.rules.specs.Octets.{Octets}
 use Rattle.rules.specs.Table.{rulesOf}
 use Rattle.rules.specs.declared.Book.{Book}
 use Rattle.rules.specs.Message.{Message, octets, LegalMessage, Accepts}
-use Rattle.rules.specs.Counting.{counted, Counts, counted-iff}
+use Rattle.rules.specs.Counting.{counted, Counts}
+use Rattle.rules.proofs.Counting.{counted-iff}
 use Rattle.rules.specs.declared.Fault.{Fault}
 use Rattle.rules.specs.Language.{languageOf}
-use Rattle.rules.specs.Calls.{spoken-of}
+use Rattle.rules.proofs.Grammar.{spoken-of}
 use Rattle.message.specs.declared.Verdict.{Verdict}
 use Rattle.message.specs.declared.Verdict.the-variants.{Accepted, Declined}
 use Rattle.message.specs.declared.Part.{Part}
 use Rattle.message.specs.declared.Part.the-variants.{At, Nowhere}
 use Rattle.message.specs.Verdict.{verdictOf}
-use Rattle.message.specs.Judges.{Judges, judges-of, told-small, verdictNumber}
+use Rattle.message.specs.Judges.{Judges, verdictNumber}
+use Rattle.message.proofs.Judges.{judges-of, told-small}
 use Rattle.message.specs.Walking.{countedAt, partOf}
-use Rattle.message.specs.Searching.{counted-part}
+use Rattle.message.proofs.Searching.{counted-part}
 use Rattle.caption.specs.declared.Entry.{Entry}
 use Rattle.caption.specs.declared.Entry.the-variants.{Text, Missing}
-use Rattle.caption.specs.declared.Found.{Found}
-use Rattle.caption.specs.declared.Found.the-variants.{InMessage, InDirectory, Refused}
-use Rattle.caption.specs.Caption.{entryOf, byEntry, byCaller, byName, findUnder, findOf, numberOf, placeOf, sideOf, startOf, lengthOf, sliceOf, textOf}
+use Rattle.caption.specs.declared.Shown.{Shown}
+use Rattle.caption.specs.declared.Shown.the-variants.{InMessage, InDirectory, Refused}
+use Rattle.caption.specs.Caption.{lookup, byEntry, byCaller, byName, findUnder, findOf, Told, told, sliceOf, partText}
 use Rattle.caption.proofs.Inside.{part-inside}
-use Rattle.caption.specs.Directory.{textAt}
+use Rattle.caption.specs.Directory.{textPlace}
 use Rattle.caption.proofs.Directory.{none-found, first-found, text-stands}
-use Rattle.message.specs.Places.{contentsAt, counted-at}
+use Rattle.message.specs.Places.{contentsAt}
+use Rattle.message.proofs.Places.{counted-at, part-none}
 use Rattle.caption.proofs.Callers.{caller-plain}
 use Rattle.caption.specs.Finds.{Shows, Captions, Finds}
 
 -- ---- a part and its text
 module _ (o d : List ℕ) (start : ℕ) (v : List ℕ) where
   message-shows : take (length v) (drop start o) ≡ v → Shows o d (InMessage start (length v)) 0 start v
-  unfolding numberOf placeOf sideOf startOf lengthOf sliceOf textOf
+  unfolding told sliceOf partText
   message-shows e = record { number = refl; place = refl; side = refl; start = refl; size = refl; text = e }
 
   directory-shows : take (length v) (drop start d) ≡ v → Shows o d (InDirectory start (length v)) 1 start v
-  unfolding numberOf placeOf sideOf startOf lengthOf sliceOf textOf
+  unfolding told sliceOf partText
   directory-shows e = record { number = refl; place = refl; side = refl; start = refl; size = refl; text = e }
-
-part-none : (o : List ℕ) (p : Part) → partOf o p ≡ none → p ≡ Nowhere
-unfolding partOf
-part-none o (At start n) e = clash cc
-part-none o Nowhere e = refl
 
 module _ (book : Book) where
   -- ---- the caption of a message
@@ -67,19 +65,19 @@ module _ (book : Book) where
         let e : some (take (length v) (drop (contentsAt (c .first)) o)) ≡ some v = sym (ap (partOf o) (counted-at (rulesOf book) m t v c)) ∙ counted-part (rulesOf book) m t ∙ counted-iff (rulesOf book) m t v .1 c in
         cc
 
-    found : Found
+    found : Shown
     found = byName (rulesOf book) (countedAt (rulesOf book) o 0x07) o d
 
     by-name : (v : List ℕ) (c : Counts (rulesOf book) m 0x07 v) → found ≡ InMessage (contentsAt (c .first)) (length v)
     unfolding found byName
     by-name v c = ap (λ (p : Part). byName (rulesOf book) p o d) (counted-at (rulesOf book) m 0x07 v c)
 
-    by-caller : counted (rulesOf book) m 0x07 ≡ none → (v : List ℕ) (c : Counts (rulesOf book) m 0x02 v) (e : Entry) → entryOf v d ≡ e → found ≡ byEntry e (contentsAt (c .first)) (length v)
+    by-caller : counted (rulesOf book) m 0x07 ≡ none → (v : List ℕ) (c : Counts (rulesOf book) m 0x02 v) (e : Entry) → lookup v d ≡ e → found ≡ byEntry e (contentsAt (c .first)) (length v)
     unfolding found byName byCaller
     by-caller n v c e f =
         ap (λ (p : Part). byName (rulesOf book) p o d) (nowhere 0x07 n)
         ∙ ap (λ (p : Part). byCaller p o d) (counted-at (rulesOf book) m 0x02 v c)
-        ∙ ap (λ (x : Entry). byEntry x (contentsAt (c .first)) (length v)) (ap (λ (w : List ℕ). entryOf w d) (holds 0x02 v c) ∙ f)
+        ∙ ap (λ (x : Entry). byEntry x (contentsAt (c .first)) (length v)) (ap (λ (w : List ℕ). lookup w d) (holds 0x02 v c) ∙ f)
 
     empty : counted (rulesOf book) m 0x07 ≡ none → counted (rulesOf book) m 0x02 ≡ none → found ≡ InMessage 0 0
     unfolding found byName byCaller
@@ -88,37 +86,37 @@ module _ (book : Book) where
     captions : LegalMessage (rulesOf book) m → Captions (rulesOf book) m d found
     unfolding byEntry
     captions l = record {
-      name = λ v c. subst (λ (r : Found). Shows o d r 0 (contentsAt (c .first)) v) (sym (by-name v c)) (message-shows o d _ v (holds 0x07 v c));
-      entry = λ n v c e. subst (λ (r : Found). Shows o d r 1 (textAt e) (e .text)) (sym (by-caller n v c _ (first-found v d (caller-plain book m l v c) e))) (directory-shows o d _ (e .text) (text-stands v d e));
-      caller = λ n v c k. subst (λ (r : Found). Shows o d r 0 (contentsAt (c .first)) v) (sym (by-caller n v c _ (none-found v d k))) (message-shows o d _ v (holds 0x02 v c));
-      nothing = λ n k. subst (λ (r : Found). Shows o d r 0 0 []) (sym (empty n k)) (message-shows o d 0 [] refl);
+      name = λ v c. subst (λ (r : Shown). Shows o d r 0 (contentsAt (c .first)) v) (sym (by-name v c)) (message-shows o d _ v (holds 0x07 v c));
+      entry = λ n v c e. subst (λ (r : Shown). Shows o d r 1 (textPlace e) (e .text)) (sym (by-caller n v c _ (first-found v d (caller-plain book m l v c) e))) (directory-shows o d _ (e .text) (text-stands v d e));
+      caller = λ n v c k. subst (λ (r : Shown). Shows o d r 0 (contentsAt (c .first)) v) (sym (by-caller n v c _ (none-found v d k))) (message-shows o d _ v (holds 0x02 v c));
+      nothing = λ n k. subst (λ (r : Shown). Shows o d r 0 0 []) (sym (empty n k)) (message-shows o d 0 [] refl);
     }
 
   -- ---- the answer and the verdict
   module _ (o d : List ℕ) where
     -- a part is no refusal
-    abbrev APart : Found → Type 0
-    APart r = (numberOf r ≡ 0) × ((f : Fault) → r ≡ Refused f → ⊥)
+    abbrev Unrefused : Shown → Type 0
+    Unrefused r = (told r .number ≡ 0) × ((f : Fault) → r ≡ Refused f → ⊥)
 
-    in-message : (start n : ℕ) → APart (InMessage start n)
-    unfolding numberOf
+    in-message : (start n : ℕ) → Unrefused (InMessage start n)
+    unfolding told
     in-message start n = (refl, λ f e. clash cc)
 
-    in-directory : (start n : ℕ) → APart (InDirectory start n)
-    unfolding numberOf
+    in-directory : (start n : ℕ) → Unrefused (InDirectory start n)
+    unfolding told
     in-directory start n = (refl, λ f e. clash cc)
 
-    by-entry-part : (e : Entry) (start n : ℕ) → APart (byEntry e start n)
+    by-entry-part : (e : Entry) (start n : ℕ) → Unrefused (byEntry e start n)
     unfolding byEntry
     by-entry-part (Text at k) start n = in-directory at k
     by-entry-part Missing start n = in-message start n
 
-    by-caller-part : (p : Part) → APart (byCaller p o d)
+    by-caller-part : (p : Part) → Unrefused (byCaller p o d)
     unfolding byCaller
     by-caller-part (At start n) = by-entry-part _ start n
     by-caller-part Nowhere = in-message 0 0
 
-    by-name-part : (p : Part) → APart (byName (rulesOf book) p o d)
+    by-name-part : (p : Part) → Unrefused (byName (rulesOf book) p o d)
     unfolding byName
     by-name-part (At start n) = in-message start n
     by-name-part Nowhere = by-caller-part (countedAt (rulesOf book) o 0x02)
@@ -127,8 +125,8 @@ module _ (book : Book) where
     unfolding findUnder
     accepted-is v n e = rw e
 
-    accepted-of : (v : Verdict) → ((f : Fault) → v ≡ Declined f → 1 ≤ f .number) → numberOf (findUnder (rulesOf book) v o d) ≡ 0 → (n : ℕ) × (v ≡ Accepted n)
-    unfolding findUnder numberOf
+    accepted-of : (v : Verdict) → ((f : Fault) → v ≡ Declined f → 1 ≤ f .number) → told (findUnder (rulesOf book) v o d) .number ≡ 0 → (n : ℕ) × (v ≡ Accepted n)
+    unfolding findUnder told
     accepted-of (Accepted n) h e = (n, refl)
     accepted-of (Declined f) h e = absurd (omega (arith, h f refl))
 
@@ -137,14 +135,18 @@ module _ (book : Book) where
     refused-of (Accepted n) f = (λ e. absurd (by-name-part (countedAt (rulesOf book) o 0x07) .1 f e), λ e. clash cc)
     refused-of (Declined g) f = (λ e. cc, λ e. cc)
 
-    numbers-of : (v : Verdict) → ((f : Fault) → v ≡ Declined f → T (verdictNumber (languageOf book) (f .number))) → (numberOf (findUnder (rulesOf book) v o d) ≡ 0) ⊎ T (verdictNumber (languageOf book) (numberOf (findUnder (rulesOf book) v o d)))
-    unfolding findUnder numberOf
+    numbers-of : (v : Verdict) → ((f : Fault) → v ≡ Declined f → T (verdictNumber (languageOf book) (f .number))) → (told (findUnder (rulesOf book) v o d) .number ≡ 0) ⊎ T (verdictNumber (languageOf book) (told (findUnder (rulesOf book) v o d) .number))
+    unfolding findUnder told
     numbers-of (Accepted n) h = inl (by-name-part (countedAt (rulesOf book) o 0x07) .0)
     numbers-of (Declined f) h = inr (h f refl)
 
-  refused-empty : (r : Found) (f : Fault) → r ≡ Refused f → (sideOf r ≡ 0) × (startOf r ≡ 0) × (lengthOf r ≡ 0)
-  unfolding sideOf startOf lengthOf
-  refused-empty r f e = (ap sideOf e, ap startOf e, ap lengthOf e)
+  refused-empty : (r : Shown) (f : Fault) → r ≡ Refused f →
+      (told r .side ≡ 0) × (told r .start ≡ 0) × (told r .size ≡ 0)
+  unfolding told
+  refused-empty r f e = (ap (λ (t : Told). t .side) z, ap (λ (t : Told). t .start) z, ap (λ (t : Told). t .size) z)
+    where
+      z : told r ≡ told (Refused f)
+      z = ap told e
 
   module _ (o d : List ℕ) (q : Octets o) where
     abbrev v : Verdict
@@ -166,7 +168,7 @@ module _ (book : Book) where
     finds = record {
       done = (
         λ e. let a = accepted-of o d v (λ f k. told-small (spoken-of book) _ (J .numbers f k) .0) e in J .accepted (a .0) .0 (a .1) .1,
-        λ a. ap numberOf (accepted a) ∙ by-name-part o d (countedAt (rulesOf book) o 0x07) .0,
+        λ a. ap (λ (x : Shown). told x .number) (accepted a) ∙ by-name-part o d (countedAt (rulesOf book) o 0x07) .0,
       );
       verdict = v;
       judged = J;

@@ -5,8 +5,8 @@ use mathlib.Core.Path.{_≡_, refl, sym, _∙_, ap, subst}
 use mathlib.Core.List.{List, [], _∷_}
 use native.Mathlib.Omega.{arith}
 use lib.ListN.{length, length-drop, take, drop}
-use Rattle.rules.specs.Laying.{part-is}
-use Rattle.rules.specs.Tests.{pick-case, picked-by, both, le-of, clash}
+use Rattle.rules.proofs.Laying.{part-is}
+use Rattle.rules.proofs.Tests.{pick-case, picked-by, both, le-of, clash}
 use Rattle.rules.specs.Table.{Rules}
 use Rattle.rules.specs.declared.Fault.{Fault}
 use Rattle.message.specs.declared.Verdict.{Verdict}
@@ -15,14 +15,14 @@ use Rattle.message.specs.declared.Part.{Part}
 use Rattle.message.specs.declared.Part.the-variants.{At, Nowhere}
 use Rattle.message.specs.Verdict.{verdictOf}
 use Rattle.message.specs.Walking.{countedAt}
-use Rattle.message.specs.Places.{Within, counted-inside}
+use Rattle.message.proofs.Places.{Within, counted-inside}
 use Rattle.caption.specs.declared.Entry.{Entry}
 use Rattle.caption.specs.declared.Entry.the-variants.{Text, Missing}
-use Rattle.caption.specs.declared.Found.{Found}
-use Rattle.caption.specs.declared.Found.the-variants.{InMessage, InDirectory, Refused}
+use Rattle.caption.specs.declared.Shown.{Shown}
+use Rattle.caption.specs.declared.Shown.the-variants.{InMessage, InDirectory, Refused}
 use Rattle.caption.specs.Lines.{onFirst, linesOf, indexOf, behind, names}
 use Rattle.caption.specs.Directory.{span}
-use Rattle.caption.specs.Caption.{entryFrom, byEntry, byCaller, byName, findUnder, findOf, startOf, lengthOf, sliceOf, textOf, captionOf}
+use Rattle.caption.specs.Caption.{lookupFrom, byEntry, byCaller, byName, findUnder, findOf, told, sliceOf, partText, captionOf}
 
 -- ---- lines, each with its end
 on-first-span : (x : ℕ) (ls : List (List ℕ)) (n : ℕ) → span ls ≤ suc n → span (onFirst x ls) ≤ suc (suc n)
@@ -37,8 +37,8 @@ lines-span [] = omega arith
 lines-span (x ∷ d) = pick-case (λ (ls : List (List ℕ)). span ls ≤ suc (suc (length d))) _ _ _ (λ _. omega (arith, lines-span d)) (λ _. on-first-span x (linesOf d) (length d) (lines-span d))
 
 -- ---- an entry's text
-entry-span : (caller : List ℕ) (at : ℕ) (ls : List (List ℕ)) (start n : ℕ) → entryFrom caller at ls ≡ Text start n → start + n < at + span ls
-unfolding entryFrom span names behind
+entry-span : (caller : List ℕ) (at : ℕ) (ls : List (List ℕ)) (start n : ℕ) → lookupFrom caller at ls ≡ Text start n → start + n < at + span ls
+unfolding lookupFrom span names behind
 entry-span caller at [] start n e = clash cc
 entry-span caller at (l ∷ ls) start n e =
     picked-by (start + n < at + (suc (length l) + span ls)) _ _ _ _ e
@@ -50,26 +50,26 @@ entry-span caller at (l ∷ ls) start n e =
 
 -- ---- the part
 module _ (o d : List ℕ) where
-  abbrev Inside : Found → Type 0
-  Inside r = startOf r + lengthOf r ≤ length (sliceOf r o d)
+  abbrev Inside : Shown → Type 0
+  Inside r = told r .start + told r .size ≤ length (sliceOf r o d)
 
   by-entry-inside : (e : Entry) (start n : ℕ) → ((at k : ℕ) → e ≡ Text at k → at + k ≤ length d) → start + n ≤ length o → Inside (byEntry e start n)
-  unfolding byEntry startOf lengthOf sliceOf
+  unfolding byEntry told sliceOf
   by-entry-inside (Text at k) start n f h = f at k refl
   by-entry-inside Missing start n f h = h
 
   by-caller-inside : (p : Part) → Within o p → Inside (byCaller p o d)
-  unfolding byCaller startOf lengthOf sliceOf
+  unfolding byCaller told sliceOf
   by-caller-inside (At start n) i = by-entry-inside _ start n (λ at k e. omega (arith, entry-span _ 0 (linesOf d) at k e, lines-span d)) (omega (arith, i start n refl))
   by-caller-inside Nowhere i = omega arith
 
   by-name-inside : (R : Rules) (p : Part) → Within o p → Inside (byName R p o d)
-  unfolding byName startOf lengthOf sliceOf
+  unfolding byName told sliceOf
   by-name-inside R (At start n) i = omega (arith, i start n refl)
   by-name-inside R Nowhere i = by-caller-inside (countedAt R o 0x02) (counted-inside o R 0x02)
 
   under-inside : (R : Rules) (v : Verdict) → Inside (findUnder R v o d)
-  unfolding findUnder startOf lengthOf sliceOf
+  unfolding findUnder told sliceOf
   under-inside R (Accepted n) = by-name-inside R (countedAt R o 0x07) (counted-inside o R 0x07)
   under-inside R (Declined f) = omega arith
 
@@ -78,30 +78,30 @@ module _ (o d : List ℕ) where
   part-inside R = under-inside R (verdictOf R o)
 
 -- ---- the part is cut out of its slice
-module _ (R : Rules) (o d : List ℕ) (r : Found) (f : r ≡ findOf R o d) where
+module _ (R : Rules) (o d : List ℕ) (r : Shown) (f : r ≡ findOf R o d) where
   inside : Inside o d r
   inside = subst (Inside o d) (sym f) (part-inside o d R)
 
   pub in-message : (start n : ℕ) → r ≡ InMessage start n → start + n ≤ length o
-  unfolding startOf lengthOf sliceOf
+  unfolding told sliceOf
   in-message start n e = subst (Inside o d) e inside
 
   pub in-directory : (start n : ℕ) → r ≡ InDirectory start n → start + n ≤ length d
-  unfolding startOf lengthOf sliceOf
+  unfolding told sliceOf
   in-directory start n e = subst (Inside o d) e inside
 
-  caption-is : captionOf R o d ≡ textOf r o d
+  caption-is : captionOf R o d ≡ partText r o d
   unfolding captionOf
-  caption-is = ap (λ (x : Found). textOf x o d) (sym f)
+  caption-is = ap (λ (x : Shown). partText x o d) (sym f)
 
   pub message-part : (start n : ℕ) → r ≡ InMessage start n → take (start + n - start) (drop start o) ≡ captionOf R o d
-  unfolding textOf startOf lengthOf sliceOf
-  message-part start n e = part-is o start n ∙ sym (caption-is ∙ ap (λ (x : Found). textOf x o d) e)
+  unfolding partText told sliceOf
+  message-part start n e = part-is o start n ∙ sym (caption-is ∙ ap (λ (x : Shown). partText x o d) e)
 
   pub directory-part : (start n : ℕ) → r ≡ InDirectory start n → take (start + n - start) (drop start d) ≡ captionOf R o d
-  unfolding textOf startOf lengthOf sliceOf
-  directory-part start n e = part-is d start n ∙ sym (caption-is ∙ ap (λ (x : Found). textOf x o d) e)
+  unfolding partText told sliceOf
+  directory-part start n e = part-is d start n ∙ sym (caption-is ∙ ap (λ (x : Shown). partText x o d) e)
 
   pub refused-part : (g : Fault) → r ≡ Refused g → [] ≡ captionOf R o d
-  unfolding textOf startOf lengthOf sliceOf
-  refused-part g e = sym (caption-is ∙ ap (λ (x : Found). textOf x o d) e)
+  unfolding partText told sliceOf
+  refused-part g e = sym (caption-is ∙ ap (λ (x : Shown). partText x o d) e)

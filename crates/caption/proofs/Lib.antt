@@ -1,6 +1,7 @@
 -- The root of the proofs.
 pub mod Settled
-pub mod Finding
+pub mod Promised
+pub mod One
 pub mod Cutting
 pub mod Inside
 pub mod Directory

@@ -17,89 +17,84 @@ use Rattle.caption.specs.Lines.{indexOf, behind, names, linesOf}
 use Rattle.caption.specs.declared.Line.{Line}
 use Rattle.caption.specs.declared.Entry.{Entry}
 use Rattle.caption.specs.declared.Entry.the-variants.{Text, Missing}
-use Rattle.caption.specs.declared.Found.{Found}
-use Rattle.caption.specs.declared.Found.the-variants.{InMessage, InDirectory, Refused}
+use Rattle.caption.specs.declared.Shown.{Shown}
+use Rattle.caption.specs.declared.Shown.the-variants.{InMessage, InDirectory, Refused}
 
 -- where the text after the first = stands on the first line for the caller; the first of the lines begins at a place of the directory
-unfoldable pub entryFrom : List ℕ → ℕ → List (List ℕ) → Entry
-entryFrom caller at [] = Missing
-entryFrom caller at (l ∷ ls) =
+unfoldable pub lookupFrom : List ℕ → ℕ → List (List ℕ) → Entry
+lookupFrom caller at [] = Missing
+lookupFrom caller at (l ∷ ls) =
     pick (names caller l) (Text (at + suc (indexOf 0x3D l)) (length (behind l)))
-    (entryFrom caller (at + suc (length l)) ls)
+    (lookupFrom caller (at + suc (length l)) ls)
 
 -- where the text for a caller stands in the directory
-abbrev pub entryOf : List ℕ → List ℕ → Entry
-entryOf caller d = entryFrom caller 0 (linesOf d)
+abbrev pub lookup : List ℕ → List ℕ → Entry
+lookup caller d = lookupFrom caller 0 (linesOf d)
 
 -- the directory's text for a caller that stands in the message, else the caller
-unfoldable pub byEntry : Entry → ℕ → ℕ → Found
+unfoldable pub byEntry : Entry → ℕ → ℕ → Shown
 byEntry (Text at k) start n = InDirectory at k
 byEntry Missing start n = InMessage start n
 
 -- by the caller that counts, else the empty part at the message's start
-unfoldable pub byCaller : Part → List ℕ → List ℕ → Found
-byCaller (At start n) o d = byEntry (entryOf (take n (drop start o)) d) start n
+unfoldable pub byCaller : Part → List ℕ → List ℕ → Shown
+byCaller (At start n) o d = byEntry (lookup (take n (drop start o)) d) start n
 byCaller Nowhere o d = InMessage 0 0
 
 -- the name that counts, else by the caller
-unfoldable pub byName : Rules → Part → List ℕ → List ℕ → Found
+unfoldable pub byName : Rules → Part → List ℕ → List ℕ → Shown
 byName R (At start n) o d = InMessage start n
 byName R Nowhere o d = byCaller (countedAt R o 0x02) o d
 
 -- octets that the whole read declines get its number and place
-unfoldable pub findUnder : Rules → Verdict → List ℕ → List ℕ → Found
+unfoldable pub findUnder : Rules → Verdict → List ℕ → List ℕ → Shown
 findUnder R (Accepted n) o d = byName R (countedAt R o 0x07) o d
 findUnder R (Declined f) o d = Refused f
 
 -- what is found for the octets o of a message and the directory d, by the whole read's verdict on o
-unfoldable pub findOf : Rules → List ℕ → List ℕ → Found
+unfoldable pub findOf : Rules → List ℕ → List ℕ → Shown
 findOf R o d = findUnder R (verdictOf R o) o d
 
--- ---- this paper's number and place, and the part, for each case: 0 where there is none, and the empty part at the message's start
-unfoldable pub numberOf : Found → ℕ
-numberOf (InMessage start n) = 0
-numberOf (InDirectory start n) = 0
-numberOf (Refused f) = f .number
+-- ---- what an answer tells (document 01, The forms we expect: a definition provides number and values for each case)
+-- the number and place of a refusal, 0 where there is none; the part that is found, with a refusal the empty part at
+-- the message's start
+pub record Told : Type 0 where
+  pub number : ℕ
+  pub place : ℕ
+  -- which of the two the part lies in: 0 the message, 1 the directory
+  pub side : ℕ
+  -- where the part starts there, and how long it is
+  pub start : ℕ
+  pub size : ℕ
 
-unfoldable pub placeOf : Found → ℕ
-placeOf (InMessage start n) = 0
-placeOf (InDirectory start n) = 0
-placeOf (Refused f) = f .place
-
--- which of the two: 0 the message, 1 the directory
-unfoldable pub sideOf : Found → ℕ
-sideOf (InMessage start n) = 0
-sideOf (InDirectory start n) = 1
-sideOf (Refused f) = 0
-
--- where the part starts in its slice, and how long it is
-unfoldable pub startOf : Found → ℕ
-startOf (InMessage start n) = start
-startOf (InDirectory start n) = start
-startOf (Refused f) = 0
-
-unfoldable pub lengthOf : Found → ℕ
-lengthOf (InMessage start n) = n
-lengthOf (InDirectory start n) = n
-lengthOf (Refused f) = 0
+unfoldable pub told : Shown → Told
+told (InMessage start n) = record { number = 0; place = 0; side = 0; start = start; size = n }
+told (InDirectory start n) = record { number = 0; place = 0; side = 1; start = start; size = n }
+told (Refused f) = record { number = f .number; place = f .place; side = 0; start = 0; size = 0 }
 
 -- the slice that the part lies in, of the message o and the directory d
-unfoldable pub sliceOf : Found → List ℕ → List ℕ → List ℕ
+unfoldable pub sliceOf : Shown → List ℕ → List ℕ → List ℕ
 sliceOf (InMessage start n) o d = o
 sliceOf (InDirectory start n) o d = d
 sliceOf (Refused f) o d = o
 
 -- the octets of the part
-unfoldable pub textOf : Found → List ℕ → List ℕ → List ℕ
-textOf r o d = take (lengthOf r) (drop (startOf r) (sliceOf r o d))
+unfoldable pub partText : Shown → List ℕ → List ℕ → List ℕ
+partText r o d = take (told r .size) (drop (told r .start) (sliceOf r o d))
 
 -- the octets of the part that is found
 unfoldable pub captionOf : Rules → List ℕ → List ℕ → List ℕ
-captionOf R o d = textOf (findOf R o d) o d
+captionOf R o d = partText (findOf R o d) o d
+
+-- the lent code, which held x, afterwards: which slice the part lies in; x with a refusal
+unfoldable pub codeOf : Shown → ℕ → ℕ
+codeOf (InMessage start n) x = 0
+codeOf (InDirectory start n) x = 1
+codeOf (Refused f) x = x
 
 -- ---- how the search goes on
 -- the line that begins at a place of the directory: what the search makes of it
 pub record Cuts (caller d : List ℕ) (at : ℕ) (l : Line) : Type 0 where
   pub inside : at + l .size ≤ length d
   pub caller-inside : l .named ≡ true → length caller < l .size
-  pub goes : entryFrom caller at (linesOf (drop at d)) ≡ pick (l .named) (Text (at + length caller + 1) (l .size - length caller - 1)) (entryFrom caller (at + l .size + 1) (linesOf (drop (at + l .size + 1) d)))
+  pub goes : lookupFrom caller at (linesOf (drop at d)) ≡ pick (l .named) (Text (at + length caller + 1) (l .size - length caller - 1)) (lookupFrom caller (at + l .size + 1) (linesOf (drop (at + l .size + 1) d)))

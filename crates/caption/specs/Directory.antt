@@ -29,5 +29,5 @@ span [] = 0
 span (l ∷ ls) = suc (length l) + span ls
 
 -- where that text stands: behind the lines before it, the caller and the =
-abbrev pub textAt : {caller d : List ℕ} → FirstFor caller d → ℕ
-textAt {caller} e = span (e .earlier) + suc (length caller)
+abbrev pub textPlace : {caller d : List ℕ} → FirstFor caller d → ℕ
+textPlace {caller} e = span (e .earlier) + suc (length caller)

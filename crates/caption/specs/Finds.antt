@@ -15,44 +15,44 @@ use Rattle.rules.specs.Language.{calls}
 use Rattle.message.specs.declared.Verdict.{Verdict}
 use Rattle.message.specs.declared.Verdict.the-variants.{Declined}
 use Rattle.message.specs.Judges.{Judges, verdictNumber}
-use Rattle.caption.specs.declared.Found.{Found}
-use Rattle.caption.specs.declared.Found.the-variants.{Refused}
+use Rattle.caption.specs.declared.Shown.{Shown}
+use Rattle.caption.specs.declared.Shown.the-variants.{Refused}
 use Rattle.caption.specs.Lines.{linesOf}
-use Rattle.caption.specs.Caption.{numberOf, placeOf, sideOf, startOf, lengthOf, sliceOf, textOf}
-use Rattle.caption.specs.Directory.{NoneFor, FirstFor, textAt}
+use Rattle.caption.specs.Caption.{told, sliceOf, partText}
+use Rattle.caption.specs.Directory.{NoneFor, FirstFor, textPlace}
 use Rattle.message.specs.Places.{contentsAt}
 
 -- nothing is declined, and the part holds the text v; it starts at a place of the message (side 0) or of the directory (side 1)
-pub record Shows (o d : List ℕ) (r : Found) (which at : ℕ) (v : List ℕ) : Type 0 where
-  pub number : numberOf r ≡ 0
-  pub place : placeOf r ≡ 0
-  pub side : sideOf r ≡ which
-  pub start : startOf r ≡ at
-  pub size : lengthOf r ≡ length v
-  pub text : textOf r o d ≡ v
+pub record Shows (o d : List ℕ) (r : Shown) (which at : ℕ) (v : List ℕ) : Type 0 where
+  pub number : told r .number ≡ 0
+  pub place : told r .place ≡ 0
+  pub side : told r .side ≡ which
+  pub start : told r .start ≡ at
+  pub size : told r .size ≡ length v
+  pub text : partText r o d ≡ v
 
 -- of the legal message m and the directory d, the caption is r
-pub record Captions (R : Rules) (m : Message) (d : List ℕ) (r : Found) : Type 0 where
+pub record Captions (R : Rules) (m : Message) (d : List ℕ) (r : Shown) : Type 0 where
   -- the name that counts
   pub name : (v : List ℕ) (c : Counts R m 0x07 v) → Shows (octets m) d r 0 (contentsAt (c .first)) v
   -- else, if a caller counts, the text after the = of the first line for it
-  pub entry : counted R m 0x07 ≡ none → (v : List ℕ) (c : Counts R m 0x02 v) (e : FirstFor v d) → Shows (octets m) d r 1 (textAt e) (e .text)
+  pub entry : counted R m 0x07 ≡ none → (v : List ℕ) (c : Counts R m 0x02 v) (e : FirstFor v d) → Shows (octets m) d r 1 (textPlace e) (e .text)
   -- else the caller
   pub caller : counted R m 0x07 ≡ none → (v : List ℕ) (c : Counts R m 0x02 v) → NoneFor v (linesOf d) → Shows (octets m) d r 0 (contentsAt (c .first)) v
   -- else the empty part at the message's start
   pub nothing : counted R m 0x07 ≡ none → counted R m 0x02 ≡ none → Shows (octets m) d r 0 0 []
 
 -- the message's octets o and the directory d went in, and r came back
-pub record Finds (R : Rules) (o d : List ℕ) (r : Found) : Type 0 where
+pub record Finds (R : Rules) (o d : List ℕ) (r : Shown) : Type 0 where
   -- number 0 exactly when the octets are a message
-  pub done : (numberOf r ≡ 0) ↔ Accepts R o
+  pub done : (told r .number ≡ 0) ↔ Accepts R o
   -- refused exactly as the whole read declines the octets, with its number and place, and with the empty part at the message's start
   pub verdict : Verdict
   pub judged : Judges (calls R) o verdict
   pub refused : (f : Fault) → (r ≡ Refused f) ↔ (verdict ≡ Declined f)
-  pub refused-part : (f : Fault) → r ≡ Refused f → (sideOf r ≡ 0) × (startOf r ≡ 0) × (lengthOf r ≡ 0)
+  pub refused-part : (f : Fault) → r ≡ Refused f → (told r .side ≡ 0) × (told r .start ≡ 0) × (told r .size ≡ 0)
   -- no number but 1 to 8, and 10
-  pub numbers : (numberOf r ≡ 0) ⊎ T (verdictNumber (calls R) (numberOf r))
+  pub numbers : (told r .number ≡ 0) ⊎ T (verdictNumber (calls R) (told r .number))
   -- the part lies inside the slice that it names
-  pub inside : startOf r + lengthOf r ≤ length (sliceOf r o d)
+  pub inside : told r .start + told r .size ≤ length (sliceOf r o d)
   pub caption : (m : Message) → LegalMessage R m → octets m ≡ o → Captions R m d r

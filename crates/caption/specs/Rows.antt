@@ -16,9 +16,9 @@ use Rattle.rules.specs.Machine.{step, run}
 use Rattle.rules.specs.Judge.{roomFits, rangePossible, somePossible, possible, final, fits, contents, after, fault, machine}
 use Rattle.message.specs.Verdict.{judged, verdictOf}
 use Rattle.message.specs.Walking.{parameterAt, matched, searchFrom, countedAt}
-use Rattle.caption.specs.declared.Found.the-variants.{InMessage, InDirectory, Refused}
+use Rattle.caption.specs.declared.Shown.the-variants.{InMessage, InDirectory, Refused}
 use Rattle.caption.specs.Lines.{onFirst, linesOf, indexOf, before, behind, names}
-use Rattle.caption.specs.Caption.{entryFrom, byEntry, byCaller, byName, findUnder, findOf}
+use Rattle.caption.specs.Caption.{lookupFrom, byEntry, byCaller, byName, findUnder, findOf}
 
 -- the caller 40912, from octet 14 on
 abbrev call : List ℕ
@@ -53,7 +53,7 @@ pub record Claim : Type 0 where
   pub too-short : findOf (rulesOf PresentLenient) [] [] ≡ Refused (noted 8 0)
 
 pub rows : Claim
-unfolding _≤?_ _=?_ _and_ _or_ pick checksum within inSet whole digit ascii rowIn rowOf listedIn listed classOf rivalOf typeFault rulesOf classFault someLength messageKind opens tensFit onesFit pairAt columnAt judgeOf step run roomFits rangePossible somePossible possible final fits contents after fault machine judged verdictOf parameterAt matched searchFrom countedAt onFirst linesOf indexOf before behind pairwise names entryFrom byEntry byCaller byName findUnder findOf
+unfolding _≤?_ _=?_ _and_ _or_ pick checksum within inSet whole digit ascii rowIn rowOf listedIn listed classOf rivalOf typeFault rulesOf classFault someLength messageKind opens tensFit onesFit pairAt columnAt judgeOf step run roomFits rangePossible somePossible possible final fits contents after fault machine judged verdictOf parameterAt matched searchFrom countedAt onFirst linesOf indexOf before behind pairwise names lookupFrom byEntry byCaller byName findUnder findOf
 rows = record {
   first-line = refl;
   last-line = refl;

@@ -1,5 +1,5 @@
 // The caption of a message (document 01, The caption): a part of the message or a part of a lent directory. `find` says which, where and how long,
-// or number and place; `caption` returns that part itself.
+// or number and place; `caption` returns that part itself, and which in a lent code.
 use message::Part;
 use message::Verdict;
 use rules::Book;
@@ -10,10 +10,10 @@ ghost use lib.ListN.{length, take, drop};
 ghost use Rattle.rules.specs.Table.{rulesOf};
 ghost use Rattle.message.specs.Walking.{countedAt};
 ghost use Rattle.caption.specs.Lines.{indexOf, names};
-ghost use Rattle.caption.specs.Caption.{entryOf, Cuts, byEntry, byCaller, byName, findOf, captionOf};
+ghost use Rattle.caption.specs.Caption.{lookup, Cuts, byEntry, byCaller, byName, findOf, captionOf, codeOf};
 
 // Where the caption stands, or number and place of a refusal.
-pub enum Found {
+pub enum Shown {
     InMessage { start: usize, length: usize },
     InDirectory { start: usize, length: usize },
     Refused(Fault),
@@ -70,7 +70,7 @@ fn line_at(caller: &[u8], directory: &[u8], at: usize) -> Line
 
 // The text after the first `=` on the first line for the caller.
 fn entry_for(caller: &[u8], directory: &[u8]) -> Entry
-    ensures { λ r. ⌜ r ≡ entryOf (now (caller .entry)) (now (directory .entry)) ⌝ }
+    ensures { λ r. ⌜ r ≡ lookup (now (caller .entry)) (now (directory .entry)) ⌝ }
 {
     let mut at: usize = 0;
     while at < directory.len() {
@@ -87,16 +87,16 @@ fn entry_for(caller: &[u8], directory: &[u8]) -> Entry
 }
 
 // For a caller that counts: the directory's text, else the caller.
-fn by_entry(message: &[u8], directory: &[u8], start: usize, n: u8) -> Found
+fn by_entry(message: &[u8], directory: &[u8], start: usize, n: u8) -> Shown
     requires { ⌜ start + n ≤ length (now message) ⌝ }
-    ensures { λ r. ⌜ r ≡ byEntry (entryOf (take n (drop start (now (message .entry)))) (now (directory .entry))) start n ⌝ }
+    ensures { λ r. ⌜ r ≡ byEntry (lookup (take n (drop start (now (message .entry)))) (now (directory .entry))) start n ⌝ }
 {
     let size = n as usize;
     let caller = &message[start..start + size];
     let entry = entry_for(caller, directory);
     match entry {
-        Entry::Text { start: at, length } => Found::InDirectory { start: at, length },
-        Entry::Missing => Found::InMessage {
+        Entry::Text { start: at, length } => Shown::InDirectory { start: at, length },
+        Entry::Missing => Shown::InMessage {
             start,
             length: size,
         },
@@ -104,13 +104,13 @@ fn by_entry(message: &[u8], directory: &[u8], start: usize, n: u8) -> Found
 }
 
 // Where no name counts: by the caller, else the empty part at the message's start.
-fn by_caller(book: Book, message: &[u8], directory: &[u8]) -> Found
+fn by_caller(book: Book, message: &[u8], directory: &[u8]) -> Shown
     ensures { λ r. ⌜ r ≡ byCaller (countedAt (rulesOf book) (now (message .entry)) 0x02) (now (message .entry)) (now (directory .entry)) ⌝ }
 {
     let part = message::counted(book, message, 0x02);
     match part {
         Part::At { start, length } => by_entry(message, directory, start, length),
-        Part::Nowhere => Found::InMessage {
+        Part::Nowhere => Shown::InMessage {
             start: 0,
             length: 0,
         },
@@ -118,38 +118,46 @@ fn by_caller(book: Book, message: &[u8], directory: &[u8]) -> Found
 }
 
 // In an accepted message: the name, else by the caller.
-fn by_name(book: Book, message: &[u8], directory: &[u8]) -> Found
+fn by_name(book: Book, message: &[u8], directory: &[u8]) -> Shown
     ensures { λ r. ⌜ r ≡ byName (rulesOf book) (countedAt (rulesOf book) (now (message .entry)) 0x07) (now (message .entry)) (now (directory .entry)) ⌝ }
 {
     let part = message::counted(book, message, 0x07);
     match part {
         Part::At { start, length: n } => {
             let length = n as usize;
-            Found::InMessage { start, length }
+            Shown::InMessage { start, length }
         }
         Part::Nowhere => by_caller(book, message, directory),
     }
 }
 
 // Which slice, where and how long; octets that the whole read declines with 1 to 8 or 10 get that number.
-pub fn find(book: Book, message: &[u8], directory: &[u8]) -> Found
+pub fn find(book: Book, message: &[u8], directory: &[u8]) -> Shown
     ensures { λ r. ⌜ r ≡ findOf (rulesOf book) (now (message .entry)) (now (directory .entry)) ⌝ }
 {
     let verdict = message::judge(book, message);
     match verdict {
         Verdict::Accepted { size } => by_name(book, message, directory),
-        Verdict::Declined { fault } => Found::Refused(fault),
+        Verdict::Declined { fault } => Shown::Refused(fault),
     }
 }
 
-// The part that `find` finds; the empty part at the message's start with every refusal.
-pub fn caption<'a>(book: Book, message: &'a [u8], directory: &'a [u8]) -> &'a [u8]
-    ensures { λ r. ⌜ now r ≡ captionOf (rulesOf book) (now (message .entry)) (now (directory .entry)) ⌝ }
+// The part that `find` finds, and in the lent code which slice it is part of: 0 the message, 1 the directory. With every refusal the empty part at the
+// message's start, and the code as it was; number and place are `find`'s.
+pub fn caption<'a>(book: Book, message: &'a [u8], directory: &'a [u8], side: &mut u8) -> &'a [u8]
+    ensures part { λ r. ⌜ now r ≡ captionOf (rulesOf book) (now (message .entry)) (now (directory .entry)) ⌝ }
+    ensures side { λ r. ⌜ now (side .exit) ≡ codeOf (findOf (rulesOf book) (now (message .entry)) (now (directory .entry))) (now (side .entry)) ⌝ }
 {
     let found = find(book, message, directory);
     match found {
-        Found::InMessage { start, length } => &message[start..start + length],
-        Found::InDirectory { start, length } => &directory[start..start + length],
-        Found::Refused(fault) => &message[..0],
+        Shown::InMessage { start, length } => {
+            *side = 0;
+            &message[start..start + length]
+        }
+        Shown::InDirectory { start, length } => {
+            *side = 1;
+            &directory[start..start + length]
+        }
+        Shown::Refused(fault) => &message[..0],
     }
 }

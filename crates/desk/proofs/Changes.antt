@@ -8,10 +8,11 @@ use native.Mathlib.Omega.{arith}
 use lib.ListN.{length, length-set, set, getD}
 use lib.Seq.{set-out, getD-set-same, getD-set-other}
 use lib.Dec.{T}
-use Rattle.rules.specs.Tests.{_≤?_, _=?_, pick-yes, pick-not, pick-case, both, join, decide, le-of, not-le, eq-of, of-eq}
+use Rattle.rules.specs.Tests.{_≤?_, _=?_}
+use Rattle.rules.proofs.Tests.{pick-yes, pick-not, pick-case, both, join, decide, le-of, not-le, eq-of, of-eq}
 use Rattle.desk.specs.declared.Change.{Change}
 use Rattle.desk.specs.declared.Change.the-variants.{Nothing, Adds, Removes}
-use Rattle.desk.specs.Open.{free, held, firstOf, absent, isFull, placesAfter}
+use Rattle.desk.specs.References.{free, held, placeWith, absent, isFull, placesAfter}
 use Rattle.desk.specs.Holding.{Open, Fit, Full, Lowest, Removed, Added}
 use Rattle.desk.proofs.Holding.{first-is, first-before, open-inside, absent-before, present, closed-of, open-of, absent-of}
 
@@ -37,7 +38,7 @@ range-set (p ∷ ps) (suc k) x h f zero = f 0
 range-set (p ∷ ps) (suc k) x h f (suc i) = range-set ps k x h (λ j. f (suc j)) i
 
 -- the first free place is the lowest
-lowest-first : (ps : List ℕ) → firstOf free ps < length ps → Lowest ps (firstOf free ps)
+lowest-first : (ps : List ℕ) → placeWith free ps < length ps → Lowest ps (placeWith free ps)
 lowest-first ps h = record {
   inside = h;
   is-free = first-is free ps h;
@@ -71,10 +72,10 @@ module _ (r : ℕ) (ps : List ℕ) where
       none-free (inl t) = t
       none-free (inr n) =
           let h = present free ps n in
-          let k = f (firstOf free ps) h in
+          let k = f (placeWith free ps) h in
           absurd (omega (arith, k .1, first-is free ps h))
 
-  free-there : (T (isFull (Adds r) ps) → ⊥) → T (absent (held r) ps) → firstOf free ps < length ps
+  free-there : (T (isFull (Adds r) ps) → ⊥) → T (absent (held r) ps) → placeWith free ps < length ps
   unfolding isFull
   free-there n t = present free ps (λ u. n (join _ _ t u))
 
@@ -82,8 +83,8 @@ module _ (r : ℕ) (ps : List ℕ) where
   unfolding placesAfter
   added n = record {
     there = λ o. pick-not _ _ _ (λ t. closed-of r ps t o);
-    new = λ m. let t = absent-of r ps m in (firstOf free ps, lowest-first ps (free-there n t), pick-yes _ _ _ t);
-    holds = pick-case (Open r) (absent (held r) ps) _ _ (λ t. (firstOf free ps, getD-set-same ps (firstOf free ps) (held r) 0 (free-there n t))) (λ m. open-of r ps m);
+    new = λ m. let t = absent-of r ps m in (placeWith free ps, lowest-first ps (free-there n t), pick-yes _ _ _ t);
+    holds = pick-case (Open r) (absent (held r) ps) _ _ (λ t. (placeWith free ps, getD-set-same ps (placeWith free ps) (held r) 0 (free-there n t))) (λ m. open-of r ps m);
   }
 
   -- other references stay, in their places
@@ -92,12 +93,12 @@ module _ (r : ℕ) (ps : List ℕ) where
   others-added n s i m =
       pick-case (λ (qs : List ℕ). (getD ps i 0 ≡ held s) ↔ (getD qs i 0 ≡ held s)) (absent (held r) ps) _ _
       (λ t. let h = free-there n t in (
-        λ e. held-still ps (firstOf free ps) (held r) i s (λ z. omega (arith, e, first-is free ps h, ap (λ (k : ℕ). getD ps k 0) z)) e,
-        λ e. from (held-from ps (firstOf free ps) (held r) i s e),
+        λ e. held-still ps (placeWith free ps) (held r) i s (λ z. omega (arith, e, first-is free ps h, ap (λ (k : ℕ). getD ps k 0) z)) e,
+        λ e. from (held-from ps (placeWith free ps) (held r) i s e),
       ))
       (λ _. (λ e. e, λ e. e))
     where
-      from : ((i ≡ firstOf free ps) × (held r ≡ held s)) ⊎ (getD ps i 0 ≡ held s) → getD ps i 0 ≡ held s
+      from : ((i ≡ placeWith free ps) × (held r ≡ held s)) ⊎ (getD ps i 0 ≡ held s) → getD ps i 0 ≡ held s
       from (inl x) = absurd (m (omega (arith, x .1)))
       from (inr e) = e
 
@@ -110,28 +111,28 @@ module _ (r : ℕ) (ps : List ℕ) where
         go (inr n) (inl t) = absurd (w .once j i r (le-of _ _ t) b a)
         go (inr n) (inr m) = omega (arith, not-le _ _ n, not-le _ _ m)
 
-    at-first : (i : ℕ) → getD ps i 0 ≡ held r → i ≡ firstOf (held r) ps
+    at-first : (i : ℕ) → getD ps i 0 ≡ held r → i ≡ placeWith (held r) ps
     at-first i e =
         let h = present (held r) ps (λ t. closed-of r ps t (i, e)) in
-        same-place i (firstOf (held r) ps) e (first-is (held r) ps h)
+        same-place i (placeWith (held r) ps) e (first-is (held r) ps h)
 
     pub removed : Removed r ps (placesAfter (Removes r) ps)
     unfolding placesAfter
     removed = record {
       freed = λ i e. let z = at-first i e in let h = open-inside ps i r e in ap (λ (k : ℕ). getD (set ps k free) i 0) (sym z) ∙ getD-set-same ps i free 0 h;
-      others = λ i n. other i n (decide (i =? firstOf (held r) ps));
-      long = length-set ps (firstOf (held r) ps) free;
+      others = λ i n. other i n (decide (i =? placeWith (held r) ps));
+      long = length-set ps (placeWith (held r) ps) free;
     }
       where
-        other : (i : ℕ) → (getD ps i 0 ≡ held r → ⊥) → T (i =? firstOf (held r) ps) ⊎ (T (i =? firstOf (held r) ps) → ⊥) → getD (set ps (firstOf (held r) ps) free) i 0 ≡ getD ps i 0
+        other : (i : ℕ) → (getD ps i 0 ≡ held r → ⊥) → T (i =? placeWith (held r) ps) ⊎ (T (i =? placeWith (held r) ps) → ⊥) → getD (set ps (placeWith (held r) ps) free) i 0 ≡ getD ps i 0
         other i n (inl t) =
             let z = eq-of _ _ t in
-            ap (λ (qs : List ℕ). getD qs i 0) (set-out ps (firstOf (held r) ps) free (outside z (decide (suc (firstOf (held r) ps) ≤? length ps))))
+            ap (λ (qs : List ℕ). getD qs i 0) (set-out ps (placeWith (held r) ps) free (outside z (decide (suc (placeWith (held r) ps) ≤? length ps))))
           where
-            outside : i ≡ firstOf (held r) ps → T (suc (firstOf (held r) ps) ≤? length ps) ⊎ (T (suc (firstOf (held r) ps) ≤? length ps) → ⊥) → length ps ≤ firstOf (held r) ps
+            outside : i ≡ placeWith (held r) ps → T (suc (placeWith (held r) ps) ≤? length ps) ⊎ (T (suc (placeWith (held r) ps) ≤? length ps) → ⊥) → length ps ≤ placeWith (held r) ps
             outside z (inl h) = absurd (n (ap (λ (k : ℕ). getD ps k 0) z ∙ first-is (held r) ps (le-of _ _ h)))
             outside z (inr m) = omega (arith, not-le _ _ m)
-        other i n (inr m) = getD-set-other ps (firstOf (held r) ps) i free 0 (λ z. m (of-eq _ _ z))
+        other i n (inr m) = getD-set-other ps (placeWith (held r) ps) i free 0 (λ z. m (of-eq _ _ z))
 
     pub closed-after : Open r (placesAfter (Removes r) ps) → ⊥
     closed-after o = held-or (o .0) (o .1) (decide (getD ps (o .0) 0 =? held r))
@@ -151,34 +152,34 @@ module _ (r : ℕ) (ps : List ℕ) where
         back e (inr n) = sym (removed .others i (λ x. n (of-eq _ _ x))) ∙ e
 
 -- a change that adds adds a reference
-unfoldable pub Ranged : Change → Type 0
-Ranged Nothing = Unit {0}
-Ranged (Adds r) = r < 65536
-Ranged (Removes r) = Unit {0}
+unfoldable pub AddsReference : Change → Type 0
+AddsReference Nothing = Unit {0}
+AddsReference (Adds r) = r < 65536
+AddsReference (Removes r) = Unit {0}
 
 -- places that fit still do
-pub fit-after : (k : Change) (ps : List ℕ) → Ranged k → (T (isFull k ps) → ⊥) → Fit ps → Fit (placesAfter k ps)
-unfolding placesAfter Ranged
+pub fit-after : (k : Change) (ps : List ℕ) → AddsReference k → (T (isFull k ps) → ⊥) → Fit ps → Fit (placesAfter k ps)
+unfolding placesAfter AddsReference
 fit-after Nothing ps g n w = w
 fit-after (Adds r) ps g n w = pick-case Fit (absent (held r) ps) _ _ (λ t. one-more t) (λ _. w)
   where
-    one-more : T (absent (held r) ps) → Fit (set ps (firstOf free ps) (held r))
+    one-more : T (absent (held r) ps) → Fit (set ps (placeWith free ps) (held r))
     one-more t = record {
-      range = range-set ps (firstOf free ps) (held r) (omega arith) (w .range);
-      once = λ i j s l a b. two s i j l (held-from ps (firstOf free ps) (held r) i s a) (held-from ps (firstOf free ps) (held r) j s b);
+      range = range-set ps (placeWith free ps) (held r) (omega arith) (w .range);
+      once = λ i j s l a b. two s i j l (held-from ps (placeWith free ps) (held r) i s a) (held-from ps (placeWith free ps) (held r) j s b);
     }
       where
-        two : (s i j : ℕ) → i < j → ((i ≡ firstOf free ps) × (held r ≡ held s)) ⊎ (getD ps i 0 ≡ held s) → ((j ≡ firstOf free ps) × (held r ≡ held s)) ⊎ (getD ps j 0 ≡ held s) → ⊥
+        two : (s i j : ℕ) → i < j → ((i ≡ placeWith free ps) × (held r ≡ held s)) ⊎ (getD ps i 0 ≡ held s) → ((j ≡ placeWith free ps) × (held r ≡ held s)) ⊎ (getD ps j 0 ≡ held s) → ⊥
         two s i j l (inl x) (inl y) = omega (arith, x .0, y .0)
         two s i j l (inl x) (inr b) = closed-of r ps t (j, b ∙ sym (x .1))
         two s i j l (inr a) (inl y) = closed-of r ps t (i, a ∙ sym (y .1))
         two s i j l (inr a) (inr b) = w .once i j s l a b
 fit-after (Removes r) ps g n w = record {
-  range = range-set ps (firstOf (held r) ps) free (omega arith) (w .range);
-  once = λ i j s l a b. two s i j l (held-from ps (firstOf (held r) ps) free i s a) (held-from ps (firstOf (held r) ps) free j s b);
+  range = range-set ps (placeWith (held r) ps) free (omega arith) (w .range);
+  once = λ i j s l a b. two s i j l (held-from ps (placeWith (held r) ps) free i s a) (held-from ps (placeWith (held r) ps) free j s b);
 }
   where
-    two : (s i j : ℕ) → i < j → ((i ≡ firstOf (held r) ps) × (free ≡ held s)) ⊎ (getD ps i 0 ≡ held s) → ((j ≡ firstOf (held r) ps) × (free ≡ held s)) ⊎ (getD ps j 0 ≡ held s) → ⊥
+    two : (s i j : ℕ) → i < j → ((i ≡ placeWith (held r) ps) × (free ≡ held s)) ⊎ (getD ps i 0 ≡ held s) → ((j ≡ placeWith (held r) ps) × (free ≡ held s)) ⊎ (getD ps j 0 ≡ held s) → ⊥
     two s i j l (inl x) y = omega (arith, x .1)
     two s i j l (inr a) (inl y) = omega (arith, y .1)
     two s i j l (inr a) (inr b) = w .once i j s l a b
@@ -187,8 +188,8 @@ fit-after (Removes r) ps g n w = record {
 pub as-many-after : (k : Change) (ps : List ℕ) → length (placesAfter k ps) ≡ length ps
 unfolding placesAfter
 as-many-after Nothing ps = refl
-as-many-after (Adds r) ps = pick-case (λ (qs : List ℕ). length qs ≡ length ps) (absent (held r) ps) _ _ (λ _. length-set ps (firstOf free ps) (held r)) (λ _. refl)
-as-many-after (Removes r) ps = length-set ps (firstOf (held r) ps) free
+as-many-after (Adds r) ps = pick-case (λ (qs : List ℕ). length qs ≡ length ps) (absent (held r) ps) _ _ (λ _. length-set ps (placeWith free ps) (held r)) (λ _. refl)
+as-many-after (Removes r) ps = length-set ps (placeWith (held r) ps) free
 
 -- the same change again: it has its place, and changes nothing
 pub room-again : (k : Change) (ps : List ℕ) → (T (isFull k ps) → ⊥) → T (isFull k (placesAfter k ps)) → ⊥
@@ -206,7 +207,7 @@ stays-added r ps o = pick-not _ _ _ (λ t. closed-of r ps t o)
 
 stays-removed : (r : ℕ) (ps : List ℕ) → (Open r ps → ⊥) → placesAfter (Removes r) ps ≡ ps
 unfolding placesAfter absent
-stays-removed r ps n = let z = eq-of (firstOf (held r) ps) (length ps) (absent-of r ps n) in set-out ps (firstOf (held r) ps) free (omega (arith, z))
+stays-removed r ps n = let z = eq-of (placeWith (held r) ps) (length ps) (absent-of r ps n) in set-out ps (placeWith (held r) ps) free (omega (arith, z))
 
 pub same-again : (k : Change) (ps : List ℕ) → (T (isFull k ps) → ⊥) → Fit ps → placesAfter k (placesAfter k ps) ≡ placesAfter k ps
 unfolding placesAfter

@@ -12,24 +12,27 @@ use native.Mathlib.Omega.{arith}
 use lib.ListN.{length, length-take, length-drop, take, drop, getD}
 use lib.Seq.{getD-take, getD-drop}
 use lib.Dec.{T}
-use Rattle.rules.specs.Tests.{clash, _≤?_, _=?_, _and_, _or_, pick, pick-case, both, either, le-of}
-use Rattle.rules.specs.Laying.{part-is}
-use Rattle.rules.specs.Octets.{Octets, octets-take, octets-drop, octet-at}
+use Rattle.rules.specs.Tests.{_≤?_, _=?_, _and_, _or_, pick}
+use Rattle.rules.proofs.Tests.{clash, pick-case, both, either, le-of}
+use Rattle.rules.proofs.Laying.{part-is}
+use Rattle.rules.specs.Octets.{Octets, referenceOf}
+use Rattle.rules.proofs.Octets.{octets-take, octets-drop, octet-at}
 use Rattle.rules.specs.Contents.{Range, Whole, columns, within, inSet, columnsFit}
 use Rattle.rules.specs.Table.{Rules, rulesOf, listedIn, listed, classOf, rowOf, rowIn, anyOctet, lampSet, identitySet, contentsFit, whole}
-use Rattle.rules.specs.ContentLaw.{lawful}
+use Rattle.rules.proofs.ContentLaw.{lawful}
 use Rattle.rules.specs.declared.Book.{Book}
 use Rattle.rules.specs.declared.Book.the-variants.{PresentStrict, PresentLenient, OldStrict, OldLenient}
 use Rattle.rules.specs.Message as message
 use Rattle.rules.specs.Message.{LegalMessage, Accepts}
-use Rattle.rules.specs.Counting.{counted, counted-iff, legal-counts}
+use Rattle.rules.specs.Counting.{counted}
+use Rattle.rules.proofs.Counting.{counted-iff, legal-counts}
 use Rattle.message.specs.declared.Part.{Part}
 use Rattle.message.specs.declared.Part.the-variants.{At, Nowhere}
 use Rattle.message.specs.Walking.{countedAt, partOf}
-use Rattle.message.specs.Searching.{counted-part}
+use Rattle.message.proofs.Searching.{counted-part}
 use Rattle.desk.specs.declared.Change.the-variants.{Nothing, Adds, Removes}
-use Rattle.desk.specs.Open.{changeBy}
-use Rattle.desk.proofs.Changes.{Ranged}
+use Rattle.desk.specs.References.{changeBy}
+use Rattle.desk.proofs.Changes.{AddsReference}
 use Rattle.desk.specs.Settle.{countedIn, changeIn, changeOf}
 
 -- what counts is the contents of a legal parameter of its type
@@ -170,35 +173,35 @@ octets-counted R o q t v e = go (countedAt R o t) e
     go (At s n) e = let z : take n (drop s o) ≡ v = cc in subst Octets z (octets-take n (drop s o) (octets-drop s o q))
     go Nowhere e = clash cc
 
-in-range : (r : ℕ) → r < 65536 → Ranged (Adds r)
-unfolding Ranged
+in-range : (r : ℕ) → r < 65536 → AddsReference (Adds r)
+unfolding AddsReference
 in-range r h = h
 
-no-range : (r : ℕ) → Ranged (Removes r)
-unfolding Ranged
+no-range : (r : ℕ) → AddsReference (Removes r)
+unfolding AddsReference
 no-range r = tt
 
-none-range : Ranged Nothing
-unfolding Ranged
+none-range : AddsReference Nothing
+unfolding AddsReference
 none-range = tt
 
-small : (a b c : ℕ) → b < 256 → c < 256 → Ranged (changeBy a b c)
+small : (a b c : ℕ) → b < 256 → c < 256 → AddsReference (changeBy a b c)
 unfolding changeBy
-small a b c h l = pick-case Ranged (a =? 0xFF) _ _ (λ _. adds) (λ _. pick-case Ranged (a =? 0x00) _ _ (λ _. removes) (λ _. nothing))
+small a b c h l = pick-case AddsReference (a =? 0xFF) _ _ (λ _. adds) (λ _. pick-case AddsReference (a =? 0x00) _ _ (λ _. removes) (λ _. nothing))
   where
-    adds : Ranged (Adds (256 * b + c))
-    adds = in-range (256 * b + c) (omega arith)
+    adds : AddsReference (Adds (referenceOf b c))
+    adds = in-range (referenceOf b c) (omega arith)
 
-    removes : Ranged (Removes (256 * b + c))
-    removes = no-range (256 * b + c)
+    removes : AddsReference (Removes (referenceOf b c))
+    removes = no-range (referenceOf b c)
 
-    nothing : Ranged Nothing
+    nothing : AddsReference Nothing
     nothing = none-range
 
-pub small-change : (R : Rules) (o : List ℕ) → Octets o → (t : ℕ) → Ranged (changeOf (countedIn R o t))
+pub small-change : (R : Rules) (o : List ℕ) → Octets o → (t : ℕ) → AddsReference (changeOf (countedIn R o t))
 unfolding changeOf changeIn
 small-change R o q t = go (countedIn R o t) refl
   where
-    go : (c : Option (List ℕ)) → countedIn R o t ≡ c → Ranged (changeOf c)
+    go : (c : Option (List ℕ)) → countedIn R o t ≡ c → AddsReference (changeOf c)
     go none e = none-range
     go (some v) e = let w = octets-counted R o q t v e in small (getD v 0 0) (getD v 1 0) (getD v 2 0) (octet-at v w 1) (octet-at v w 2)

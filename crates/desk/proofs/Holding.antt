@@ -10,35 +10,36 @@ use native.Mathlib.Omega.{arith}
 use lib.ListN.{length, length-drop, drop, drop-of-length-le, getD, replicate}
 use lib.Seq.{drop-cons}
 use lib.Dec.{T, eqb}
-use Rattle.rules.specs.Tests.{_≤?_, _=?_, _and_, pick, pick-yes, pick-not, pick-case, both, join, decide, le-of, of-le, not-le, eq-of, of-eq}
-use Rattle.rules.specs.Returns.{and-t, and-f, yes-eq, no-eq, is-eq}
-use Rattle.desk.specs.Open.{free, held, firstOf, absent, mayStand, placesFit}
+use Rattle.rules.specs.Tests.{_≤?_, _=?_, _and_, pick}
+use Rattle.rules.proofs.Tests.{pick-yes, pick-not, pick-case, both, join, decide, le-of, of-le, not-le, eq-of, of-eq}
+use Rattle.rules.proofs.Returns.{and-t, and-f, yes-eq, no-eq, is-eq}
+use Rattle.desk.specs.References.{free, held, placeWith, absent, mayStand, placesFit}
 use Rattle.desk.specs.Holding.{Fit, Open}
 
 -- ---- the first place that is p
-pub first-le : (p : ℕ) (ps : List ℕ) → firstOf p ps ≤ length ps
-unfolding firstOf
+pub first-le : (p : ℕ) (ps : List ℕ) → placeWith p ps ≤ length ps
+unfolding placeWith
 first-le p [] = omega arith
 first-le p (q ∷ ps) = pick-case (λ (n : ℕ). n ≤ suc (length ps)) (q =? p) _ _ (λ _. omega arith) (λ _. omega (arith, first-le p ps))
 
 -- is p
-pub first-is : (p : ℕ) (ps : List ℕ) → firstOf p ps < length ps → getD ps (firstOf p ps) 0 ≡ p
-unfolding firstOf pick
+pub first-is : (p : ℕ) (ps : List ℕ) → placeWith p ps < length ps → getD ps (placeWith p ps) 0 ≡ p
+unfolding placeWith pick
 first-is p [] h = absurd (omega arith)
 first-is p (q ∷ ps) h = go (q =? p) (λ t. eq-of q p t) (first-is p ps) h
   where
-    go : (b : Bool) → (T b → q ≡ p) → (firstOf p ps < length ps → getD ps (firstOf p ps) 0 ≡ p) → pick b 0 (suc (firstOf p ps)) < suc (length ps) → getD (q ∷ ps) (pick b 0 (suc (firstOf p ps))) 0 ≡ p
+    go : (b : Bool) → (T b → q ≡ p) → (placeWith p ps < length ps → getD ps (placeWith p ps) 0 ≡ p) → pick b 0 (suc (placeWith p ps)) < suc (length ps) → getD (q ∷ ps) (pick b 0 (suc (placeWith p ps))) 0 ≡ p
     go true f g h = f tt
     go false f g h = g (omega arith)
 
 -- and none before it is
-pub first-before : (p : ℕ) (ps : List ℕ) (j : ℕ) → j < firstOf p ps → getD ps j 0 ≡ p → ⊥
-unfolding firstOf pick
+pub first-before : (p : ℕ) (ps : List ℕ) (j : ℕ) → j < placeWith p ps → getD ps j 0 ≡ p → ⊥
+unfolding placeWith pick
 first-before p [] j h e = omega arith
-first-before p (q ∷ ps) zero h e = let z = pick-yes (q =? p) 0 (suc (firstOf p ps)) (of-eq q p e) in omega (arith, z)
+first-before p (q ∷ ps) zero h e = let z = pick-yes (q =? p) 0 (suc (placeWith p ps)) (of-eq q p e) in omega (arith, z)
 first-before p (q ∷ ps) (suc j) h e = go (q =? p) (λ k. first-before p ps j k e) h
   where
-    go : (b : Bool) → (j < firstOf p ps → ⊥) → suc j < pick b 0 (suc (firstOf p ps)) → ⊥
+    go : (b : Bool) → (j < placeWith p ps → ⊥) → suc j < pick b 0 (suc (placeWith p ps)) → ⊥
     go true g h = omega arith
     go false g h = g (omega arith)
 
@@ -61,11 +62,12 @@ unfolding absent
 absent-before p ps t i h e = first-before p ps i (omega (arith, eq-of _ _ t)) e
 
 -- where it is not absent, the first stands inside
-pub present : (p : ℕ) (ps : List ℕ) → (T (absent p ps) → ⊥) → firstOf p ps < length ps
+pub present : (p : ℕ) (ps : List ℕ) → (T (absent p ps) → ⊥) → placeWith p ps < length ps
 unfolding absent
-present p ps n = go (decide (suc (firstOf p ps) ≤? length ps))
+present p ps n = go (decide (suc (placeWith p ps) ≤? length ps))
   where
-    go : T (suc (firstOf p ps) ≤? length ps) ⊎ (T (suc (firstOf p ps) ≤? length ps) → ⊥) → firstOf p ps < length ps
+    go : T (suc (placeWith p ps) ≤? length ps) ⊎ (T (suc (placeWith p ps) ≤? length ps) → ⊥) →
+        placeWith p ps < length ps
     go (inl t) = le-of _ _ t
     go (inr m) = absurd (n (of-eq _ _ (omega (arith, first-le p ps, not-le _ _ m))))
 
@@ -73,7 +75,7 @@ pub closed-of : (r : ℕ) (ps : List ℕ) → T (absent (held r) ps) → Open r 
 closed-of r ps t o = absent-before (held r) ps t (o .0) (open-inside ps (o .0) r (o .1)) (o .1)
 
 pub open-of : (r : ℕ) (ps : List ℕ) → (T (absent (held r) ps) → ⊥) → Open r ps
-open-of r ps n = (firstOf (held r) ps, first-is (held r) ps (present (held r) ps n))
+open-of r ps n = (placeWith (held r) ps, first-is (held r) ps (present (held r) ps n))
 
 pub absent-of : (r : ℕ) (ps : List ℕ) → (Open r ps → ⊥) → T (absent (held r) ps)
 absent-of r ps n = go (decide (absent (held r) ps))
@@ -122,37 +124,37 @@ of-fit (p ∷ ps) w =
 
 -- ---- from place to place
 module _ (p : ℕ) (ps : List ℕ) (i : ℕ) where
-  pub first-here : i < length ps → getD ps i 0 ≡ p → i + firstOf p (drop i ps) ≡ i
-  unfolding firstOf
-  first-here h e = let z = ap (firstOf p) (drop-cons ps i 0 h) ∙ pick-yes (getD ps i 0 =? p) 0 _ (of-eq _ _ e) in omega (arith, z)
+  pub first-here : i < length ps → getD ps i 0 ≡ p → i + placeWith p (drop i ps) ≡ i
+  unfolding placeWith
+  first-here h e = let z = ap (placeWith p) (drop-cons ps i 0 h) ∙ pick-yes (getD ps i 0 =? p) 0 _ (of-eq _ _ e) in omega (arith, z)
 
-  pub first-next : i < length ps → (getD ps i 0 ≡ p → ⊥) → i + firstOf p (drop i ps) ≡ i + 1 + firstOf p (drop (i + 1) ps)
-  unfolding firstOf
+  pub first-next : i < length ps → (getD ps i 0 ≡ p → ⊥) → i + placeWith p (drop i ps) ≡ i + 1 + placeWith p (drop (i + 1) ps)
+  unfolding placeWith
   first-next h n =
-      let z = ap (firstOf p) (drop-cons ps i 0 h) ∙ pick-not (getD ps i 0 =? p) 0 (suc (firstOf p (drop (suc i) ps))) (λ t. n (eq-of _ _ t)) in
-      omega (arith, z, ap (λ (k : ℕ). firstOf p (drop k ps)) (add-one i))
+      let z = ap (placeWith p) (drop-cons ps i 0 h) ∙ pick-not (getD ps i 0 =? p) 0 (suc (placeWith p (drop (suc i) ps))) (λ t. n (eq-of _ _ t)) in
+      omega (arith, z, ap (λ (k : ℕ). placeWith p (drop k ps)) (add-one i))
 
-  pub first-end : length ps ≤ i → i + firstOf p (drop i ps) ≡ i
-  unfolding firstOf
-  first-end h = let z = ap (firstOf p) (drop-of-length-le ps h) in omega (arith, z)
+  pub first-end : length ps ≤ i → i + placeWith p (drop i ps) ≡ i
+  unfolding placeWith
+  first-end h = let z = ap (placeWith p) (drop-of-length-le ps h) in omega (arith, z)
 
   -- none from i on is p
-  pub absent-from : i ≤ length ps → eqb (i + firstOf p (drop i ps)) (length ps) ≡ absent p (drop i ps)
+  pub absent-from : i ≤ length ps → eqb (i + placeWith p (drop i ps)) (length ps) ≡ absent p (drop i ps)
   unfolding absent
-  absent-from h = go (decide (firstOf p (drop i ps) =? length (drop i ps)))
+  absent-from h = go (decide (placeWith p (drop i ps) =? length (drop i ps)))
     where
-      go : T (firstOf p (drop i ps) =? length (drop i ps)) ⊎ (T (firstOf p (drop i ps) =? length (drop i ps)) → ⊥) → eqb (i + firstOf p (drop i ps)) (length ps) ≡ (firstOf p (drop i ps) =? length (drop i ps))
+      go : T (placeWith p (drop i ps) =? length (drop i ps)) ⊎ (T (placeWith p (drop i ps) =? length (drop i ps)) → ⊥) → eqb (i + placeWith p (drop i ps)) (length ps) ≡ (placeWith p (drop i ps) =? length (drop i ps))
       go (inl t) =
           let e = eq-of _ _ t in
-          let z : i + firstOf p (drop i ps) ≡ length ps = omega (arith, e, length-drop i ps) in
+          let z : i + placeWith p (drop i ps) ≡ length ps = omega (arith, e, length-drop i ps) in
           is-eq _ _ ∙ yes-eq _ _ z ∙ sym (yes-eq _ _ e)
       go (inr n) =
-          let z : i + firstOf p (drop i ps) ≡ length ps → ⊥ = λ e. n (of-eq _ _ (omega (arith, e, length-drop i ps))) in
+          let z : i + placeWith p (drop i ps) ≡ length ps → ⊥ = λ e. n (of-eq _ _ (omega (arith, e, length-drop i ps))) in
           is-eq _ _ ∙ no-eq _ _ z ∙ sym (no-eq _ _ (λ e. n (of-eq _ _ e)))
 
 module _ (ps : List ℕ) (i : ℕ) where
   -- none behind i is p
-  pub absent-behind : (p : ℕ) → i < length ps → eqb (i + 1 + firstOf p (drop (i + 1) ps)) (length ps) ≡ absent p (drop (suc i) ps)
+  pub absent-behind : (p : ℕ) → i < length ps → eqb (i + 1 + placeWith p (drop (i + 1) ps)) (length ps) ≡ absent p (drop (suc i) ps)
   absent-behind p h = absent-from p ps (i + 1) (omega arith) ∙ ap (λ (k : ℕ). absent p (drop k ps)) (add-one i)
 
   fit-at : i < length ps → placesFit (drop i ps) ≡ (mayStand (getD ps i 0) (drop (suc i) ps) and placesFit (drop (suc i) ps))

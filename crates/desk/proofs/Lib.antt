@@ -2,9 +2,10 @@
 pub mod Holding
 pub mod Changes
 pub mod Counted
-pub mod Noticing
+pub mod Notice
 pub mod Settles
 pub mod History
 pub mod Words
 pub mod Settled
-pub mod Settling
+pub mod Promised
+pub mod One

@@ -9,7 +9,8 @@ use mathlib.Core.Option.{Option, none, some}
 use native.Mathlib.Omega.{arith}
 use lib.ListN.{length, getD}
 use lib.Dec.{T}
-use Rattle.rules.specs.Tests.{clash, _=?_, pick-yes, pick-not, decide, of-eq, eq-of}
+use Rattle.rules.specs.Tests.{_=?_}
+use Rattle.rules.proofs.Tests.{clash, pick-yes, pick-not, decide, of-eq, eq-of}
 use Rattle.rules.specs.Octets.{Octets}
 use Rattle.rules.specs.Table.{rulesOf}
 use Rattle.rules.specs.declared.Book.{Book}
@@ -18,17 +19,18 @@ use Rattle.rules.specs.Message.{octets, LegalMessage, Accepts}
 use Rattle.rules.specs.declared.Fault.{Fault}
 use Rattle.rules.specs.Refusals.{noted}
 use Rattle.rules.specs.Language.{languageOf}
-use Rattle.rules.specs.Calls.{spoken-of}
+use Rattle.rules.proofs.Grammar.{spoken-of}
 use Rattle.message.specs.declared.Verdict.{Verdict}
 use Rattle.message.specs.declared.Verdict.the-variants.{Accepted, Declined}
 use Rattle.message.specs.Verdict.{verdictOf}
-use Rattle.message.specs.Judges.{Judges, judges-of, told-small, verdictNumber}
+use Rattle.message.specs.Judges.{Judges, verdictNumber}
+use Rattle.message.proofs.Judges.{judges-of, told-small}
 use Rattle.desk.specs.declared.Waiting.{Waiting}
 use Rattle.desk.specs.declared.Lamp.{Lamp}
 use Rattle.desk.specs.declared.Desk.{Desk}
 use Rattle.desk.specs.declared.Answer.the-variants.{Done, Refused}
 use Rattle.desk.specs.declared.Outcome.{Outcome}
-use Rattle.desk.specs.Open.{placesFit, isFull}
+use Rattle.desk.specs.References.{placesFit, isFull}
 use Rattle.desk.specs.Holding.{Fit}
 use Rattle.desk.proofs.Holding.{fit-of, of-fit}
 use Rattle.desk.proofs.Changes.{fit-after, as-many-after, room-again, same-again}
@@ -36,7 +38,7 @@ use Rattle.desk.specs.Settle as settle
 use Rattle.desk.specs.Settle.{refusedWith, waitingAfter, lampAfter, changeOf, noticed, countedIn, settledNotice, settledMessage, settledUnder, settleOf}
 use Rattle.desk.proofs.Counted.{small-change}
 use Rattle.desk.specs.Settles.{Notices, Fills, Settles}
-use Rattle.desk.proofs.Noticing.{kind-of, notices, fills-of, of-fills}
+use Rattle.desk.proofs.Notice.{kind-of, notices, fills-of, of-fills}
 
 -- ---- the ways that settling goes
 no-done : (f : Fault) → Done ≡ Refused f → ⊥

@@ -7,8 +7,8 @@ use mathlib.Core.Logic.{_⊎_, inl, inr}
 use mathlib.Core.List.{List, [], _∷_}
 use mathlib.Core.Option.{Option, none, some}
 use lib.ListN.{getD}
-use Rattle.rules.specs.Tests.{clash, pick-yes, picked-by, of-eq, eq-of}
-use Rattle.rules.specs.Octets.{Octets}
+use Rattle.rules.proofs.Tests.{clash, pick-yes, picked-by, of-eq, eq-of}
+use Rattle.rules.specs.Octets.{Octets, referenceOf}
 use Rattle.rules.specs.Table.{rulesOf}
 use Rattle.rules.specs.declared.Book.{Book}
 use Rattle.rules.specs.Message as message
@@ -22,7 +22,7 @@ use Rattle.desk.specs.Settle.{changeOf, settleOf}
 use Rattle.desk.specs.Settles.{Settles}
 use Rattle.desk.specs.History.{saidBy, Call, saidUnder, said, Names, Says}
 use Rattle.desk.proofs.Counted.{identity-octets}
-use Rattle.desk.proofs.Noticing.{kind-of, counts, adds-is, removes-is, unset-is, stays-is}
+use Rattle.desk.proofs.Notice.{kind-of, counts, adds-is, removes-is, unset-is, stays-is}
 use Rattle.desk.proofs.Settles as settles
 
 -- the state that says it
@@ -44,11 +44,11 @@ module _ (r : ℕ) where
   unfolding saidBy
   by-nothing b e = clash cc
 
-  says-added : (h l : ℕ) → 256 * h + l ≡ r → saidBy r (changeOf (some (0xFF ∷ h ∷ l ∷ []))) ≡ some true
+  says-added : (h l : ℕ) → referenceOf h l ≡ r → saidBy r (changeOf (some (0xFF ∷ h ∷ l ∷ []))) ≡ some true
   unfolding saidBy
   says-added h l e = ap (saidBy r) (adds-is h l) ∙ pick-yes _ _ _ (of-eq _ _ e)
 
-  says-removed : (h l : ℕ) → 256 * h + l ≡ r → saidBy r (changeOf (some (0x00 ∷ h ∷ l ∷ []))) ≡ some false
+  says-removed : (h l : ℕ) → referenceOf h l ≡ r → saidBy r (changeOf (some (0x00 ∷ h ∷ l ∷ []))) ≡ some false
   unfolding saidBy
   says-removed h l e = ap (saidBy r) (removes-is h l) ∙ pick-yes _ _ _ (of-eq _ _ e)
 
@@ -64,7 +64,7 @@ module _ (r : ℕ) (c : Call) where
       ∙ pick-yes _ _ _ (of-eq _ _ (ap (λ (v : List ℕ). getD v 0 0) (sym e) ∙ kind-of m ∙ k))
       ∙ ap (λ (y : Option (List ℕ)). saidBy r (changeOf y)) (counts (rulesOf book) m (c .octets) e 0x0D b x)
 
-  named : (s : ℕ) (w : Option Bool) → ((h l : ℕ) → 256 * h + l ≡ r → saidBy r (changeOf (some (s ∷ h ∷ l ∷ []))) ≡ w) → Names c s r → said r c ≡ w
+  named : (s : ℕ) (w : Option Bool) → ((h l : ℕ) → referenceOf h l ≡ r → saidBy r (changeOf (some (s ∷ h ∷ l ∷ []))) ≡ w) → Names c s r → said r c ≡ w
   named s w f n = word-of (n .m) (n .is) (n .notice) (n .done) _ (n .counts) ∙ f (n .high) (n .low) (n .reference)
 
   -- a word comes from a notice that is done
@@ -79,11 +79,11 @@ module _ (r : ℕ) (c : Call) where
     module _ (m : message.Message) (l : LegalMessage (rulesOf book) m) (is : octets m ≡ c .octets) (k : m .kind ≡ 0x82) (g : c .outcome .answer ≡ Done) where
       three : (v : List ℕ) → counted (rulesOf book) m 0x0D ≡ some v → (h b' : ℕ) → (v ≡ 0x00 ∷ h ∷ b' ∷ []) ⊎ ((v ≡ 0x55 ∷ h ∷ b' ∷ []) ⊎ (v ≡ 0xFF ∷ h ∷ b' ∷ [])) → Names c (state b) r
       three v x h b' (inl z) =
-          let y = by-removing r (256 * h + b') b (sym (word-of m is k g _ (x ∙ ap some z) ∙ ap (saidBy r) (removes-is h b')) ∙ e) in
+          let y = by-removing r (referenceOf h b') b (sym (word-of m is k g _ (x ∙ ap some z) ∙ ap (saidBy r) (removes-is h b')) ∙ e) in
           subst (λ (u : Bool). Names c (state u) r) (sym (y .0)) (record { m = m; legal = l; is = is; notice = k; done = g; high = h; low = b'; counts = x ∙ ap some z; reference = y .1 })
       three v x h b' (inr (inl z)) = absurd (by-nothing r b (sym (word-of m is k g _ (x ∙ ap some z) ∙ ap (saidBy r) (unset-is h b')) ∙ e))
       three v x h b' (inr (inr z)) =
-          let y = by-adding r (256 * h + b') b (sym (word-of m is k g _ (x ∙ ap some z) ∙ ap (saidBy r) (adds-is h b')) ∙ e) in
+          let y = by-adding r (referenceOf h b') b (sym (word-of m is k g _ (x ∙ ap some z) ∙ ap (saidBy r) (adds-is h b')) ∙ e) in
           subst (λ (u : Bool). Names c (state u) r) (sym (y .0)) (record { m = m; legal = l; is = is; notice = k; done = g; high = h; low = b'; counts = x ∙ ap some z; reference = y .1 })
 
       by-counted : (v : Option (List ℕ)) → counted (rulesOf book) m 0x0D ≡ v → Names c (state b) r

@@ -15,12 +15,12 @@ use Rattle.rules.specs.Message.{octets, LegalMessage}
 use Rattle.rules.specs.Counting.{counted}
 use Rattle.desk.specs.declared.Change.{Change}
 use Rattle.desk.specs.declared.Change.the-variants.{Nothing, Adds, Removes}
-use Rattle.desk.specs.declared.Desk.{Desk}
 use Rattle.desk.specs.declared.Answer.{Answer}
 use Rattle.desk.specs.declared.Answer.the-variants.{Done, Refused}
 use Rattle.desk.specs.declared.Outcome.{Outcome}
 use Rattle.desk.specs.Holding.{Open}
-use Rattle.desk.specs.Settle.{changeOf, countedIn, settleOf}
+use Rattle.desk.specs.Settle.{changeOf, countedIn}
+use Rattle.rules.specs.Octets.{referenceOf}
 
 -- what a change says of the reference r: that it is open, that it is not, or nothing
 unfoldable pub saidBy : ℕ → Change → Option Bool
@@ -52,16 +52,11 @@ unfoldable pub lastSaid : ℕ → List Call → Option Bool → Option Bool
 lastSaid r [] b = b
 lastSaid r (c ∷ cs) b = lastSaid r cs (later (said r c) b)
 
--- calls one after the other, from the desk d to the desk e: each on the desk that the one before left
-abbrev pub History : Desk → List Call → Desk → Type 0
-History d [] e = d ≡ e
-History d (c ∷ cs) e = (c .outcome ≡ settleOf (rulesOf (c .book)) d (c .octets)) × History (c .outcome .desk) cs e
-
 -- how r stands in the places qs, after the word b since they were ps
-abbrev pub Stands : ℕ → List ℕ → Option Bool → List ℕ → Type 0
-Stands r ps (some true) qs = Open r qs
-Stands r ps (some false) qs = Open r qs → ⊥
-Stands r ps none qs = Open r ps ↔ Open r qs
+abbrev pub OpenBy : ℕ → List ℕ → Option Bool → List ℕ → Type 0
+OpenBy r ps (some true) qs = Open r qs
+OpenBy r ps (some false) qs = Open r qs → ⊥
+OpenBy r ps none qs = Open r ps ↔ Open r qs
 
 -- ---- over the written rules
 -- the call was done, with a notice m whose 0DH counts with the state s and the reference r
@@ -74,7 +69,7 @@ pub record Names (c : Call) (s r : ℕ) : Type 0 where
   pub high : ℕ
   pub low : ℕ
   pub counts : counted (rulesOf (c .book)) m 0x0D ≡ some (s ∷ high ∷ low ∷ [])
-  pub reference : 256 * high + low ≡ r
+  pub reference : referenceOf high low ≡ r
 
 -- what a call says of r: open exactly with FFH, not open exactly with 00H
 pub record Says (r : ℕ) (c : Call) : Type 0 where

@@ -4,7 +4,7 @@ use Prim.Native.Nat.{ℕ, _≤_, _<_}
 use mathlib.Core.Path.{_≡_}
 use mathlib.Core.List.{List}
 use lib.ListN.{length, getD, set}
-use Rattle.desk.specs.Open.{free, held}
+use Rattle.desk.specs.References.{free, held}
 
 -- some place holds the reference r
 abbrev pub Open : ℕ → List ℕ → Type 0

@@ -1,5 +1,5 @@
 -- The root of what the desk promises.
-pub mod Open
+pub mod References
 pub mod Settle
 pub mod Holding
 pub mod Settles

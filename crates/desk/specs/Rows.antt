@@ -23,7 +23,8 @@ use Rattle.desk.specs.declared.Lamp.the-variants as lamp
 use Rattle.desk.specs.declared.Desk.{Desk}
 use Rattle.desk.specs.declared.Answer.the-variants.{Done, Refused}
 use Rattle.desk.specs.declared.Outcome.{Outcome}
-use Rattle.desk.specs.Open.{free, held, firstOf, absent, mayStand, placesFit, changeBy, isFull, placesAfter}
+use Rattle.desk.specs.References.{free, held, placeWith, absent, mayStand, placesFit}
+use Rattle.desk.specs.References.{changeBy, isFull, placesAfter}
 use Rattle.desk.specs.Settle.{newDesk, waitingAfter, lampAfter, changeIn, changeOf, noticed, countedIn, settledNotice, settledMessage, settledUnder, refusedWith, settleOf}
 
 abbrev with-places : Waiting → Lamp → List ℕ → Desk
@@ -71,7 +72,7 @@ pub record Claim : Type 0 where
   pub last-reference : settleOf (rulesOf PresentLenient) (holding (65536 ∷ replicate 15 free)) (0x82 ∷ 0x05 ∷ 0x0D ∷ 0x03 ∷ 0x00 ∷ 0xFF ∷ 0xFF ∷ 0x6B ∷ []) ≡ settled newDesk
 
 pub rows : Claim
-unfolding _≤?_ _=?_ _and_ _or_ pick checksum within inSet whole digit rowIn rowOf listedIn listed classOf rivalOf typeFault rulesOf classFault someLength messageKind opens tensFit onesFit pairAt columnAt judgeOf step run roomFits rangePossible somePossible possible final fits contents after fault machine judged verdictOf parameterAt matched searchFrom countedAt partOf waitingAfter lampAfter changeIn changeOf noticed countedIn settledNotice settledMessage settledUnder refusedWith settleOf firstOf absent mayStand placesFit changeBy isFull placesAfter
+unfolding _≤?_ _=?_ _and_ _or_ pick checksum within inSet whole digit rowIn rowOf listedIn listed classOf rivalOf typeFault rulesOf classFault someLength messageKind opens tensFit onesFit pairAt columnAt judgeOf step run roomFits rangePossible somePossible possible final fits contents after fault machine judged verdictOf parameterAt matched searchFrom countedAt partOf waitingAfter lampAfter changeIn changeOf noticed countedIn settledNotice settledMessage settledUnder refusedWith settleOf placeWith absent mayStand placesFit changeBy isFull placesAfter
 rows = record {
   lamp-on = refl;
   lamp-off = refl;

@@ -22,7 +22,7 @@ use Rattle.desk.specs.declared.Desk.{Desk}
 use Rattle.desk.specs.declared.Answer.{Answer}
 use Rattle.desk.specs.declared.Answer.the-variants.{Done, Refused}
 use Rattle.desk.specs.declared.Outcome.{Outcome}
-use Rattle.desk.specs.Open.{placeCount, free, placesFit, changeBy, isFull, placesAfter}
+use Rattle.desk.specs.References.{placeCount, free, placesFit, changeBy, isFull, placesAfter}
 
 -- number and lamp unknown, all sixteen places free
 abbrev pub newDesk : Desk
@@ -86,11 +86,12 @@ settledUnder R (Declined f) o d = refused f d
 unfoldable pub settleOf : Rules → Desk → List ℕ → Outcome
 settleOf R d o = pick (placesFit (d .places)) (settledUnder R (verdictOf R o) o d) (refusedWith 17 d)
 
--- ---- this paper's number and place for each answer (0 where there is none)
-unfoldable pub numberOf : Answer → ℕ
-numberOf Done = 0
-numberOf (Refused f) = f .number
+-- ---- what an answer tells (document 01, The forms we expect: a definition provides number and values for each case)
+-- the number and place of a refusal; 0 where there is none
+pub record Told : Type 0 where
+  pub number : ℕ
+  pub place : ℕ
 
-unfoldable pub placeOf : Answer → ℕ
-placeOf Done = 0
-placeOf (Refused f) = f .place
+unfoldable pub told : Answer → Told
+told Done = record { number = 0; place = 0 }
+told (Refused f) = record { number = f .number; place = f .place }

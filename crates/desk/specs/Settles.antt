@@ -24,6 +24,7 @@ use Rattle.message.specs.declared.Verdict.the-variants.{Declined}
 use Rattle.message.specs.Judges.{Judges, verdictNumber}
 use Rattle.desk.specs.declared.Answer.the-variants.{Done, Refused}
 use Rattle.desk.specs.declared.Outcome.{Outcome}
+use Rattle.rules.specs.Octets.{referenceOf}
 
 -- the notice m makes the desk e of the desk d
 pub record Notices (R : Rules) (m : message.Message) (d e : Desk) : Type 0 where
@@ -35,8 +36,8 @@ pub record Notices (R : Rules) (m : message.Message) (d e : Desk) : Type 0 where
   pub lamp-on : counted R m 0x0B ≡ some (0xFF ∷ []) → e .lamp ≡ On
   pub lamp-stays : counted R m 0x0B ≡ none → e .lamp ≡ d .lamp
   -- where 0DH counts, FFH adds its reference and 00H takes it out; 55H does nothing, and the places stay where it does not count
-  pub adds : (h l : ℕ) → counted R m 0x0D ≡ some (0xFF ∷ h ∷ l ∷ []) → Added (256 * h + l) (d .places) (e .places)
-  pub removes : (h l : ℕ) → counted R m 0x0D ≡ some (0x00 ∷ h ∷ l ∷ []) → Removed (256 * h + l) (d .places) (e .places)
+  pub adds : (h l : ℕ) → counted R m 0x0D ≡ some (0xFF ∷ h ∷ l ∷ []) → Added (referenceOf h l) (d .places) (e .places)
+  pub removes : (h l : ℕ) → counted R m 0x0D ≡ some (0x00 ∷ h ∷ l ∷ []) → Removed (referenceOf h l) (d .places) (e .places)
   pub unset : (h l : ℕ) → counted R m 0x0D ≡ some (0x55 ∷ h ∷ l ∷ []) → e .places ≡ d .places
   pub places-stay : counted R m 0x0D ≡ none → e .places ≡ d .places
 
@@ -49,7 +50,7 @@ pub record Fills (R : Rules) (ps o : List ℕ) : Type 0 where
   pub high : ℕ
   pub low : ℕ
   pub adds : counted R m 0x0D ≡ some (0xFF ∷ high ∷ low ∷ [])
-  pub others : Full (256 * high + low) ps
+  pub others : Full (referenceOf high low) ps
 
 -- the desk d and the octets o went in, and r came back
 pub record Settles (R : Rules) (d : Desk) (o : List ℕ) (r : Outcome) : Type 0 where

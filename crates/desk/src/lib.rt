@@ -8,8 +8,8 @@ ghost use Prim.Native.Nat.{suc, _+_, _≤_, _<_};
 ghost use lib.ListN as list;
 ghost use Rattle.rules.specs.Table.{rulesOf};
 ghost use Rattle.rules.specs.Message.{Accepts};
-ghost use Rattle.desk.specs.Open as places-of;
-ghost use Rattle.desk.specs.Open.{placeCount, firstOf, absent, mayStand, placesFit, changeBy, isFull, placesAfter};
+ghost use Rattle.desk.specs.References as places-of;
+ghost use Rattle.desk.specs.References.{placeCount, placeWith, absent, mayStand, placesFit, changeBy, isFull, placesAfter};
 ghost use Rattle.desk.specs.Settle.{newDesk, countedIn, waitingAfter, lampAfter, changeIn, changeOf, settledNotice, settledMessage, refusedWith, settleOf};
 
 // The places for references (document 02, Q-6); one that holds none, and the one that holds the last.
@@ -69,7 +69,7 @@ pub fn new_desk() -> Desk
 // The first place from one on that is the one sought; their number where there is none.
 fn first_from(places: [u32; PLACES], from: usize, sought: u32) -> usize
     requires { ⌜ from ≤ placeCount ⌝ }
-    ensures { λ r. ⌜ r ≡ from + firstOf sought (list.drop from places) ⌝ }
+    ensures { λ r. ⌜ r ≡ from + placeWith sought (list.drop from places) ⌝ }
 {
     let mut i = from;
     while i < PLACES {

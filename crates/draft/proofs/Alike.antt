@@ -1,4 +1,5 @@
--- The test of equality of drafts tests exactly that: what a value says is what it is flat, with its text's octets; and so entry by entry.
+-- The test of equality of drafts tests exactly that: what a value says is what it is flat, with its text's octets;
+-- and so entry by entry.
 -- Assumes nothing.
 use Prim.Native.Nat.{ℕ, zero, suc, _+_}
 use mathlib.Core.Path.{_≡_, refl, sym, _∙_, ap, subst}
@@ -7,10 +8,12 @@ use mathlib.Core.List.{List, [], _∷_}
 use native.Mathlib.Omega.{arith}
 use lib.ListN.{length, take, drop}
 use lib.Dec.{T}
-use Rattle.rules.specs.Tests.{_≤?_, every, both, join, le-of, of-le, eq-of, of-eq, clash}
-use Rattle.rules.specs.Returns.{yes-le}
-use Rattle.rules.specs.Pairwise.{pairwise, sameOctets, octets-are, octets-self}
-use Rattle.draft.specs.Meaning.{Meaning, dateIs, codeIs, stateIs, textIs, carriedIs}
+use Rattle.rules.specs.Tests.{_≤?_, every}
+use Rattle.rules.proofs.Tests.{both, join, le-of, of-le, eq-of, of-eq, clash}
+use Rattle.rules.proofs.Returns.{yes-le}
+use Rattle.rules.specs.Pairwise.{pairwise, sameOctets}
+use Rattle.rules.proofs.Pairwise.{octets-are, octets-self}
+use Rattle.draft.specs.Meaning.{Meaning, dateIs, codeIs, stateIs, textIs, carriedIs, formNumber}
 use Rattle.draft.specs.Draft.{meaningOf, inside, Said, saidOf, allSaid, allInside, Equal}
 use Rattle.draft.specs.declared.Value.{Value}
 use Rattle.draft.specs.declared.Value.the-variants.{Date, Code, State, Text, Carried}
@@ -20,7 +23,7 @@ use Rattle.draft.specs.declared.Flat.{Flat}
 use Rattle.draft.specs.Same.{flatOf, sameNumbers, sameText, sameFlat, sameEntry, sameEntries, sameDraft}
 
 -- ---- values: what a value says is what it is flat, with its text's octets
-record Shown : Type 0 where
+record FlatMeaning : Type 0 where
   form : ℕ
   first : ℕ
   second : ℕ
@@ -28,14 +31,14 @@ record Shown : Type 0 where
   fourth : ℕ
   octets : List ℕ
 
-unfoldable shown : Meaning → Shown
+unfoldable shown : Meaning → FlatMeaning
 shown (dateIs m d h n) = record { form = 1; first = m; second = d; third = h; fourth = n; octets = [] }
 shown (codeIs x) = record { form = 0; first = x; second = 0; third = 0; fourth = 0; octets = [] }
 shown (stateIs s r) = record { form = 2; first = s; second = r; third = 0; fourth = 0; octets = [] }
 shown (textIs v) = record { form = 3; first = 0; second = 0; third = 0; fourth = 0; octets = v }
 shown (carriedIs v) = record { form = 4; first = 0; second = 0; third = 0; fourth = 0; octets = v }
 
-unfoldable raised : ℕ → Shown → Meaning
+unfoldable raised : ℕ → FlatMeaning → Meaning
 raised zero x = codeIs (x .first)
 raised (suc zero) x = dateIs (x .first) (x .second) (x .third) (x .fourth)
 raised (suc (suc zero)) x = stateIs (x .first) (x .second)
@@ -50,12 +53,19 @@ raised-shown (stateIs s r) = refl
 raised-shown (textIs v) = refl
 raised-shown (carriedIs v) = refl
 
-unfoldable shownIn : List ℕ → Flat → Shown
+unfoldable shownIn : List ℕ → Flat → FlatMeaning
 shownIn s x =
-    record { form = x .form; first = x .first; second = x .second; third = x .third; fourth = x .fourth; octets = take (x .length) (drop (x .start) s) }
+    record {
+      form = x .form;
+      first = x .first;
+      second = x .second;
+      third = x .third;
+      fourth = x .fourth;
+      octets = take (x .length) (drop (x .start) s);
+    }
 
 shown-flat : (s : List ℕ) (v : Value) → shown (meaningOf s v) ≡ shownIn s (flatOf v)
-unfolding shown meaningOf shownIn flatOf
+unfolding shown meaningOf shownIn flatOf formNumber
 shown-flat s (Date m d h n) = refl
 shown-flat s (Code x) = refl
 shown-flat s (State x r) = refl
@@ -63,7 +73,7 @@ shown-flat s (Text a n) = refl
 shown-flat s (Carried a n) = refl
 
 pub inside-flat : (s : List ℕ) (v : Value) → inside s v ≡ (flatOf v .start + flatOf v .length ≤? length s)
-unfolding inside flatOf _≤?_
+unfolding inside flatOf _≤?_ formNumber
 inside-flat s (Date m d h n) = sym (yes-le 0 (length s) (omega arith))
 inside-flat s (Code x) = sym (yes-le 0 (length s) (omega arith))
 inside-flat s (State x r) = sym (yes-le 0 (length s) (omega arith))
@@ -94,9 +104,11 @@ module _ (s : List ℕ) (v : Value) (t : List ℕ) (w : Value) where
       let l = eq-of _ _ (n3 .1) in
       let o = octets-are _ _ (y .1) in
       let e : shown (meaningOf s v) ≡ shown (meaningOf t w) =
-      shown-flat s v ∙ (λ z. record { form = f z; first = i z; second = j z; third = k z; fourth = l z; octets = o z }) ∙ sym (shown-flat t w) in
+      shown-flat s v
+      ∙ (λ z. record { form = f z; first = i z; second = j z; third = k z; fourth = l z; octets = o z })
+      ∙ sym (shown-flat t w) in
       record {
-        says = sym (raised-shown (meaningOf s v)) ∙ ap (λ (x : Shown). raised (x .form) x) e ∙ raised-shown (meaningOf t w);
+        says = sym (raised-shown (meaningOf s v)) ∙ ap (λ (x : FlatMeaning). raised (x .form) x) e ∙ raised-shown (meaningOf t w);
         left = rw (inside-flat s v) (x .0);
         right = rw (inside-flat t w) (y .0);
       }
@@ -105,13 +117,13 @@ module _ (s : List ℕ) (v : Value) (t : List ℕ) (w : Value) where
   unfolding sameFlat sameNumbers sameText shownIn
   alike-value q =
       let e : shownIn s (flatOf v) ≡ shownIn t (flatOf w) = sym (shown-flat s v) ∙ ap shown (q .says) ∙ shown-flat t w in
-      join _ _ (of-eq _ _ (ap (λ (x : Shown). x .form) e))
+      join _ _ (of-eq _ _ (ap (λ (x : FlatMeaning). x .form) e))
       (join _ _
-      (join _ _ (of-eq _ _ (ap (λ (x : Shown). x .first) e))
-      (join _ _ (of-eq _ _ (ap (λ (x : Shown). x .second) e)) (join _ _ (of-eq _ _ (ap (λ (x : Shown). x .third) e)) (of-eq _ _ (ap (λ (x : Shown). x .fourth) e)))))
+      (join _ _ (of-eq _ _ (ap (λ (x : FlatMeaning). x .first) e))
+      (join _ _ (of-eq _ _ (ap (λ (x : FlatMeaning). x .second) e)) (join _ _ (of-eq _ _ (ap (λ (x : FlatMeaning). x .third) e)) (of-eq _ _ (ap (λ (x : FlatMeaning). x .fourth) e)))))
       (join _ _ (rw (inside-flat s v) at (q .left))
       (join _ _ (rw (inside-flat t w) at (q .right))
-      (subst (λ (o : List ℕ). T (sameOctets (take (flatOf v .length) (drop (flatOf v .start) s)) o)) (ap (λ (x : Shown). x .octets) e) (octets-self _)))))
+      (subst (λ (o : List ℕ). T (sameOctets (take (flatOf v .length) (drop (flatOf v .start) s)) o)) (ap (λ (x : FlatMeaning). x .octets) e) (octets-self _)))))
 
 -- ---- entries
 -- all texts lie inside, and the entries say the same
@@ -150,7 +162,9 @@ module _ (s : List ℕ) (t : List ℕ) where
       let r = both _ _ (q .right) in
       let h : saidOf s e ≡ saidOf t f = cc (q .says) in
       join _ _
-      (join _ _ (of-eq _ _ (ap (λ (x : Said). x .kind) h)) (alike-value s (e .value) t (f .value) (record { says = ap (λ (x : Said). x .meaning) h; left = l .0; right = r .0 })))
+      (join _ _ (of-eq _ _ (ap (λ (x : Said). x .kind) h))
+      (alike-value s (e .value) t (f .value)
+      (record { says = ap (λ (x : Said). x .meaning) h; left = l .0; right = r .0 })))
       (alike-entries es fs (record { says = cc (q .says); left = l .1; right = r .1 }))
 
 -- ---- drafts: the test holds exactly where they are equal
@@ -162,8 +176,16 @@ same-equal a s b t = (
       let y = both _ _ (x .1) in
       let z = both _ _ (y .1) in
       let l = entries-alike s t _ _ (z .1) in
-      record { kind = eq-of _ _ (x .0); count = eq-of _ _ (y .0); entries = l .says; few = le-of _ _ (z .0); left = l .left; right = l .right },
+      record {
+        kind = eq-of _ _ (x .0);
+        count = eq-of _ _ (y .0);
+        entries = l .says;
+        few = le-of _ _ (z .0);
+        left = l .left;
+        right = l .right;
+      },
   λ e.
       join _ _ (of-eq _ _ (e .kind))
-      (join _ _ (of-eq _ _ (e .count)) (join _ _ (of-le _ _ (e .few)) (alike-entries s t _ _ (record { says = e .entries; left = e .left; right = e .right })))),
+      (join _ _ (of-eq _ _ (e .count)) (join _ _ (of-le _ _ (e .few))
+      (alike-entries s t _ _ (record { says = e .entries; left = e .left; right = e .right })))),
 )

@@ -1,7 +1,7 @@
 -- The root of the proofs.
 pub mod Comparing
 pub mod Settled
-pub mod Equality
+pub mod Promised
 pub mod Alike
 pub mod Packing
 pub mod Meaning

@@ -5,7 +5,7 @@ use mathlib.Core.Path.{_≡_, refl, sym, _∙_, ap, ap₂, subst}
 use mathlib.Core.List.{List, [], _∷_}
 use native.Mathlib.Omega.{arith}
 use lib.Dec.{T}
-use Rattle.rules.specs.Tests.{both, le-of}
+use Rattle.rules.proofs.Tests.{both, le-of}
 use Rattle.rules.specs.Octets.{Octets}
 use Rattle.rules.specs.Contents.{Range, within, digit, pairFits, pairsFit, columnsFit}
 use Rattle.rules.specs.Table.{formOf, whole, contentsFit}
@@ -13,7 +13,7 @@ use Rattle.rules.specs.declared.Form.{Form}
 use Rattle.rules.specs.declared.Form.the-variants.{DateValue, CodeValue, StateValue, TextValue, CarriedValue}
 use Rattle.rules.specs.declared.Class.{Class}
 use Rattle.rules.specs.declared.Class.the-variants as class
-use Rattle.draft.specs.Meaning.{formNumber, Meaning, formIs, tens, ones, spelled, numberOf, pairAt, meant, dateIs, codeIs, stateIs, textIs, carriedIs}
+use Rattle.draft.specs.Meaning.{formNumber, Meaning, formIs, tens, ones, spelled, numberOf, digitsAt, meant, dateIs, codeIs, stateIs, textIs, carriedIs}
 
 -- ---- kinds of value apart
 formAt : ℕ → Form
@@ -49,7 +49,8 @@ low-half a l h = omega arith
 digits-of : (a b : ℕ) → 48 ≤ a → a ≤ 57 → 48 ≤ b → b ≤ 57 → (tens (numberOf a b) ≡ a) × (ones (numberOf a b) ≡ b)
 unfolding tens ones numberOf
 digits-of a b i j k l =
-    let n : 10 * (a % 16) + b % 16 ≡ 10 * (a - 48) + (b - 48) = ap₂ (λ (x y : ℕ). 10 * x + y) (low-half a i j) (low-half b k l) in
+    let n : 10 * (a % 16) + b % 16 ≡ 10 * (a - 48) + (b - 48) =
+    ap₂ (λ (x y : ℕ). 10 * x + y) (low-half a i j) (low-half b k l) in
     (ap (λ (x : ℕ). 48 + x / 10) n ∙ omega arith, ap (λ (x : ℕ). 48 + x % 10) n ∙ omega arith)
 
 record Peeled (rs : List Range) (v : List ℕ) : Type 0 where
@@ -86,7 +87,7 @@ no-pairs (x ∷ v) t = absurd t
 
 -- ---- contents read and said again
 date-back : (a b c d : Range) (v : List ℕ) → T (pairsFit (a ∷ b ∷ c ∷ d ∷ []) v) → spelled (meant DateValue v) ≡ v
-unfolding meant spelled pairAt
+unfolding meant spelled digitsAt
 date-back a b c d v f =
     let p = peel _ _ v f in
     let q = peel _ _ (p .rest) (p .fits) in
@@ -101,7 +102,8 @@ code-back a [] f = absurd f
 code-back a (x ∷ []) f = refl
 code-back a (x ∷ y ∷ v) f = absurd (both _ _ f .1)
 
-state-back : (a b c : List Range) (v : List ℕ) → Octets v → T (columnsFit (a ∷ b ∷ c ∷ []) v) → spelled (meant StateValue v) ≡ v
+state-back : (a b c : List Range) (v : List ℕ) → Octets v → T (columnsFit (a ∷ b ∷ c ∷ []) v) →
+    spelled (meant StateValue v) ≡ v
 unfolding meant spelled columnsFit
 state-back a b c [] o f = absurd f
 state-back a b c (x ∷ []) o f = absurd (both _ _ f .1)
@@ -120,10 +122,12 @@ carried-back v = refl
 -- ---- a value said by legal contents and read again
 two : (n : ℕ) → tens n ≤ 57 → numberOf (tens n) (ones n) ≡ n
 unfolding tens ones numberOf
-two n h = ap₂ (λ (x y : ℕ). 10 * x + y) (low-half (48 + n / 10) (omega arith) h) (low-half (48 + n % 10) (omega arith) (omega arith)) ∙ omega arith
+two n h =
+    ap₂ (λ (x y : ℕ). 10 * x + y) (low-half (48 + n / 10) (omega arith) h)
+    (low-half (48 + n % 10) (omega arith) (omega arith)) ∙ omega arith
 
 date-said : (a b c d : Range) (m y h n : ℕ) → T (pairsFit (a ∷ b ∷ c ∷ d ∷ []) (spelled (dateIs m y h n))) → meant DateValue (spelled (dateIs m y h n)) ≡ dateIs m y h n
-unfolding meant spelled pairAt
+unfolding meant spelled digitsAt
 date-said a b c d m y h n f =
     let p = peel _ _ _ f in
     let q = peel _ _ (p .rest) (p .fits) in
@@ -139,7 +143,8 @@ date-said a b c d m y h n f =
     let δ : tens n ≤ 57 = omega (arith, s .high) in
     λ z. dateIs (two m α z) (two y β z) (two h γ z) (two n δ z)
 
-date-read : (a b c d : Range) (m : Meaning) → formIs m ≡ DateValue → T (pairsFit (a ∷ b ∷ c ∷ d ∷ []) (spelled m)) → meant DateValue (spelled m) ≡ m
+date-read : (a b c d : Range) (m : Meaning) → formIs m ≡ DateValue →
+    T (pairsFit (a ∷ b ∷ c ∷ d ∷ []) (spelled m)) → meant DateValue (spelled m) ≡ m
 unfolding formIs formNumber
 date-read a b c d (dateIs m y h n) e f = date-said a b c d m y h n f
 date-read a b c d (codeIs x) e f = absurd (omega (arith, ap formNumber e))
@@ -156,14 +161,21 @@ other-read (stateIs s r) e = ap (stateIs s) (omega arith)
 other-read (textIs v) e = refl
 other-read (carriedIs v) e = refl
 
--- ---- the law of a class: its contents read and said again are the same, and so is a value of its kind that contents of it say
+-- ---- the law of a class: its contents read and said again are the same, and so is a value of its kind that contents
+-- of it say
 pub record Drawn (c : Class) : Type 0 where
   pub said : (v : List ℕ) → Octets v → T (contentsFit c v) → spelled (meant (formOf c) v) ≡ v
   pub read : (m : Meaning) → formIs m ≡ formOf c → T (contentsFit c (spelled m)) → meant (formOf c) (spelled m) ≡ m
 
 -- of a class without dates
-no-date : (c : Class) → (formNumber (formOf c) ≡ 1 → ⊥) → ((v : List ℕ) → Octets v → T (contentsFit c v) → spelled (meant (formOf c) v) ≡ v) → Drawn c
-no-date c n s = record { said = s; read = λ m e f. subst (λ (k : Form). meant k (spelled m) ≡ m) e (other-read m (λ d. n (ap formNumber (sym e) ∙ d))) }
+no-date : (c : Class) → (formNumber (formOf c) ≡ 1 → ⊥) →
+    ((v : List ℕ) → Octets v → T (contentsFit c v) → spelled (meant (formOf c) v) ≡ v) → Drawn c
+no-date c n s =
+    record {
+      said = s;
+      read = λ m e f. subst (λ (k : Form). meant k (spelled m) ≡ m) e
+          (other-read m (λ d. n (ap formNumber (sym e) ∙ d)));
+    }
 
 -- each class is drawn as its kind of value asks
 pub drawn : (c : Class) → Drawn c

@@ -1,4 +1,5 @@
--- The draft of a legal message stands for exactly that message: a value packed where its text lies says what it said, and what is said is spelled again.
+-- The draft of a legal message stands for exactly that message: a value packed where its text lies says what it said,
+-- and what is said is spelled again.
 -- Assumes nothing.
 use Prim.Native.Nat.{ℕ, suc, _+_, _-_, _≤_}
 use mathlib.Core.Path.{_≡_, refl, sym, _∙_, ap, ap₂}
@@ -7,37 +8,41 @@ use native.Mathlib.Omega.{arith}
 use lib.ListN.{length, length-append, length-drop, take, drop, replicate}
 use lib.Seq.{take-append-seam, drop-append-seam, drop-drop}
 use lib.Dec.{T}
-use Rattle.rules.specs.Tests.{every, join, of-le}
+use Rattle.rules.specs.Tests.{every}
+use Rattle.rules.proofs.Tests.{join, of-le}
 use Rattle.rules.specs.Table.{Rules, classOf}
-use Rattle.rules.specs.ClassLaw.{fit-octets}
-use Rattle.rules.specs.ContentLaw.{lawful}
+use Rattle.rules.proofs.ClassLaw.{fit-octets}
+use Rattle.rules.proofs.ContentLaw.{lawful}
 use Rattle.rules.specs.Message.{Parameter, Message, LegalParameter, AllLegal, LegalMessage, most}
 use Rattle.draft.specs.Meaning.{kindOf, Meaning, dateIs, codeIs, stateIs, textIs, carriedIs, spelled, textIn}
 use Rattle.draft.proofs.Meaning.{drawn}
 use Rattle.draft.specs.Draft.{noEntry, meaningOf, inside, parameterOf, parametersOf, Said, saidOf, allSaid, allInside, used, messageOf, Equal}
 use Rattle.draft.specs.declared.Entry.{Entry}
 use Rattle.draft.specs.declared.Draft.{Draft}
-use Rattle.draft.specs.Packing.{packed, meaningIn, entryOf, textOf, entriesOf, textsOf, draftOf}
+use Rattle.draft.specs.Packing.{valueAt, meaningIn, entryOf, textOf, entriesOf, textsOf, draftOf}
 
 -- ---- a value packed at a place where its text lies says what it said
-record Unpacked (texts : List ℕ) (at : ℕ) (μ : Meaning) : Type 0 where
-  says : meaningOf texts (packed at μ) ≡ μ
-  lies : T (inside texts (packed at μ))
+record ValueSays (texts : List ℕ) (at : ℕ) (μ : Meaning) : Type 0 where
+  says : meaningOf texts (valueAt at μ) ≡ μ
+  lies : T (inside texts (valueAt at μ))
 
 module _ (texts : List ℕ) (at : ℕ) (rest : List ℕ) (l : at ≤ length texts) where
   fitting : (v : List ℕ) → drop at texts ≡ v ++ rest → at + length v ≤ length texts
   fitting v e = omega (arith, length-drop at texts, ap length e, length-append v rest)
 
-  unpack : (μ : Meaning) → drop at texts ≡ textIn μ ++ rest → Unpacked texts at μ
-  unfolding meaningOf packed inside textIn
+  unpack : (μ : Meaning) → drop at texts ≡ textIn μ ++ rest → ValueSays texts at μ
+  unfolding meaningOf valueAt inside textIn
   unpack (dateIs m d h n) e = record { says = refl; lies = tt }
   unpack (codeIs x) e = record { says = refl; lies = tt }
   unpack (stateIs s r) e = record { says = refl; lies = tt }
   unpack (textIs v) e = record { says = ap textIs (rw e (take-append-seam v rest)); lies = of-le _ _ (fitting v e) }
-  unpack (carriedIs v) e = record { says = ap carriedIs (rw e (take-append-seam v rest)); lies = of-le _ _ (fitting v e) }
+  unpack (carriedIs v) e =
+      record { says = ap carriedIs (rw e (take-append-seam v rest)); lies = of-le _ _ (fitting v e) }
 
   next : (v w : List ℕ) → drop at texts ≡ (v ++ w) ++ rest → drop (at + length v) texts ≡ w ++ rest
-  next v w e = sym (drop-drop (length v) at texts) ∙ ap (drop (length v)) (e ∙ append-assoc v w rest) ∙ drop-append-seam v (w ++ rest)
+  next v w e =
+      sym (drop-drop (length v) at texts) ∙ ap (drop (length v)) (e ∙ append-assoc v w rest)
+      ∙ drop-append-seam v (w ++ rest)
 
 -- what parameters say
 unfoldable pub allMeant : Rules → List Parameter → List Said
@@ -46,20 +51,22 @@ allMeant R (p ∷ ps) = (record { kind = p .kind; meaning = meaningIn R p }) ∷
 
 module _ (R : Rules) where
   -- the entries of some parameters, in an area that holds their texts from a place on: they say what the parameters say, and lie inside
-  pub record Packed (texts : List ℕ) (at : ℕ) (ps : List Parameter) : Type 0 where
+  pub record EntriesSay (texts : List ℕ) (at : ℕ) (ps : List Parameter) : Type 0 where
     pub says : allSaid texts (entriesOf R at ps) ≡ allMeant R ps
     pub lies : T (allInside texts (entriesOf R at ps))
 
-  pub pack : (texts : List ℕ) (at : ℕ) (rest : List ℕ) (ps : List Parameter) → at ≤ length texts → drop at texts ≡ textsOf R ps ++ rest → Packed texts at ps
+  pub pack : (texts : List ℕ) (at : ℕ) (rest : List ℕ) (ps : List Parameter) → at ≤ length texts → drop at texts ≡ textsOf R ps ++ rest → EntriesSay texts at ps
   unfolding allSaid allInside every entriesOf entryOf textsOf textOf allMeant saidOf
   pack texts at rest [] l e = record { says = refl; lies = tt }
   pack texts at rest (p ∷ ps) l e =
       let μ = meaningIn R p in
       let f = e ∙ append-assoc (textIn μ) (textsOf R ps) rest in
       let u = unpack texts at (textsOf R ps ++ rest) l μ f in
-      let k = pack texts (at + length (textIn μ)) rest ps (fitting texts at (textsOf R ps ++ rest) l (textIn μ) f) (next texts at rest l (textIn μ) (textsOf R ps) e) in
+      let k = pack texts (at + length (textIn μ)) rest ps (fitting texts at (textsOf R ps ++ rest) l (textIn μ) f)
+      (next texts at rest l (textIn μ) (textsOf R ps) e) in
       record {
-        says = ap₂ (λ (m : Meaning) (ss : List Said). (record { kind = p .kind; meaning = m }) ∷ ss) (u .says) (k .says);
+        says =
+            ap₂ (λ (m : Meaning) (ss : List Said). (record { kind = p .kind; meaning = m }) ∷ ss) (u .says) (k .says);
         lies = join _ _ (u .lies) (k .lies);
       }
 
@@ -72,7 +79,8 @@ module _ (R : Rules) where
   pub used-are : (m : Message) → used (draftOf R m) ≡ entriesOf R 0 (m .parameters)
   unfolding draftOf
   used-are m =
-      ap (λ (n : ℕ). take n (entriesOf R 0 (m .parameters) ++ replicate (most - length (m .parameters)) noEntry)) (sym (entries-length 0 (m .parameters)))
+      ap (λ (n : ℕ). take n (entriesOf R 0 (m .parameters) ++ replicate (most - length (m .parameters)) noEntry))
+      (sym (entries-length 0 (m .parameters)))
       ∙ take-append-seam (entriesOf R 0 (m .parameters)) (replicate (most - length (m .parameters)) noEntry)
 
 -- ---- what is said is what it stands for
@@ -84,7 +92,9 @@ spellAll (s ∷ ss) = (record { kind = s .kind; contents = spelled (s .meaning) 
 pub parameters-said : (texts : List ℕ) (es : List Entry) → parametersOf texts es ≡ spellAll (allSaid texts es)
 unfolding parametersOf parameterOf spellAll allSaid saidOf
 parameters-said texts [] = refl
-parameters-said texts (e ∷ es) = ap (λ (ps : List Parameter). (record { kind = e .kind; contents = spelled (meaningOf texts (e .value)) }) ∷ ps) (parameters-said texts es)
+parameters-said texts (e ∷ es) =
+    ap (λ (ps : List Parameter). (record { kind = e .kind; contents = spelled (meaningOf texts (e .value)) }) ∷ ps)
+    (parameters-said texts es)
 
 -- equal drafts stand for the same message
 pub equal-stand : (a : Draft) (s : List ℕ) (b : Draft) (t : List ℕ) → Equal a s b t → messageOf a s ≡ messageOf b t
@@ -97,16 +107,20 @@ module _ (R : Rules) where
   -- contents read and said again
   pub said-again : (p : Parameter) → LegalParameter R p → spelled (meaningIn R p) ≡ p .contents
   unfolding meaningIn kindOf
-  said-again p l = let c = classOf R (p .kind) in drawn c .said (p .contents) (fit-octets (lawful c) (p .contents) (l .fits)) (l .fits)
+  said-again p l =
+      let c = classOf R (p .kind) in
+      drawn c .said (p .contents) (fit-octets (lawful c) (p .contents) (l .fits)) (l .fits)
 
   pub spell-meant : (ps : List Parameter) → AllLegal R ps → spellAll (allMeant R ps) ≡ ps
   unfolding spellAll allMeant
   spell-meant [] l = refl
   spell-meant (p ∷ ps) l =
-      ap₂ (λ (v : List ℕ) (qs : List Parameter). (record { kind = p .kind; contents = v }) ∷ qs) (said-again p (l .0)) (spell-meant ps (l .1))
+      ap₂ (λ (v : List ℕ) (qs : List Parameter). (record { kind = p .kind; contents = v }) ∷ qs)
+      (said-again p (l .0)) (spell-meant ps (l .1))
 
   -- the draft of a legal message, over an area that begins with its texts, stands for exactly that message
-  pub draft-stands : (m : Message) (rest : List ℕ) → LegalMessage R m → messageOf (draftOf R m) (textsOf R (m .parameters) ++ rest) ≡ m
+  pub draft-stands : (m : Message) (rest : List ℕ) → LegalMessage R m →
+      messageOf (draftOf R m) (textsOf R (m .parameters) ++ rest) ≡ m
   unfolding messageOf draftOf
   draft-stands m rest l =
       let texts = textsOf R (m .parameters) ++ rest in

@@ -8,7 +8,8 @@ use Rattle.draft.proofs.flatten.Reads as flatten
 use Rattle.draft.proofs.lies.Reads as lies
 use Rattle.draft.proofs.same.Reads as same
 
-pub no-entry-settled : (κs : _) (a : _) (r r' : _) (s s' : _) → no-entry.Post κs a r s → no-entry.Post κs a r' s' → r ≡ r'
+pub no-entry-settled : (κs : _) (a : _) (r r' : _) (s s' : _) → no-entry.Post κs a r s → no-entry.Post κs a r' s' →
+    r ≡ r'
 no-entry-settled κs a r r' s s' p q = p ∙ sym q
 
 pub empty-settled : (κs : _) (a : _) (r r' : _) (s s' : _) → empty.Post κs a r s → empty.Post κs a r' s' → r ≡ r'

@@ -71,8 +71,8 @@ allInside texts es = every (λ (e : Entry). inside texts (e .value)) es
 unfoldable pub messageOf : Draft → List ℕ → Message
 messageOf d texts = record { kind = d .kind; parameters = parametersOf texts (used d) }
 
--- two drafts, each with its text area, are equal: message type, number of entries and, entry by entry, type and value agree. A draft with more than 85
--- entries, or with a text outside its area, is equal to none
+-- two drafts, each with its text area, are equal: message type, number of entries and, entry by entry, type and value
+-- agree. A draft with more than 85 entries, or with a text outside its area, is equal to none
 pub record Equal (a : Draft) (s : List ℕ) (b : Draft) (t : List ℕ) : Type 0 where
   pub kind : a .kind ≡ b .kind
   pub count : a .count ≡ b .count

@@ -1,5 +1,5 @@
--- What the contents of a parameter say, for each kind of value (document 01, Drafts): the numbers of a date, a code, a state with a reference, a text, a
--- carried text. Contents say a value, and a value is said by contents.
+-- What the contents of a parameter say, for each kind of value (document 01, Drafts): the numbers of a date, a code,
+-- a state with a reference, a text, a carried text. Contents say a value, and a value is said by contents.
 -- Assumes nothing.
 use Prim.Native.Nat.{ℕ, suc, _+_, _*_, _/_, _%_}
 use mathlib.Core.List.{List, [], _∷_}
@@ -7,6 +7,7 @@ use lib.ListN.{getD}
 use Rattle.rules.specs.Table.{Rules, classOf, formOf}
 use Rattle.rules.specs.declared.Form.{Form}
 use Rattle.rules.specs.declared.Form.the-variants.{DateValue, CodeValue, StateValue, TextValue, CarriedValue}
+use Rattle.rules.specs.Octets.{referenceOf}
 
 -- the number of a kind of value: 0 a code, 1 a date, 2 a state with a reference, 3 a text, 4 a carried text
 unfoldable pub formNumber : Form → ℕ
@@ -63,12 +64,12 @@ spelled (carriedIs v) = v
 unfoldable pub numberOf : ℕ → ℕ → ℕ
 numberOf a b = 10 * (a % 16) + b % 16
 
-unfoldable pub pairAt : List ℕ → ℕ → ℕ
-pairAt v i = numberOf (getD v i 0) (getD v (suc i) 0)
+unfoldable pub digitsAt : List ℕ → ℕ → ℕ
+digitsAt v i = numberOf (getD v i 0) (getD v (suc i) 0)
 
 unfoldable pub meant : Form → List ℕ → Meaning
-meant DateValue v = dateIs (pairAt v 0) (pairAt v 2) (pairAt v 4) (pairAt v 6)
+meant DateValue v = dateIs (digitsAt v 0) (digitsAt v 2) (digitsAt v 4) (digitsAt v 6)
 meant CodeValue v = codeIs (getD v 0 0)
-meant StateValue v = stateIs (getD v 0 0) (256 * getD v 1 0 + getD v 2 0)
+meant StateValue v = stateIs (getD v 0 0) (referenceOf (getD v 1 0) (getD v 2 0))
 meant TextValue v = textIs v
 meant CarriedValue v = carriedIs v

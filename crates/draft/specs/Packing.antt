@@ -1,4 +1,5 @@
--- The draft of a message (document 01, Drafts): an entry for each parameter, texts packed from octet 0 of the area on in message order.
+-- The draft of a message (document 01, Drafts): an entry for each parameter, texts packed from octet 0 of the area on
+-- in message order.
 -- Assumes nothing.
 use Prim.Native.Nat.{ℕ, _+_, _-_}
 use mathlib.Core.List.{List, [], _∷_, _++_}
@@ -14,19 +15,19 @@ use Rattle.draft.specs.declared.Draft.{Draft}
 
 -- ---- the draft of a message
 -- a value whose text, if it has one, lies at a place
-unfoldable pub packed : ℕ → Meaning → Value
-packed at (dateIs m d h n) = Date m d h n
-packed at (codeIs x) = Code x
-packed at (stateIs s r) = State s r
-packed at (textIs v) = Text at (length v)
-packed at (carriedIs v) = Carried at (length v)
+unfoldable pub valueAt : ℕ → Meaning → Value
+valueAt at (dateIs m d h n) = Date m d h n
+valueAt at (codeIs x) = Code x
+valueAt at (stateIs s r) = State s r
+valueAt at (textIs v) = Text at (length v)
+valueAt at (carriedIs v) = Carried at (length v)
 
 unfoldable pub meaningIn : Rules → Parameter → Meaning
 meaningIn R p = meant (kindOf R (p .kind)) (p .contents)
 
 -- the entry of a parameter whose text, if it has one, is packed at a place
 unfoldable pub entryOf : Rules → ℕ → Parameter → Entry
-entryOf R at p = record { kind = p .kind; value = packed at (meaningIn R p) }
+entryOf R at p = record { kind = p .kind; value = valueAt at (meaningIn R p) }
 
 unfoldable pub textOf : Rules → Parameter → List ℕ
 textOf R p = textIn (meaningIn R p)

@@ -1,5 +1,5 @@
--- Equality of drafts (document 01, Drafts) as a test. A value is laid flat, so that values of all kinds are compared alike: by the number of their kind, their
--- numbers, and the octets of their texts.
+-- Equality of drafts (document 01, Drafts) as a test. A value is laid flat, so that values of all kinds are compared
+-- alike: by the number of their kind, their numbers, and the octets of their texts.
 -- Assumes nothing.
 use Prim.Native.Nat.{ℕ, _+_}
 use mathlib.Core.Bool.{Bool}
@@ -14,30 +14,34 @@ use Rattle.draft.specs.declared.Value.the-variants.{Date, Code, State, T
 use Rattle.draft.specs.declared.Entry.{Entry}
 use Rattle.draft.specs.declared.Draft.{Draft}
 use Rattle.draft.specs.declared.Flat.{Flat}
+use Rattle.draft.specs.Meaning.{formNumber}
+use Rattle.rules.specs.declared.Form.the-variants.{CodeValue, DateValue, StateValue, TextValue, CarriedValue}
 
 -- ---- a value laid flat
 -- a text: no numbers
-abbrev pub textAt : ℕ → ℕ → ℕ → Flat
-textAt form start n = record { form = form; first = 0; second = 0; third = 0; fourth = 0; start = start; length = n }
+abbrev pub flatText : ℕ → ℕ → ℕ → Flat
+flatText form start n = record { form = form; first = 0; second = 0; third = 0; fourth = 0; start = start; length = n }
 
 -- the number of its kind (`formNumber`), its numbers, the place and the length of its text; 0 where it has none
 unfoldable pub flatOf : Value → Flat
-flatOf (Date m d h n) = record { form = 1; first = m; second = d; third = h; fourth = n; start = 0; length = 0 }
-flatOf (Code x) = record { form = 0; first = x; second = 0; third = 0; fourth = 0; start = 0; length = 0 }
-flatOf (State s r) = record { form = 2; first = s; second = r; third = 0; fourth = 0; start = 0; length = 0 }
-flatOf (Text s n) = textAt 3 s n
-flatOf (Carried s n) = textAt 4 s n
+flatOf (Date m d h n) = record { form = formNumber DateValue; first = m; second = d; third = h; fourth = n; start = 0; length = 0 }
+flatOf (Code x) = record { form = formNumber CodeValue; first = x; second = 0; third = 0; fourth = 0; start = 0; length = 0 }
+flatOf (State s r) = record { form = formNumber StateValue; first = s; second = r; third = 0; fourth = 0; start = 0; length = 0 }
+flatOf (Text s n) = flatText 3 s n
+flatOf (Carried s n) = flatText 4 s n
 
 -- ---- the test
 -- number by number
 unfoldable pub sameNumbers : Flat → Flat → Bool
-sameNumbers x y = x .first =? y .first and (x .second =? y .second and (x .third =? y .third and x .fourth =? y .fourth))
+sameNumbers x y =
+    x .first =? y .first and (x .second =? y .second and (x .third =? y .third and x .fourth =? y .fourth))
 
 -- both texts lie inside their areas, and their octets agree
 unfoldable pub sameText : List ℕ → Flat → List ℕ → Flat → Bool
 sameText s x t y =
     x .start + x .length ≤? length s
-    and (y .start + y .length ≤? length t and sameOctets (take (x .length) (drop (x .start) s)) (take (y .length) (drop (y .start) t)))
+    and (y .start + y .length ≤? length t and sameOctets (take (x .length) (drop (x .start) s))
+    (take (y .length) (drop (y .start) t)))
 
 -- the same kind, the same numbers, the same text
 unfoldable pub sameFlat : List ℕ → Flat → List ℕ → Flat → Bool
@@ -53,4 +57,5 @@ sameEntries s es t fs = pairwise (λ (e f : Entry). sameEntry s e t f) es fs
 
 -- message type, number of entries (at most 85) and, entry by entry, type and value
 unfoldable pub sameDraft : Draft → List ℕ → Draft → List ℕ → Bool
-sameDraft a s b t = a .kind =? b .kind and (a .count =? b .count and (a .count ≤? most and sameEntries s (used a) t (used b)))
+sameDraft a s b t =
+    a .kind =? b .kind and (a .count =? b .count and (a .count ≤? most and sameEntries s (used a) t (used b)))

@@ -11,7 +11,7 @@ ghost use Rattle.rules.specs.Table.{formOf};
 ghost use Rattle.rules.specs.Message.{most};
 ghost use Rattle.draft.specs.Meaning.{formNumber};
 ghost use Rattle.draft.specs.Draft.{noEntry, emptyOf};
-ghost use Rattle.draft.specs.Same.{flatOf, textAt, sameText, sameNumbers, sameFlat, sameEntry, sameEntries, sameDraft};
+ghost use Rattle.draft.specs.Same.{flatOf, flatText, sameText, sameNumbers, sameFlat, sameEntry, sameEntries, sameDraft};
 
 pub enum Value {
     Date {
@@ -141,7 +141,7 @@ pub fn flatten(v: Value) -> Flat
 }
 
 fn text_at(form: u8, start: usize, length: usize) -> Flat
-    ensures { λ r. ⌜ r ≡ textAt form start length ⌝ }
+    ensures { λ r. ⌜ r ≡ flatText form start length ⌝ }
 {
     Flat {
         form,

@@ -5,20 +5,21 @@ use mathlib.Core.Path.{_≡_, subst}
 use mathlib.Core.List.{List, [], _∷_}
 use native.Mathlib.Omega.{arith}
 use lib.Dec.{T}
-use Rattle.rules.specs.Tests.{_≤?_, _=?_, _and_, pick-case, every, every-head, every-tail, both, le-of}
+use Rattle.rules.specs.Tests.{_≤?_, _=?_, _and_, every}
+use Rattle.rules.proofs.Tests.{pick-case, every-head, every-tail, both, le-of}
 use Rattle.rules.specs.Table.{Row, rulesOf, rowIn, rowOf, classOf}
 use Rattle.rules.specs.Codes.{classCode, lastPresent}
 use Rattle.rules.specs.Machine.{step, run}
 use Rattle.rules.specs.Judge.{machine, contents, after, inRange}
-use Rattle.rules.specs.ContentLaw.{lenient-others}
-use Rattle.rules.specs.InRange.{given-lenient}
+use Rattle.rules.proofs.ContentLaw.{lenient-others}
+use Rattle.rules.proofs.InRange.{given-lenient}
 use Rattle.rules.specs.declared.Book.{Book}
 use Rattle.rules.specs.declared.Book.the-variants.{PresentLenient}
 use Rattle.rules.specs.declared.Stage.{Stage}
 use Rattle.rules.specs.declared.Stage.the-variants.{Kind, Size, Header, Length, Content}
 use Rattle.rules.specs.declared.State.{State}
 use Rattle.rules.specs.declared.State.the-variants.{Waiting, Message, Refused}
-use Rattle.listener.specs.Heard.{numberOf, answerOf}
+use Rattle.listener.specs.Heard.{told, answerOf}
 
 abbrev pub CodedAt : Stage → Type 0
 CodedAt Kind = Unit {0}
@@ -68,11 +69,12 @@ pub run-coded : (b : Book) → PresentLenient ≡ b → (w : State) (o : List �
 run-coded b e w o h = subst (λ (x : Book). Coded (run (machine (rulesOf x)) w o)) e (lenient-run w o h)
 
 -- ---- numbers
-lenient-number : (w : State) → T (inRange (rulesOf PresentLenient) w) → numberOf (answerOf w) ≤ 6
-unfolding numberOf answerOf inRange
+lenient-number : (w : State) → T (inRange (rulesOf PresentLenient) w) → told (answerOf w) .number ≤ 6
+unfolding told answerOf inRange
 lenient-number (Waiting s q) t = omega arith
 lenient-number (Message n) t = omega arith
 lenient-number (Refused f) t = given-lenient (rulesOf PresentLenient) _ lenient-others .0 (both _ _ t .0) .1
 
-pub number-six : (b : Book) → b ≡ PresentLenient → (w : State) → T (inRange (rulesOf b) w) → numberOf (answerOf w) ≤ 6
+pub number-six : (b : Book) → b ≡ PresentLenient → (w : State) → T (inRange (rulesOf b) w) →
+    told (answerOf w) .number ≤ 6
 number-six b e w t = lenient-number w (subst (λ (x : Book). T (inRange (rulesOf x) w)) e t)

@@ -6,9 +6,11 @@ use mathlib.Core.List.{List, [], _∷_}
 use Prim.Native.Nat.{ℕ, _+_, _*_, _/_, _%_, _≤_}
 use native.Mathlib.Omega.{arith}
 use lib.ListN.{length}
-use Rattle.rules.specs.Tests.{clash, _≤?_, _=?_, pick, picked-by, pick-yes, of-eq, eq-of, of-le, le-of}
+use Rattle.rules.specs.Tests.{_≤?_, _=?_, pick}
+use Rattle.rules.proofs.Tests.{clash, picked-by, pick-yes, of-eq, eq-of, of-le, le-of}
 use Rattle.rules.specs.Octets.{Octets}
-use Rattle.rules.specs.Codes.{lastPresent, classCode, classCoded, coded-code, code-coded}
+use Rattle.rules.specs.Codes.{lastPresent, classCode, classCoded}
+use Rattle.rules.proofs.Codes.{coded-code, code-coded}
 use Rattle.rules.specs.declared.Book.the-variants.{PresentLenient}
 use Rattle.rules.specs.declared.Class.{Class}
 use Rattle.rules.specs.declared.Stage.the-variants.{Kind, Size, Header, Length, Content}
@@ -18,19 +20,20 @@ use Rattle.listener.specs.declared.Listener.{Listener}
 use Rattle.firmware.proofs.Classes.{Coded}
 use Rattle.firmware.specs.declared.Fields.{Fields}
 use Rattle.firmware.specs.declared.Decoded.the-variants.{Known, Unknown}
-use Rattle.firmware.specs.Record.{fieldsOf, fieldsWaiting, fieldsAt, fieldsEnded, fieldsFor, laidFields, recordOf, known, spotOf, openingOf, parameterOf, endedOf, stateOf, decodeOf}
+use Rattle.firmware.specs.Record.{fieldsOf, fieldsWaiting, fieldsAt, fieldsEnded, fieldsFor, laidFields, recordOf, known, spotOf, openingOf, parameterState, endedOf, stateOf, decodeOf}
+use Rattle.firmware.specs.Sizes.{listenerSize}
 
 unknown-not : (l : Listener) → Unknown ≡ Known l → ⊥
 unknown-not l e = clash cc
 
 -- ---- a record that decodes has 16 octets
-pub known-size : (c : List ℕ) (l : Listener) → decodeOf c ≡ Known l → length c ≡ 16
+pub known-size : (c : List ℕ) (l : Listener) → decodeOf c ≡ Known l → length c ≡ listenerSize
 unfolding decodeOf
-known-size c l e = picked-by (length c ≡ 16) _ _ _ _ e (λ t _. eq-of _ _ t) (λ _ e. absurd (unknown-not l e))
+known-size c l e = picked-by (length c ≡ listenerSize) _ _ _ _ e (λ t _. eq-of _ _ t) (λ _ e. absurd (unknown-not l e))
 
 -- ---- decode (encode l) is l
 state-fields : (s : State) → Coded s → stateOf (fieldsFor s) ≡ Known (record { book = PresentLenient; state = s })
-unfolding stateOf fieldsFor fieldsAt fieldsWaiting fieldsEnded openingOf parameterOf endedOf pick _≤?_ _=?_ known
+unfolding stateOf fieldsFor fieldsAt fieldsWaiting fieldsEnded openingOf parameterState endedOf pick _≤?_ _=?_ known
 state-fields (Waiting Kind q) h = refl
 state-fields (Waiting Size q) h = refl
 state-fields (Waiting (Header r) q) h = refl
@@ -57,7 +60,7 @@ no-spare (Waiting (Content c n i m r) q) = refl
 no-spare (Message n) = refl
 no-spare (Refused f) = refl
 
-laid-size : (f : Fields) → length (laidFields f) ≡ 16
+laid-size : (f : Fields) → length (laidFields f) ≡ listenerSize
 unfolding laidFields
 laid-size f = refl
 
@@ -81,7 +84,7 @@ known-good ok s l h e =
     (λ _ d. absurd (unknown-not l d))
 
 state-good : (f : Fields) (l : Listener) → stateOf f ≡ Known l → Good l
-unfolding stateOf openingOf parameterOf endedOf
+unfolding stateOf openingOf parameterState endedOf
 state-good f l e =
     picked-by (Good l) _ _ _ _ e
     (λ _ e. picked-by (Good l) _ _ _ _ e (λ _ e. known-good _ _ l tt e) (λ _ e. picked-by (Good l) _ _ _ _ e (λ _ e. known-good _ _ l tt e) (λ _ e. known-good _ _ l tt e)))
@@ -134,8 +137,8 @@ module _ (f : Fields) (l : Listener) where
       let n = known-is _ _ l e in
       rw (n .1) (same-fields _ f (omega arith) refl refl (omega arith) (omega arith) (omega arith) (omega arith) refl (omega arith) (omega arith))))
 
-  parameter-back : f .stage ≤ 4 → (f .stage ≤ 2 → ⊥) → parameterOf (f .stage) (spotOf f) (f .class) (f .length) (f .index) (f .memory) (f .room) (f .number + f .spare) ≡ Known l → Back
-  unfolding parameterOf fieldsFor fieldsAt fieldsWaiting
+  parameter-back : f .stage ≤ 4 → (f .stage ≤ 2 → ⊥) → parameterState (f .stage) (spotOf f) (f .class) (f .length) (f .index) (f .memory) (f .room) (f .number + f .spare) ≡ Known l → Back
+  unfolding parameterState fieldsFor fieldsAt fieldsWaiting
   parameter-back h g e =
       picked-by Back _ _ _ _ e
       (λ t e.
@@ -166,7 +169,7 @@ module _ (f : Fields) (l : Listener) where
       (λ g e. picked-by Back _ _ _ _ e (λ t. parameter-back (le-of _ _ t) (λ k. g (of-le _ _ k))) (λ _. ended-back))
 
 -- the 16 octets of a record are its fields
-laid-fields : (c : List ℕ) → length c ≡ 16 → Octets c → fieldsOf c .spare ≡ 0 → laidFields (fieldsOf c) ≡ c
+laid-fields : (c : List ℕ) → length c ≡ listenerSize → Octets c → fieldsOf c .spare ≡ 0 → laidFields (fieldsOf c) ≡ c
 unfolding laidFields fieldsOf
 laid-fields [] n o e = absurd (omega arith)
 laid-fields (a0 ∷ []) n o e = absurd (omega arith)

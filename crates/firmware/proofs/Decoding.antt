@@ -12,7 +12,7 @@ use Rattle.rules.specs.declared.State.{State}
 use Rattle.listener.specs.declared.Listener.{Listener}
 use Rattle.listener.specs.declared.Heard.{Heard}
 use Rattle.firmware.specs.declared.Outcome.{Outcome}
-use Rattle.listener.specs.Heard.{numberOf, placeOf, sizeOf, heardOf}
+use Rattle.listener.specs.Heard.{told, heardOf}
 use Rattle.firmware.specs.declared.Decoded.{Decoded}
 use Rattle.firmware.specs.declared.Decoded.the-variants.{Known, Unknown}
 use Rattle.firmware.specs.Record.{known, decodeOf, recordOf}
@@ -40,6 +40,6 @@ module _ (c o : List ℕ) (got : Decoded) (p : got ≡ decodeOf c) where
   unfolding listenAnswer listenRecord answered recorded
   unknown-answers r q g = let e : decodeOf c ≡ Unknown = sym p ∙ q in (rw e g, rw e)
 
-pub outcome : (l : Listener) (o : List ℕ) (h : Heard) (w : ℕ) → h ≡ heardOf l o → w ≡ packed (numberOf (h .answer)) (placeOf (h .answer)) (sizeOf (h .answer)) (h .taken) → _≡_ {A = Outcome} (record { listener = h .listener; word = w }) (outcomeOf l o)
+pub outcome : (l : Listener) (o : List ℕ) (h : Heard) (w : ℕ) → h ≡ heardOf l o → w ≡ packed (told (h .answer) .number) (told (h .answer) .place) (told (h .answer) .size) (h .taken) → _≡_ {A = Outcome} (record { listener = h .listener; word = w }) (outcomeOf l o)
 unfolding outcomeOf wordOf
 outcome l o h w e f = rw (f, e)

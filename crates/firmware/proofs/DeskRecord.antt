@@ -7,15 +7,18 @@ use mathlib.Core.List.{List, [], _∷_}
 use native.Mathlib.Omega.{arith}
 use lib.ListN.{length, length-drop, drop, getD}
 use lib.Dec.{T}
-use Rattle.rules.specs.Tests.{_≤?_, _=?_, _and_, pick, both, join, le-of, eq-of, of-eq}
-use Rattle.rules.specs.Octets.{Octets, octets-drop, octet-at}
+use Rattle.rules.specs.Tests.{_≤?_, _=?_, _and_, pick}
+use Rattle.rules.proofs.Tests.{both, join, le-of, eq-of, of-eq}
+use Rattle.rules.specs.Octets.{Octets}
+use Rattle.rules.proofs.Octets.{octets-drop, octet-at}
 use Rattle.desk.specs.declared.Waiting.{Waiting}
 use Rattle.desk.specs.declared.Waiting.the-variants as waiting
 use Rattle.desk.specs.declared.Lamp.{Lamp}
 use Rattle.desk.specs.declared.Lamp.the-variants as lamp
 use Rattle.desk.specs.declared.Desk.{Desk}
-use Rattle.desk.specs.Open.{placeCount}
+use Rattle.desk.specs.References.{placeCount}
 use Rattle.firmware.specs.DeskRecord.{isWaiting, isDesk, waitingOf, lampOf, isRecord, placeIn, placesIn, deskIn, waitingCode, waitingNumber, lampCode, placeCells, placesCells, deskRecord}
+use Rattle.firmware.specs.Sizes.{deskSize}
 
 -- ---- each is the other's inverse
 cells-length : (ps : List ℕ) → length (placesCells ps) ≡ 3 * length ps
@@ -127,7 +130,7 @@ four (a ∷ b ∷ []) h = absurd (omega arith)
 four (a ∷ b ∷ x ∷ []) h = absurd (omega arith)
 four (a ∷ b ∷ x ∷ y ∷ c) h = refl
 
-pub record-size : (c : List ℕ) → T (isRecord c) → length c ≡ 52
+pub record-size : (c : List ℕ) → T (isRecord c) → length c ≡ deskSize
 unfolding isRecord
 record-size c t = eq-of _ _ (both _ _ t .0)
 

@@ -1,30 +1,35 @@
 -- The draft's record is laid down entry by entry over octets of 0, and the header's readers read it back.
 -- Assumes nothing.
-use Prim.Native.Nat.{ℕ, zero, suc, _+_, _*_, _/_, _%_, _≤_, _<_}
+use Prim.Native.Nat.{ℕ, zero, suc, _+_, _*_, _-_, _/_, _%_, _≤_, _<_}
 use mathlib.Core.Path.{_≡_, refl, sym, _∙_, ap, ap₂}
-use mathlib.Core.List.{List, [], _∷_, _++_, append-assoc}
+use mathlib.Core.Bool.{Bool}
+use mathlib.Core.List.{List, [], _∷_, _++_, append-assoc, append-nil}
 use native.Mathlib.Numerals.{add-one}
 use native.Mathlib.Omega.{arith}
-use lib.ListN.{length, length-append, length-set, take, drop, set, getD, replicate, replicate-append-replicate}
-use lib.Seq.{take-append-add, drop-append-add, take-nil, drop-nil, set-split, take-suc-set, take-all}
+use lib.ListN.{List·getD-append, length, length-append, length-set, take, drop, set, getD, replicate, replicate-append-replicate}
+use lib.Seq.{take-append-add, drop-append-add, take-nil, drop-nil, set-split, take-suc-set, take-all, getD-append-add}
 use lib.Dec.{T}
-use Rattle.rules.specs.Message.{most}
-use Rattle.rules.specs.Tests.{_=?_, pick, le-of}
-use Rattle.rules.specs.Table.{rulesOf}
+use Rattle.rules.specs.Message.{Message, most}
+use Rattle.rules.specs.Tests.{_=?_, pick, every}
+use Rattle.rules.proofs.Tests.{le-of, both}
+use Rattle.rules.specs.Table.{Rules, rulesOf}
 use Rattle.rules.specs.declared.Book.the-variants.{PresentLenient}
 use Rattle.draft.specs.declared.Value.{Value}
 use Rattle.draft.specs.declared.Value.the-variants.{Date, Code, State, Text, Carried}
 use Rattle.draft.specs.declared.Entry.{Entry}
 use Rattle.draft.specs.declared.Draft.{Draft}
 use Rattle.draft.specs.Meaning.{formNumber, formIs}
-use Rattle.draft.specs.Draft.{noEntry, inside, meaningOf}
-use Rattle.draft.specs.Packing.{draftOf}
-use Rattle.message.specs.Parameters.{messageIn, parametersIn, parameters-few}
+use Rattle.draft.specs.Draft.{noEntry, inside, allInside, meaningOf}
+use Rattle.draft.specs.Packing.{entriesOf, textsOf, draftOf}
+use Rattle.draft.proofs.Packing.{pack}
+use Rattle.message.specs.Parameters.{messageIn, parametersIn}
+use Rattle.message.proofs.Parameters.{parameters-few}
 use Rattle.rules.specs.Laying.{laidAt}
-use Rattle.reader.proofs.Laying.{Filled, filled-first, filled-small, filled-more, filled-end, left}
-use Rattle.reader.specs.Read.{entryAt}
+use Rattle.reader.proofs.Laying.{TakenEntries, filled-first, filled-small, filled-more, filled-end, untaken}
+use Rattle.reader.specs.Read.{takenAt}
 use Rattle.reader.specs.declared.Taken.the-variants as taken
-use Rattle.firmware.specs.DraftRecord.{textNumbers, numbersOf, entryCells, entriesCells, draftRecord, valueOf}
+use Rattle.firmware.specs.DraftRecord.{textNumbers, numbersOf, entryCells, entriesCells, draftRecord, valueOf, cellIn, entryIn}
+use Rattle.firmware.specs.Sizes.{draftSize}
 
 -- the kinds are numbered as in a draft laid flat
 pub form-is : (texts : List ℕ) (v : Value) → numbersOf v .form ≡ formNumber (formIs (meaningOf texts v))
@@ -42,7 +47,7 @@ entry-length e = refl
 
 -- unused places are octets of 0
 none-cells : (n : ℕ) → entriesCells (replicate n noEntry) ≡ replicate (8 * n) 0
-unfolding entriesCells entryCells numbersOf
+unfolding entriesCells entryCells numbersOf formNumber
 none-cells zero = refl
 none-cells (suc n) =
     let z : 8 * suc n ≡ 8 + 8 * n = omega arith in
@@ -87,10 +92,10 @@ put-entry es i e h =
 module _ (o : List ℕ) where
   pub record Recorded (count at used : ℕ) (cells : List ℕ) : Type 0 where
     pub entries : List Entry
-    pub filled : Filled (rulesOf PresentLenient) o count at used entries
+    pub filled : TakenEntries (rulesOf PresentLenient) o count at used entries
     pub cells-are : cells ≡ zeros ++ entriesCells entries
 
-  pub recorded-first : (cells : List ℕ) → cells ≡ replicate 688 0 → Recorded 0 2 0 cells
+  pub recorded-first : (cells : List ℕ) → cells ≡ replicate draftSize 0 → Recorded 0 2 0 cells
   recorded-first cells e = record {
     entries = replicate most noEntry;
     filled = filled-first (rulesOf PresentLenient) o;
@@ -103,10 +108,10 @@ module _ (o : List ℕ) where
   cells-length (e ∷ es) = omega (arith, length-append (entryCells e) (entriesCells es), entry-length e, cells-length es)
 
   module _ (count at used : ℕ) (cells : List ℕ) (w : Recorded count at used cells) where
-    pub recorded-long : length cells ≡ 688
+    pub recorded-long : length cells ≡ draftSize
     recorded-long = omega (arith, ap length (w .cells-are), length-append zeros (entriesCells (w .entries)), cells-length (w .entries), w .filled .long)
 
-    module _ (h : count < most) (e : Entry) (n place : ℕ) (t : taken.Next e n place ≡ entryAt (rulesOf PresentLenient) o at used) where
+    module _ (h : count < most) (e : Entry) (n place : ℕ) (t : taken.Next e n place ≡ takenAt (rulesOf PresentLenient) o at used) where
       pub recorded-small : used + n ≤ length o
       recorded-small = filled-small (rulesOf PresentLenient) o count at used (w .entries) (w .filled) h e n place t
 
@@ -117,7 +122,7 @@ module _ (o : List ℕ) where
         cells-are = p ∙ ap (laidAt (entryCells e) (8 + 8 * count)) (w .cells-are) ∙ put-entry (w .entries) count e (omega (arith, w .filled .long));
       }
 
-    pub recorded-end : left o count at ≡ [] → (count ≡ draftOf (rulesOf PresentLenient) (messageIn o) .count) × (cells ≡ zeros ++ entriesCells (draftOf (rulesOf PresentLenient) (messageIn o) .entries))
+    pub recorded-end : untaken o count at ≡ [] → (count ≡ draftOf (rulesOf PresentLenient) (messageIn o) .count) × (cells ≡ zeros ++ entriesCells (draftOf (rulesOf PresentLenient) (messageIn o) .entries))
     recorded-end e =
         let z = filled-end (rulesOf PresentLenient) o count at used (w .entries) (w .filled) (record { kind = getD o 0 0; count = count; entries = w .entries }) refl refl refl e in
         (ap (λ (d : Draft). d .count) z, w .cells-are ∙ ap (λ (d : Draft). zeros ++ entriesCells (d .entries)) z)
@@ -127,9 +132,9 @@ pub headed : (d : Draft) (cells : List ℕ) (kind count : ℕ) → kind ≡ d .k
 unfolding draftRecord
 headed d cells kind count k n e = ap (λ (l : List ℕ). set (set l 0 kind) 1 count) e ∙ (λ i. k i ∷ n i ∷ 0 ∷ 0 ∷ 0 ∷ 0 ∷ 0 ∷ 0 ∷ entriesCells (d .entries))
 
-pub kind-of : (o : List ℕ) → getD o 0 0 ≡ draftOf (rulesOf PresentLenient) (messageIn o) .kind
+pub draft-kind : (o : List ℕ) → getD o 0 0 ≡ draftOf (rulesOf PresentLenient) (messageIn o) .kind
 unfolding draftOf messageIn
-kind-of o = refl
+draft-kind o = refl
 
 pub count-small : (o : List ℕ) → draftOf (rulesOf PresentLenient) (messageIn o) .count ≤ most
 unfolding draftOf messageIn parametersIn
@@ -157,14 +162,71 @@ module _ (old : List ℕ) (i : ℕ) (cells : List ℕ) (w : Cleared old i cells)
   pub cleared-end : length cells ≤ i → cells ≡ replicate (length old) 0
   cleared-end h = sym (take-all i cells h) ∙ w .front ∙ (let z : i ≡ length old = omega (arith, w .below, w .long) in ap (λ (k : ℕ). replicate {A = ℕ} k 0) z)
 
+-- ---- what the header's readers read back
 two-octets : (n : ℕ) → n < 65536 → n % 256 + 256 * (n / 256 % 256) ≡ n
 two-octets n h = omega arith
 
--- is the value, where its text lies in an area of less than 65,536 octets
-pub value-back : (texts : List ℕ) (v : Value) → length texts < 65536 → T (inside texts v) → valueOf (numbersOf v) ≡ v
-unfolding valueOf numbersOf textNumbers inside pick _=?_
+-- the numbers of a value say it, where its text ends below 65,536
+value-back : (texts : List ℕ) (v : Value) → length texts < 65536 → T (inside texts v) → valueOf (numbersOf v) ≡ v
+unfolding valueOf numbersOf textNumbers inside pick _=?_ formNumber
 value-back texts (Date m y h n) l t = refl
 value-back texts (Code x) l t = refl
 value-back texts (State s r) l t = ap (State s) (omega arith)
 value-back texts (Text s n) l t = let z = le-of _ _ t in ap₂ Text (two-octets s (omega arith)) (two-octets n (omega arith))
 value-back texts (Carried s n) l t = let z = le-of _ _ t in ap₂ Carried (two-octets s (omega arith)) (two-octets n (omega arith))
+
+-- an octet of the first of some entries
+first-cells : (e : Entry) (r : List ℕ) (k : ℕ) → k < 8 → getD (entryCells e ++ r) k 0 ≡ getD (entryCells e) k 0
+first-cells e r k h = List·getD-append (entryCells e) r 0 k (omega (arith, entry-length e))
+
+no-cells : (k : ℕ) → 0 ≡ getD (entryCells noEntry) k 0
+unfolding entryCells numbersOf formNumber
+no-cells k = sym (getD-replicate 8 k)
+  where
+    getD-replicate : (n k : ℕ) → getD (replicate {A = ℕ} n 0) k 0 ≡ 0
+    getD-replicate zero k = refl
+    getD-replicate (suc n) zero = refl
+    getD-replicate (suc n) (suc k) = getD-replicate n k
+
+cells-at : (es : List Entry) (i k : ℕ) → k < 8 → getD (entriesCells es) (8 * i + k) 0 ≡ getD (entryCells (getD es i noEntry)) k 0
+unfolding entriesCells
+cells-at [] i k h = no-cells k
+cells-at (e ∷ es) zero k h = let z : 8 * 0 + k ≡ k = omega arith in ap (λ (n : ℕ). getD (entryCells e ++ entriesCells es) n 0) z ∙ first-cells e (entriesCells es) k h
+cells-at (e ∷ es) (suc i) k h =
+    let z : 8 * suc i + k ≡ length (entryCells e) + (8 * i + k) = omega (arith, entry-length e) in
+    ap (λ (n : ℕ). getD (entryCells e ++ entriesCells es) n 0) z
+    ∙ getD-append-add (entryCells e) (entriesCells es) (8 * i + k) 0
+    ∙ cells-at es i k h
+
+cell-is : (d : Draft) (i k : ℕ) → k < 8 → cellIn (draftRecord d) i k ≡ getD (entryCells (getD (d .entries) i noEntry)) k 0
+unfolding draftRecord
+cell-is d i k h =
+    let z : 8 + 8 * i + k ≡ 8 + (8 * i + k) = omega arith in
+    ap (λ (n : ℕ). getD (draftRecord d) n 0) z
+    ∙ getD-append-add (d .kind ∷ d .count ∷ replicate 6 0) (entriesCells (d .entries)) (8 * i + k) 0
+    ∙ cells-at (d .entries) i k h
+
+-- what stands at entry i is the draft's entry i
+pub entry-back : (d : Draft) (i : ℕ) (texts : List ℕ) → length texts < 65536 → T (inside texts (getD (d .entries) i noEntry .value)) → entryIn (draftRecord d) i ≡ getD (d .entries) i noEntry
+unfolding entryIn entryCells
+entry-back d i texts l t =
+    let e = getD (d .entries) i noEntry in
+    let at : (k : ℕ) → k < 8 → cellIn (draftRecord d) i k ≡ getD (entryCells e) k 0 = cell-is d i in
+    let v = (λ j. valueOf (record { form = at 1 (omega arith) j; a = at 2 (omega arith) j; b = at 3 (omega arith) j; c = at 4 (omega arith) j; d = at 5 (omega arith) j })) ∙ value-back texts (e .value) l t in
+    λ j. record { kind = at 0 (omega arith) j; value = v j }
+
+-- of a legal message every text of its draft lies inside the message's own texts
+every-at : (f : Entry → Bool) (es : List Entry) (rest i : ℕ) → T (every f es) → T (f noEntry) → T (f (getD (es ++ replicate rest noEntry) i noEntry))
+unfolding every
+every-at f [] zero i t n = n
+every-at f [] (suc rest) zero t n = n
+every-at f [] (suc rest) (suc i) t n = every-at f [] rest i t n
+every-at f (e ∷ es) rest zero t n = both _ _ t .0
+every-at f (e ∷ es) rest (suc i) t n = every-at f es rest i (both _ _ t .1) n
+
+pub draft-inside : (R : Rules) (m : Message) (i : ℕ) → T (inside (textsOf R (m .parameters)) (getD (draftOf R m .entries) i noEntry .value))
+unfolding draftOf allInside inside
+draft-inside R m i =
+    let texts = textsOf R (m .parameters) in
+    every-at (λ (e : Entry). inside texts (e .value)) (entriesOf R 0 (m .parameters)) (most - length (m .parameters)) i
+    (pack R texts 0 [] (m .parameters) (omega arith) (sym (append-nil texts)) .lies) tt

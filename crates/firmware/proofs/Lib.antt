@@ -1,12 +1,11 @@
 -- The root of the proofs: what the decoding of a record wants.
 pub mod Classes
 pub mod Decoding
-pub mod Desking
+pub mod RecordPlaces
 pub mod Drafting
 pub mod Settled
-pub mod Hearing
-pub mod Readings
-pub mod Settlings
+pub mod Promised
+pub mod One
 pub mod DeskRecord
 pub mod RecordSettles
 pub mod RecordHears
@@ -14,5 +13,4 @@ pub mod RecordReads
 pub mod DraftRecord
 pub mod PartRecord
 pub mod RecordParts
-pub mod Findings
 pub mod Coding

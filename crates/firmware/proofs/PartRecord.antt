@@ -5,15 +5,17 @@ use mathlib.Core.Path.{_≡_, refl, _∙_, ap}
 use mathlib.Core.List.{List, _++_, append-nil}
 use native.Mathlib.Omega.{arith}
 use lib.ListN.{length, drop-of-length-le}
-use Rattle.rules.specs.Laying.{laid, laidAt, laid-then}
+use Rattle.rules.specs.Laying.{laid, laidAt}
+use Rattle.rules.proofs.Laying.{laid-then}
 use Rattle.rules.specs.Octets.{Octets}
 use Rattle.rules.specs.Table.{rulesOf}
-use Rattle.rules.specs.Calls.{accepted-size}
+use Rattle.rules.proofs.Grammar.{accepted-size}
 use Rattle.rules.specs.declared.Book.the-variants.{PresentLenient}
 use Rattle.message.specs.declared.Verdict.the-variants.{Accepted}
 use Rattle.message.specs.Verdict.{verdictOf}
-use Rattle.message.specs.Judges.{judges-of}
+use Rattle.message.proofs.Judges.{judges-of}
 use Rattle.firmware.specs.PartRecord.{lowFirst, numberIn, sideCells, partRecord, partSide, partStart, partLength}
+use Rattle.firmware.specs.Sizes.{partSize}
 
 -- an accepted message has at most 258 octets
 pub accepted-small : (o : List ℕ) → Octets o → (n : ℕ) → verdictOf (rulesOf PresentLenient) o ≡ Accepted n → length o ≤ 258
@@ -25,7 +27,7 @@ unfolding laid
 laid-whole v old h = ap (λ (r : List ℕ). v ++ r) (drop-of-length-le old {i = length v} (omega (arith, h))) ∙ append-nil v
 
 -- side, start and length, laid behind one another over 24 octets
-pub part-laid : (old : List ℕ) (side start n : ℕ) → length old ≡ 24 → (a b c : List ℕ) → a ≡ laid (sideCells side) old → b ≡ laidAt (lowFirst 8 start) 8 a → c ≡ laidAt (lowFirst 8 n) 16 b → c ≡ partRecord side start n
+pub part-laid : (old : List ℕ) (side start n : ℕ) → length old ≡ partSize → (a b c : List ℕ) → a ≡ laid (sideCells side) old → b ≡ laidAt (lowFirst 8 start) 8 a → c ≡ laidAt (lowFirst 8 n) 16 b → c ≡ partRecord side start n
 unfolding sideCells lowFirst partRecord
 part-laid old side start n h a b c x y z =
     z

@@ -2,46 +2,62 @@
 -- Assumes nothing.
 use Prim.Native.Nat.{ℕ, suc, _+_, _≤_, _<_}
 use mathlib.Core.Path.{_≡_, refl, sym, _∙_, ap, subst}
-use mathlib.Core.Bool.{true}
 use mathlib.Core.Logic.{_⊎_, inl, inr, Iff·trans}
 use mathlib.Core.List.{List, [], _++_}
 use native.Mathlib.Omega.{arith}
 use lib.ListN.{length, take}
 use lib.Dec.{T}
-use Rattle.rules.specs.Tests.{_=?_, pick-yes, pick-not, of-eq, decide, clash}
-use Rattle.rules.specs.Octets.{Octets, octets-append}
+use Rattle.rules.specs.Tests.{_=?_}
+use Rattle.rules.proofs.Tests.{pick-yes, pick-not, of-eq, eq-of, decide, clash}
+use Rattle.rules.specs.Octets.{Octets}
+use Rattle.rules.proofs.Octets.{octets-append}
 use Rattle.rules.specs.Table.{rulesOf}
 use Rattle.rules.specs.declared.Book.{Book}
 use Rattle.rules.specs.declared.Book.the-variants.{PresentLenient}
 use Rattle.rules.specs.Machine.{run}
 use Rattle.rules.specs.Judge.{machine, inRange}
-use Rattle.rules.specs.Language.{in-range-run, languageOf}
-use Rattle.rules.specs.Calls.{spoken-of}
+use Rattle.rules.specs.Language.{languageOf}
+use Rattle.rules.proofs.Language.{in-range-run}
+use Rattle.rules.proofs.Grammar.{spoken-of}
 use Rattle.rules.specs.declared.Fault.{Fault}
 use Rattle.listener.specs.declared.Listener.{Listener}
 use Rattle.listener.specs.declared.Answer.{Answer}
 use Rattle.listener.specs.declared.Answer.the-variants.{Waits, Message, Refused}
 use Rattle.listener.specs.declared.Heard.{Heard}
-use Rattle.listener.specs.Heard.{stopped, taken, answerOf, numberOf, placeOf, sizeOf, heardOf, newListener}
+use Rattle.listener.specs.Heard.{taken, answerOf, told, stepped, heardOf, newListener}
 use Rattle.listener.proofs.Hears as listening
 use Rattle.listener.proofs.Hears.{Ranged, ranged, waits-told, message-told, refused-told, taken-small, in-range-heard, out-of-range-heard, stands-in-range, stands-on, new-stands, hears}
 use Rattle.firmware.specs.declared.Decoded.{Decoded}
 use Rattle.firmware.specs.declared.Decoded.the-variants.{Known, Unknown}
 use Rattle.firmware.specs.Record.{decodeOf, recordOf}
-use Rattle.firmware.specs.Word.{packed, wordNumber, wordTaken, Unpacked, unpacked}
+use Rattle.firmware.specs.Word.{packed, wordNumber, wordPlace, wordSize, wordTaken, Unpacked, unpacked, Seventeen, seventeen}
 use Rattle.firmware.specs.Exports.{badRecord, resetAnswer, resetRecord, wordOf, answered, recorded, listenAnswer, listenRecord}
 use Rattle.firmware.proofs.Coding.{Good, decode-encode, encode-decode, decoded-good}
 use Rattle.firmware.proofs.Classes.{Coded, run-coded, number-six}
-use Rattle.firmware.specs.RecordHears.{RecordHears, RecordStands, Sound, Seventeen, Again, SameEnd}
+use Rattle.firmware.specs.RecordHears.{RecordHears, RecordStands, Sound, SameEnd}
+use Rattle.firmware.specs.Sizes.{listenerSize}
 
 -- the word of an answer is read back field by field
-small-fields : (a : Answer) → Ranged a → (numberOf a < 256) × (placeOf a < 65536) × (sizeOf a < 65536)
-unfolding numberOf placeOf sizeOf
+small-fields : (a : Answer) → Ranged a → (told a .number < 256) × (told a .place < 65536) × (told a .size < 65536)
+unfolding told
 small-fields Waits g = (omega arith, omega arith, omega arith)
 small-fields (Message n) g = (omega arith, omega arith, omega arith)
 small-fields (Refused f) g = (omega arith, omega arith, omega arith)
 
-read-back : (x : Heard) → Ranged (x .answer) → x .taken ≤ 258 → Unpacked (numberOf (x .answer)) (placeOf (x .answer)) (sizeOf (x .answer)) (x .taken) (wordOf x)
+-- a place with a number alone, a size with none
+no-place : (a : Answer) → Ranged a → told a .number ≡ 0 → told a .place ≡ 0
+unfolding told
+no-place Waits g e = refl
+no-place (Message n) g e = refl
+no-place (Refused f) g e = absurd (omega arith)
+
+no-size : (a : Answer) → 1 ≤ told a .number → told a .size ≡ 0
+unfolding told
+no-size Waits e = absurd (omega arith)
+no-size (Message n) e = absurd (omega arith)
+no-size (Refused f) e = refl
+
+read-back : (x : Heard) → Ranged (x .answer) → x .taken ≤ 258 → Unpacked (told (x .answer) .number) (told (x .answer) .place) (told (x .answer) .size) (x .taken) (wordOf x)
 unfolding wordOf
 read-back x g t = let b = small-fields (x .answer) g in unpacked _ _ _ _ (b .0) (b .1) (b .2) (omega arith)
 
@@ -57,14 +73,9 @@ sound-or-not c = go (decodeOf c) refl
     go (Known l) k = in-or-out l k (decide (inRange (rulesOf (l .book)) (l .state)))
     go Unknown k = inr (λ s. clash (cc (s .known, k)))
 
-seventeen : (c : List ℕ) (w : ℕ) (d : List ℕ) → w ≡ badRecord → d ≡ c → Seventeen c w d
-seventeen c w d e f =
-    let b = unpacked 17 0 0 0 (omega arith) (omega arith) (omega arith) (omega arith) in
-    rw e (record { number = b .number; place = b .place; size = b .size; taken = b .taken; as-it-was = f })
-
 -- a record that is not sound is 17, whatever the octets
 unsound : (c : List ℕ) → Octets c → (Sound c → ⊥) → (o : List ℕ) → (listenAnswer c o ≡ badRecord) × (listenRecord c o ≡ c)
-unfolding listenAnswer listenRecord answered recorded wordOf numberOf placeOf sizeOf
+unfolding listenAnswer listenRecord answered recorded wordOf told
 unsound c q n o = go (decodeOf c) refl
   where
     go : (y : Decoded) → decodeOf c ≡ y → (answered (decodeOf c) o ≡ badRecord) × (recorded (decodeOf c) c o ≡ c)
@@ -86,7 +97,7 @@ module _ (c : List ℕ) (s : Sound c) (o : List ℕ) where
   sound-ranged : Octets o → Ranged (heardOf (s .listener) o .answer)
   sound-ranged q = subst Ranged (sym (ap (λ (r : Heard). r .answer) (in-range-heard (s .listener) o (s .in-range)))) (ranged (spoken-of (s .listener .book)) _ (in-range-run (spoken-of (s .listener .book)) (s .listener .state) o q (s .in-range)))
 
-  sound-fields : Octets o → (w : ℕ) → w ≡ listenAnswer c o → Unpacked (numberOf (heardOf (s .listener) o .answer)) (placeOf (heardOf (s .listener) o .answer)) (sizeOf (heardOf (s .listener) o .answer)) (heardOf (s .listener) o .taken) w
+  pub sound-fields : Octets o → (w : ℕ) → w ≡ listenAnswer c o → Unpacked (told (heardOf (s .listener) o .answer) .number) (told (heardOf (s .listener) o .answer) .place) (told (heardOf (s .listener) o .answer) .size) (heardOf (s .listener) o .taken) w
   sound-fields q w e = rw (e, sound-word) (read-back _ (sound-ranged q) (taken-small (s .listener) o q))
 
   pub good : Good (s .listener)
@@ -95,10 +106,14 @@ module _ (c : List ℕ) (s : Sound c) (o : List ℕ) where
   abbrev pub heard-is : heardOf (s .listener) o ≡ record { listener = record { book = s .listener .book; state = run (machine (rulesOf (s .listener .book))) (s .listener .state) o }; answer = answerOf (run (machine (rulesOf (s .listener .book))) (s .listener .state) o); taken = taken (machine (rulesOf (s .listener .book))) (s .listener .state) o }
   heard-is = in-range-heard (s .listener) o (s .in-range)
 
-  -- it is stepped by the written rule, also where no octets lead to it, and stays sound
-  pub sound-steps : (d : List ℕ) → d ≡ listenRecord c o → d ≡ recordOf (record { book = PresentLenient; state = run (languageOf PresentLenient .machine) (s .listener .state) o })
-  sound-steps d f = f ∙ sound-record ∙ ap (λ (y : Heard). recordOf (y .listener)) (in-range-heard (s .listener) o (s .in-range)) ∙ ap (λ (b : Book). recordOf (record { book = b; state = run (languageOf b .machine) (s .listener .state) o })) (good .0)
+  -- it is stepped by the written rule, also where no octets lead to it: word and record
+  pub sound-steps : (w : ℕ) (d : List ℕ) → w ≡ listenAnswer c o → d ≡ listenRecord c o → (w ≡ wordOf (stepped (languageOf (s .listener .book)) (s .listener) o)) × (d ≡ recordOf (stepped (languageOf (s .listener .book)) (s .listener) o .listener))
+  sound-steps w d e f = (
+    e ∙ sound-word ∙ ap wordOf (in-range-heard (s .listener) o (s .in-range)),
+    f ∙ sound-record ∙ ap (λ (y : Heard). recordOf (y .listener)) (in-range-heard (s .listener) o (s .in-range)),
+  )
 
+  -- and stays sound
   abbrev pub sound-stays : Octets o → (d : List ℕ) → d ≡ listenRecord c o → Sound d
   sound-stays q d f = record {
     listener = heardOf (s .listener) o .listener;
@@ -109,20 +124,8 @@ module _ (c : List ℕ) (s : Sound c) (o : List ℕ) where
   -- it gets a number up to 6, or none
   pub sound-number : Octets o → (w : ℕ) → w ≡ listenAnswer c o → wordNumber w ≤ 6
   sound-number q w e =
-      let k : numberOf (heardOf (s .listener) o .answer) ≤ 6 = subst (λ (x : Heard). numberOf (x .answer) ≤ 6) (sym heard-is) (number-six (s .listener .book) (good .0) _ (in-range-run (spoken-of (s .listener .book)) (s .listener .state) o q (s .in-range))) in
+      let k : told (heardOf (s .listener) o .answer) .number ≤ 6 = subst (λ (x : Heard). told (x .answer) .number ≤ 6) (sym heard-is) (number-six (s .listener .book) (good .0) _ (in-range-run (spoken-of (s .listener .book)) (s .listener .state) o q (s .in-range))) in
       omega (arith, sound-fields q w e .number, k)
-
-pub again : (c : List ℕ) (s : Sound c) (o : List ℕ) (w : ℕ) (d : List ℕ) → w ≡ listenAnswer c o → d ≡ listenRecord c o → stopped (s .listener .state) ≡ true → Octets c → Octets o → Again (s .listener) c w d
-again c s o w d e f t q p =
-    let x = listening.says-it-again (s .listener) o (heardOf (s .listener) o) (s .in-range) t refl in
-    let u = sound-fields c s o p w e in
-    record {
-      number = u .number ∙ ap (λ (y : Heard). numberOf (y .answer)) x;
-      place = u .place ∙ ap (λ (y : Heard). placeOf (y .answer)) x;
-      size = u .size ∙ ap (λ (y : Heard). sizeOf (y .answer)) x;
-      taken = u .taken ∙ ap (λ (y : Heard). y .taken) x;
-      as-it-was = f ∙ sound-record c s o ∙ ap (λ (y : Heard). recordOf (y .listener)) x ∙ encode-decode c (s .listener) q (s .known);
-    }
 
 -- every record is sound, or the call is 17 and leaves it as it was
 pub sound-or-17 : (c o : List ℕ) (w : ℕ) (d : List ℕ) → w ≡ listenAnswer c o → d ≡ listenRecord c o → Octets c → Sound c ⊎ Seventeen c w d
@@ -143,9 +146,9 @@ module _ (c a b : List ℕ) (w w₁ w₂ : ℕ) (d d₁ d₂ : List ℕ) (e : w 
       let u₂ = sound-fields d₁ s₁ b r w₂ e₂ in
       record {
         left = f ∙ sound-record c s (a ++ b) ∙ ap recordOf (k .0) ∙ sym (f₂ ∙ sound-record d₁ s₁ b);
-        number = u .number ∙ ap numberOf (k .1) ∙ sym (u₂ .number);
-        place = u .place ∙ ap placeOf (k .1) ∙ sym (u₂ .place);
-        size = u .size ∙ ap sizeOf (k .1) ∙ sym (u₂ .size);
+        number = u .number ∙ ap (λ (x : Answer). told x .number) (k .1) ∙ sym (u₂ .number);
+        place = u .place ∙ ap (λ (x : Answer). told x .place) (k .1) ∙ sym (u₂ .place);
+        size = u .size ∙ ap (λ (x : Answer). told x .size) (k .1) ∙ sym (u₂ .size);
         taken = omega (arith, u .taken, u₁ .taken, u₂ .taken, k .2);
       }
 
@@ -156,7 +159,13 @@ module _ (c a b : List ℕ) (w w₁ w₂ : ℕ) (d d₁ d₂ : List ℕ) (e : w 
       let z = seventeen c w d (e ∙ unsound c q n (a ++ b) .0) (f ∙ unsound c q n (a ++ b) .1) in
       let z₁ = seventeen c w₁ d₁ (e₁ ∙ unsound c q n a .0) v in
       let z₂ = seventeen c w₂ d₂ (e₂ ∙ ap (λ (x : List ℕ). listenAnswer x b) v ∙ v₂ .0) (f₂ ∙ ap (λ (x : List ℕ). listenRecord x b) v ∙ v₂ .1) in
-      record { left = z .as-it-was ∙ sym (z₂ .as-it-was); number = z .number ∙ sym (z₂ .number); place = z .place ∙ sym (z₂ .place); size = z .size ∙ sym (z₂ .size); taken = omega (arith, z .taken, z₁ .taken, z₂ .taken) }
+      record {
+        left = z .cells ∙ sym (z₂ .cells);
+        number = z .word .number ∙ sym (z₂ .word .number);
+        place = z .word .place ∙ sym (z₂ .word .place);
+        size = z .word .size ∙ sym (z₂ .word .size);
+        taken = omega (arith, z .word .taken, z₁ .word .taken, z₂ .word .taken);
+      }
 
   pub cut-anywhere : SameEnd w w₁ w₂ d d₂
   cut-anywhere = go (sound-or-not c)
@@ -173,7 +182,9 @@ module _ (c h : List ℕ) (s : RecordStands c h) (o : List ℕ) (q : Octets o) (
   abbrev heard : Heard
   heard = heardOf (s .listener) o
 
-  fields : Unpacked (numberOf (heard .answer)) (placeOf (heard .answer)) (sizeOf (heard .answer)) (heard .taken) w
+  fields :
+      let a = told (heard .answer) in
+      Unpacked (a .number) (a .place) (a .size) (heard .taken) w
   fields = sound-fields c (stands-sound c h s) o q w e
 
   record-hears-in : RecordHears (languageOf (s .listener .book)) h o w
@@ -187,8 +198,12 @@ module _ (c h : List ℕ) (s : RecordStands c h) (o : List ℕ) (q : Octets o) (
         taken-waiting = λ a b. fields .taken ∙ said .taken-waiting (waits-told _ g .0 (sym (fields .number) ∙ a, sym (fields .size) ∙ b));
         taken-message = λ n l a. ap (λ (t : ℕ). length h + t) (fields .taken) ∙ said .taken-message n (message-told _ n l .0 (sym (fields .size) ∙ a));
         taken-refused = λ l.
-            let f : Fault = record { number = numberOf (heard .answer); place = placeOf (heard .answer) } in
+            let f : Fault = record { number = told (heard .answer) .number; place = told (heard .answer) .place } in
             ap (λ (t : ℕ). length h + t) (fields .taken) ∙ said .taken-refused f (refused-told _ f (omega (arith, fields .number)) .0 (refl, refl)) ∙ ap suc (sym (fields .place));
+        no-place = λ a. fields .place ∙ no-place _ g (sym (fields .number) ∙ a);
+        no-size = λ l. fields .size ∙ no-size _ (omega (arith, fields .number));
+        whole = let u = sym (fields .number) in let v = sym (fields .place) in let x = sym (fields .size) in let y = sym (fields .taken) in fields .whole ∙ (λ i. packed (u i) (v i) (x i) (y i));
+        answers-by-258 = λ a b. said .answers-by-258 (waits-told _ g .0 (sym (fields .number) ∙ a, sym (fields .size) ∙ b));
       }
 
   pub record-hears : RecordHears (languageOf PresentLenient) h o w
@@ -201,17 +216,37 @@ module _ (c h : List ℕ) (s : RecordStands c h) (o : List ℕ) (q : Octets o) (
     stands = rw (fields .taken) (stands-on (s .listener) h (s .stands) o q heard refl);
   }
 
+-- an answer that a call gave, the next call on the record gives again, takes none and leaves the record as it was
+module _ (c h : List ℕ) (s : RecordStands c h) (o : List ℕ) (q : Octets o) (w : ℕ) (e : w ≡ listenAnswer c o) (d : List ℕ) (f : d ≡ listenRecord c o) where
+  pub answer-stays : (((wordNumber w ≡ 0) × (wordSize w ≡ 0)) → ⊥) → (o' : List ℕ) (w' : ℕ) (d' : List ℕ) → w' ≡ listenAnswer d o' → d' ≡ listenRecord d o' → (w' ≡ packed (wordNumber w) (wordPlace w) (wordSize w) 0) × (d' ≡ d)
+  unfolding wordOf
+  answer-stays n o' w' d' e' f' =
+      let l = s .listener in
+      let r = heardOf l o in
+      let g = sound-ranged c (stands-sound c h s) o q in
+      let u = fields c h s o q w e in
+      let t = sound-stays c (stands-sound c h s) o q d f in
+      let k = listening.answer-stays l h (s .stands) o q r refl (λ z. let y = waits-told _ g .1 z in n (u .number ∙ y .0, u .size ∙ y .1)) o' (heardOf (r .listener) o') refl in
+      let x = sym (u .number) in
+      let y = sym (u .place) in
+      let z = sym (u .size) in (
+        e' ∙ sound-word d t o' ∙ ap wordOf k ∙ (λ i. packed (x i) (y i) (z i) 0),
+        f' ∙ sound-record d t o' ∙ ap (λ (v : Heard). recordOf (v .listener)) k ∙ sym (f ∙ sound-record c (stands-sound c h s) o),
+      )
+
 -- ---- reset
-pub reset-stands : (c d : List ℕ) → length c ≡ 16 → d ≡ resetRecord c → RecordStands d []
+pub reset-stands : (c d : List ℕ) → length c ≡ listenerSize → d ≡ resetRecord c → RecordStands d []
 unfolding resetRecord newListener machine
 reset-stands c d n e =
     let k : d ≡ recordOf (newListener PresentLenient) = e ∙ pick-yes _ _ _ (of-eq _ _ n) in
     record { listener = newListener PresentLenient; known = ap decodeOf k ∙ decode-encode (newListener PresentLenient) refl tt; stands = new-stands PresentLenient }
 
-pub reset-number : (c : List ℕ) (w : ℕ) (d : List ℕ) → w ≡ resetAnswer c → d ≡ resetRecord c → ((w ≡ 0) × (d ≡ recordOf (newListener PresentLenient))) ⊎ Seventeen c w d
-unfolding resetAnswer resetRecord packed
-reset-number c w d e f = go (decide (length c =? 16))
-  where
-    go : T (length c =? 16) ⊎ (T (length c =? 16) → ⊥) → ((w ≡ 0) × (d ≡ recordOf (newListener PresentLenient))) ⊎ Seventeen c w d
-    go (inl t) = inl (e ∙ pick-yes _ _ _ t, f ∙ pick-yes _ _ _ t)
-    go (inr n) = inr (seventeen c w d (e ∙ pick-not _ _ _ n) (f ∙ pick-not _ _ _ n))
+pub reset-new : (c : List ℕ) (w : ℕ) (d : List ℕ) → w ≡ resetAnswer c → d ≡ resetRecord c → length c ≡ listenerSize → Unpacked 0 0 0 0 w × (d ≡ recordOf (newListener PresentLenient))
+unfolding resetAnswer resetRecord
+reset-new c w d e f n =
+    let t = of-eq _ _ n in
+    (subst (Unpacked 0 0 0 0) (sym (e ∙ pick-yes _ _ _ t)) (unpacked 0 0 0 0 (omega arith) (omega arith) (omega arith) (omega arith)), f ∙ pick-yes _ _ _ t)
+
+pub reset-17 : (c : List ℕ) (w : ℕ) (d : List ℕ) → w ≡ resetAnswer c → d ≡ resetRecord c → (length c ≡ listenerSize → ⊥) → Seventeen c w d
+unfolding resetAnswer resetRecord
+reset-17 c w d e f n = let k : T (length c =? listenerSize) → ⊥ = λ t. n (eq-of _ _ t) in seventeen c w d (e ∙ pick-not _ _ _ k) (f ∙ pick-not _ _ _ k)

@@ -8,40 +8,42 @@ use mathlib.Core.Option.{none}
 use native.Mathlib.Omega.{arith}
 use lib.ListN.{length}
 use lib.Dec.{T}
-use Rattle.rules.specs.Tests.{_=?_, pick-yes, pick-not, of-eq, eq-of, clash}
+use Rattle.rules.specs.Tests.{_=?_}
+use Rattle.rules.proofs.Tests.{pick-yes, pick-not, of-eq, eq-of, clash}
 use Rattle.rules.specs.Octets.{Octets}
 use Rattle.rules.specs.Table.{rulesOf}
 use Rattle.rules.specs.declared.Book.the-variants.{PresentLenient}
 use Rattle.rules.specs.declared.Fault.{Fault}
 use Rattle.rules.specs.Message.{Message, octets, LegalMessage}
 use Rattle.rules.specs.Counting.{counted, Counts}
-use Rattle.rules.specs.Calls.{spoken-of, accepted-size}
+use Rattle.rules.proofs.Grammar.{spoken-of, accepted-size}
 use Rattle.message.specs.declared.Verdict.{Verdict}
 use Rattle.message.specs.declared.Verdict.the-variants.{Declined}
 use Rattle.message.specs.declared.Part.{Part}
 use Rattle.message.specs.declared.Part.the-variants.{At, Nowhere}
 use Rattle.message.specs.Verdict.{verdictOf}
-use Rattle.message.specs.Judges.{judges-of, told-small}
+use Rattle.message.proofs.Judges.{judges-of, told-small, near-declined}
 use Rattle.message.specs.Walking.{countedAt, partOf}
-use Rattle.message.specs.Searching.{counted-part}
-use Rattle.message.specs.Places.{contentsAt, counted-at, counted-inside}
-use Rattle.caption.specs.declared.Found.{Found}
-use Rattle.caption.specs.declared.Found.the-variants as found
-use Rattle.caption.specs.Caption.{findOf, numberOf, placeOf, sideOf, startOf, lengthOf, sliceOf}
+use Rattle.message.proofs.Searching.{counted-part}
+use Rattle.message.specs.Places.{contentsAt}
+use Rattle.message.proofs.Places.{counted-at, counted-inside}
+use Rattle.caption.specs.declared.Shown.{Shown}
+use Rattle.caption.specs.declared.Shown.the-variants as found
+use Rattle.caption.specs.Caption.{findOf, told, sliceOf}
 use Rattle.caption.proofs.Finds.{finds}
-use Rattle.firmware.specs.Word.{packed, Unpacked, unpacked}
+use Rattle.firmware.specs.Word.{packed, Unpacked, unpacked, Seventeen, seventeen}
 use Rattle.firmware.specs.PartRecord.{partRecord, partSide, partStart, partLength}
 use Rattle.firmware.proofs.PartRecord.{part-back}
 use Rattle.firmware.specs.Exports.{badRecord, partWord, countedUnder, countedAnswer, foundWord, partFrom, captionAnswer, captionRecord}
-use Rattle.firmware.specs.RecordSettles.{Seventeen}
 use Rattle.firmware.specs.RecordParts.{RecordCounts, RecordFinds}
+use Rattle.firmware.specs.Sizes.{partSize}
 
 -- number and place of a verdict fit their octets
 refusal-word : (o : List ℕ) → Octets o → (f : Fault) → verdictOf (rulesOf PresentLenient) o ≡ Declined f → Unpacked (f .number) (f .place) 0 0 (packed (f .number) (f .place) 0 0)
 refusal-word o q f e =
     let j = judges-of PresentLenient o q in
     unpacked (f .number) (f .place) 0 0
-    (omega (arith, told-small (spoken-of PresentLenient) _ (j .numbers f e) .1)) (omega (arith, j .near f e)) (omega arith) (omega arith)
+    (omega (arith, told-small (spoken-of PresentLenient) _ (j .numbers f e) .1)) (omega (arith, near-declined j f e)) (omega arith) (omega arith)
 
 module _ (o : List ℕ) (t w : ℕ) (a : w ≡ countedAnswer o t) (q : Octets o) where
   abbrev v : Verdict
@@ -85,61 +87,58 @@ module _ (o : List ℕ) (t w : ℕ) (a : w ≡ countedAnswer o t) (q : Octets o)
 
 module _ (o d c : List ℕ) (w : ℕ) (c' : List ℕ) (a : w ≡ captionAnswer o d c) (b : c' ≡ captionRecord o d c) where
   -- another size than 24 is 17, and the record stays
-  pub no-part : (length c ≡ 24 → ⊥) → Seventeen c w c'
+  pub no-part : (length c ≡ partSize → ⊥) → Seventeen c w c'
   unfolding captionAnswer captionRecord
-  no-part n =
-      let f : T (length c =? 24) → ⊥ = λ x. n (eq-of _ _ x) in
-      record {
-        word = subst (Unpacked 17 0 0 0) (sym (a ∙ pick-not (length c =? 24) _ badRecord f)) (unpacked 17 0 0 0 (omega arith) (omega arith) (omega arith) (omega arith));
-        cells = b ∙ pick-not (length c =? 24) _ c f;
-      }
+  no-part n = let f : T (length c =? partSize) → ⊥ = λ x. n (eq-of _ _ x) in seventeen c w c' (a ∙ pick-not _ _ _ f) (b ∙ pick-not _ _ _ f)
 
-  module _ (q : Octets o) (n : length c ≡ 24) where
-    abbrev r : Found
+  module _ (q : Octets o) (n : length c ≡ partSize) where
+    abbrev r : Shown
     r = findOf (rulesOf PresentLenient) o d
 
-    found-small : (x : Found) → ((f : Fault) → x ≡ found.Refused f → (f .number < 256) × (f .place ≤ 258)) → (numberOf x < 256) × (placeOf x ≤ 258)
-    unfolding numberOf placeOf
+    found-small : (x : Shown) → ((f : Fault) → x ≡ found.Refused f → (f .number < 256) × (f .place ≤ 258)) → (told x .number < 256) × (told x .place ≤ 258)
+    unfolding told
     found-small (found.InMessage start k) h = (omega arith, omega arith)
     found-small (found.InDirectory start k) h = (omega arith, omega arith)
     found-small (found.Refused f) h = h f refl
 
-    word-is : Unpacked (numberOf r) (placeOf r) 0 0 w
+    word-is : Unpacked (told r .number) (told r .place) 0 0 w
     unfolding captionAnswer foundWord
     word-is =
         let x = finds PresentLenient o d q in
-        let k = found-small r (λ f e. let y = x .refused f .0 e in (omega (arith, told-small (spoken-of PresentLenient) _ (x .judged .numbers f y) .1), x .judged .near f y)) in
-        subst (Unpacked (numberOf r) (placeOf r) 0 0) (sym (a ∙ pick-yes (length c =? 24) _ badRecord (of-eq _ _ n)))
-        (unpacked (numberOf r) (placeOf r) 0 0 (k .0) (omega (arith, k .1)) (omega arith) (omega arith))
+        let k = found-small r (λ f e. let y = x .refused f .0 e in (omega (arith, told-small (spoken-of PresentLenient) _ (x .judged .numbers f y) .1), near-declined (x .judged) f y)) in
+        subst (Unpacked (told r .number) (told r .place) 0 0)
+        (sym (a ∙ pick-yes (length c =? partSize) _ badRecord (of-eq _ _ n)))
+        (unpacked (told r .number) (told r .place) 0 0 (k .0) (omega (arith, k .1)) (omega arith) (omega arith))
 
     cells-are : c' ≡ partFrom c r
     unfolding captionRecord
-    cells-are = b ∙ pick-yes (length c =? 24) _ c (of-eq _ _ n)
+    cells-are = b ∙ pick-yes (length c =? partSize) _ c (of-eq _ _ n)
 
-    part-from : (x : Found) → ((f : Fault) → x ≡ found.Refused f → 1 ≤ f .number) → numberOf x ≡ 0 → partFrom c x ≡ partRecord (sideOf x) (startOf x) (lengthOf x)
-    unfolding partFrom numberOf sideOf startOf lengthOf
+    part-from : (x : Shown) → ((f : Fault) → x ≡ found.Refused f → 1 ≤ f .number) → told x .number ≡ 0 → partFrom c x ≡ partRecord (told x .side) (told x .start) (told x .size)
+    unfolding partFrom told
     part-from (found.InMessage start k) h e = refl
     part-from (found.InDirectory start k) h e = refl
     part-from (found.Refused f) h e = absurd (omega (arith, h f refl))
 
     -- the slices are shorter than what eight octets say
-    slices-small : length d < 256 ^ 8 → length o ≤ 258 → (x : Found) → length (sliceOf x o d) < 256 ^ 8
+    slices-small : length d < 256 ^ 8 → length o ≤ 258 → (x : Shown) → length (sliceOf x o d) < 256 ^ 8
     unfolding sliceOf
     slices-small a b (found.InMessage start k) = omega (arith, b)
     slices-small a b (found.InDirectory start k) = a
     slices-small a b (found.Refused f) = omega (arith, b)
 
-    part-is-found : numberOf r ≡ 0 → c' ≡ partRecord (sideOf r) (startOf r) (lengthOf r)
+    part-is-found : told r .number ≡ 0 → c' ≡ partRecord (told r .side) (told r .start) (told r .size)
     part-is-found e =
         let x = finds PresentLenient o d q in
         cells-are ∙ part-from r (λ f k. told-small (spoken-of PresentLenient) _ (x .judged .numbers f (x .refused f .0 k)) .0) e
 
-    back : length d < 256 ^ 8 → numberOf r ≡ 0 → (partSide c' ≡ sideOf r) × (partStart c' ≡ startOf r) × (partLength c' ≡ lengthOf r)
+    back : length d < 256 ^ 8 → told r .number ≡ 0 → (partSide c' ≡ told r .side) × (partStart c' ≡ told r .start) × (partLength c' ≡ told r .size)
     back h e =
         let x = finds PresentLenient o d q in
         let i = slices-small h (accepted-size (rulesOf PresentLenient) o (x .done .0 e) .1) r in
-        subst (λ (z : List ℕ). (partSide z ≡ sideOf r) × (partStart z ≡ startOf r) × (partLength z ≡ lengthOf r)) (sym (part-is-found e))
-        (part-back (sideOf r) (startOf r) (lengthOf r) (omega (arith, i, x .inside)) (omega (arith, i, x .inside)))
+        subst (λ (z : List ℕ). (partSide z ≡ told r .side) × (partStart z ≡ told r .start) × (partLength z ≡ told r .size)) (sym (part-is-found e))
+        (part-back (told r .side) (told r .start) (told r .size)
+        (omega (arith, i, x .inside)) (omega (arith, i, x .inside)))
 
     pub record-finds : RecordFinds o d c w c'
     unfolding partFrom

@@ -1,61 +1,95 @@
 -- A read through the exports is the read, its answer packed into a word that is read back.
 -- Assumes nothing.
 use Prim.Native.Nat.{ℕ}
-use mathlib.Core.Path.{_≡_, sym, _∙_, ap, subst}
+use mathlib.Core.Path.{_≡_, refl, sym, _∙_, ap, subst}
+use mathlib.Core.Logic.{_⊎_, inl, inr}
 use mathlib.Core.List.{List}
 use native.Mathlib.Omega.{arith}
-use lib.ListN.{length}
+use lib.ListN.{length, getD}
 use lib.Dec.{T}
-use Rattle.rules.specs.Tests.{_=?_, pick-yes, pick-not, of-eq, eq-of}
+use Rattle.rules.specs.Tests.{_≤?_, _=?_}
+use Rattle.rules.proofs.Tests.{pick-yes, pick-not, of-eq, eq-of, le-of, not-le, decide, clash}
 use Rattle.rules.specs.Octets.{Octets}
 use Rattle.rules.specs.Table.{rulesOf}
 use Rattle.rules.specs.declared.Book.the-variants.{PresentLenient}
-use Rattle.rules.specs.ContentLaw.{sound-rules}
+use Rattle.rules.proofs.ContentLaw.{sound-rules}
+use Rattle.rules.specs.Message.{Accepts}
+use Rattle.draft.specs.declared.Draft.{Draft}
+use Rattle.draft.specs.Draft.{noEntry}
+use Rattle.draft.specs.Packing.{draftOf}
+use Rattle.reader.specs.declared.Packed.the-variants.{Texts}
+use Rattle.reader.specs.declared.Reading.{Reading}
 use Rattle.reader.specs.declared.Packed.{Packed}
 use Rattle.reader.specs.Read.{packOf, readOf, draftFrom, areaAfter}
-use Rattle.reader.specs.Reads.{Reads, numberOf, placeOf, sizeOf}
-use Rattle.reader.proofs.Answered.{reads-of, near}
-use Rattle.firmware.specs.Word.{Unpacked, unpacked}
-use Rattle.firmware.specs.DraftRecord.{draftRecord}
+use Rattle.reader.specs.Reads.{Reads, texts, told}
+use Rattle.reader.proofs.Answered.{reads-of, near, area-enough}
+use Rattle.firmware.specs.Word.{Unpacked, unpacked, Seventeen, seventeen}
+use Rattle.firmware.specs.DraftRecord.{draftRecord, entryIn}
+use Rattle.firmware.proofs.DraftRecord.{entry-back, draft-inside}
 use Rattle.firmware.specs.Exports.{badRecord, packedWord, recordFrom, readAnswer, readRecord, readTexts}
-use Rattle.firmware.specs.RecordReads.{Unread, RecordReads}
+use Rattle.firmware.specs.RecordReads.{RecordReads}
+use Rattle.firmware.specs.Sizes.{draftSize}
 
 module _ (o c t : List ℕ) (w : ℕ) (c' t' : List ℕ) (a : w ≡ readAnswer o c t) (b : c' ≡ readRecord o c t) (d : t' ≡ readTexts o c t) where
-  pub unread : (length c ≡ 688 → ⊥) → Unread c t w c' t'
+  pub unread : (length c ≡ draftSize → ⊥) → Seventeen c w c' × (t' ≡ t)
   unfolding readAnswer readRecord readTexts
   unread n =
-      let f : T (length c =? 688) → ⊥ = λ x. n (eq-of _ _ x) in
-      record {
-        word = subst (Unpacked 17 0 0 0) (sym (a ∙ pick-not (length c =? 688) _ badRecord f)) (unpacked 17 0 0 0 (omega arith) (omega arith) (omega arith) (omega arith));
-        cells = b ∙ pick-not (length c =? 688) _ c f;
-        texts = d ∙ pick-not (length c =? 688) _ t f;
-      }
+      let f : T (length c =? draftSize) → ⊥ = λ x. n (eq-of _ _ x) in
+      (seventeen c w c' (a ∙ pick-not (length c =? draftSize) _ badRecord f) (b ∙ pick-not (length c =? draftSize) _ c f), d ∙ pick-not (length c =? draftSize) _ t f)
 
-  module _ (q : Octets o) (n : length c ≡ 688) where
+  module _ (q : Octets o) (n : length c ≡ draftSize) where
     abbrev p : Packed
     p = packOf (rulesOf PresentLenient) o (length t)
 
-    word-is : Unpacked (numberOf p) (placeOf p) (sizeOf p) 0 w
+    word-is : Unpacked (told p .number) (told p .place) (told p .size) 0 w
     unfolding readAnswer packedWord
     word-is =
         let k = near (rulesOf PresentLenient) (sound-rules PresentLenient) o t q in
-        subst (Unpacked (numberOf p) (placeOf p) (sizeOf p) 0) (sym (a ∙ pick-yes (length c =? 688) _ badRecord (of-eq _ _ n)))
-        (unpacked (numberOf p) (placeOf p) (sizeOf p) 0 (omega (arith, k .number)) (omega (arith, k .place)) (omega (arith, k .size)) (omega arith))
+        subst (Unpacked (told p .number) (told p .place) (told p .size) 0) (sym (a ∙ pick-yes (length c =? draftSize) _ badRecord (of-eq _ _ n)))
+        (unpacked (told p .number) (told p .place) (told p .size) 0 (omega (arith, k .number)) (omega (arith, k .place)) (omega (arith, k .size)) (omega arith))
 
     cells-are : c' ≡ recordFrom o c p
     unfolding readRecord
-    cells-are = b ∙ pick-yes (length c =? 688) _ c (of-eq _ _ n)
+    cells-are = b ∙ pick-yes (length c =? draftSize) _ c (of-eq _ _ n)
 
     texts-are : t' ≡ areaAfter (rulesOf PresentLenient) o t
     unfolding readTexts
-    texts-are = d ∙ pick-yes (length c =? 688) _ t (of-eq _ _ n)
+    texts-are = d ∙ pick-yes (length c =? draftSize) _ t (of-eq _ _ n)
+
+    abbrev r : Reading
+    r = readOf (rulesOf PresentLenient) o (length t)
+
+    reads-is : Reads (rulesOf PresentLenient) o t r t'
+    reads-is = subst (Reads (rulesOf PresentLenient) o t r) (sym texts-are) (reads-of (rulesOf PresentLenient) (sound-rules PresentLenient) o t q)
+
+    record-of : (k : ℕ) → r .answer ≡ Texts k → c' ≡ draftRecord (r .draft)
+    unfolding readOf draftFrom recordFrom
+    record-of k e = cells-are ∙ ap (recordFrom o c) e ∙ sym (ap (λ (x : Packed). draftRecord (draftFrom (rulesOf PresentLenient) o x)) e)
+
+    -- an accepted message that was read had room for its texts, which are 253 octets at most
+    back : (k : ℕ) → r .answer ≡ Texts k → (getD c' 0 0 ≡ r .draft .kind) × (getD c' 1 0 ≡ r .draft .count) × ((i : ℕ) → entryIn c' i ≡ getD (r .draft .entries) i noEntry)
+    unfolding draftRecord
+    back k e = go (reads-is .only k e) (decide (length (texts (rulesOf PresentLenient) (reads-is .only k e .0)) ≤? length t))
+      where
+        of-draft : (x : Draft) → r .draft ≡ x → ((i : ℕ) → entryIn (draftRecord x) i ≡ getD (x .entries) i noEntry) → (getD c' 0 0 ≡ r .draft .kind) × (getD c' 1 0 ≡ r .draft .count) × ((i : ℕ) → entryIn c' i ≡ getD (r .draft .entries) i noEntry)
+        of-draft x z f =
+            let g = record-of k e ∙ ap draftRecord z in
+            (ap (λ (l : List ℕ). getD l 0 0) g ∙ sym (ap (λ (y : Draft). y .kind) z), ap (λ (l : List ℕ). getD l 1 0) g ∙ sym (ap (λ (y : Draft). y .count) z), λ i. ap (λ (l : List ℕ). entryIn l i) g ∙ f i ∙ sym (ap (λ (y : Draft). getD (y .entries) i noEntry) z))
+
+        go : (w : Accepts (rulesOf PresentLenient) o) → T (length (texts (rulesOf PresentLenient) (w .0)) ≤? length t) ⊎ (T (length (texts (rulesOf PresentLenient) (w .0)) ≤? length t) → ⊥) → (getD c' 0 0 ≡ r .draft .kind) × (getD c' 1 0 ≡ r .draft .count) × ((i : ℕ) → entryIn c' i ≡ getD (r .draft .entries) i noEntry)
+        go (m, l, z) (inl h) =
+            let x = reads-is .drafted m l z (le-of _ _ h) in
+            of-draft (draftOf (rulesOf PresentLenient) m) (ap (λ (y : Reading). y .draft) (x .0))
+            (λ i. entry-back (draftOf (rulesOf PresentLenient) m) i (texts (rulesOf PresentLenient) m) (omega (arith, area-enough (rulesOf PresentLenient) m l)) (draft-inside (rulesOf PresentLenient) m i))
+        go (m, l, z) (inr h) = clash (cc (e, reads-is .short (length (texts (rulesOf PresentLenient) m)) .1 (m, l, z, refl, not-le _ _ h)))
 
     pub record-reads : RecordReads o c t w c' t'
     unfolding readOf draftFrom recordFrom
     record-reads = record {
-      reading = readOf (rulesOf PresentLenient) o (length t);
-      reads = subst (Reads (rulesOf PresentLenient) o t (readOf (rulesOf PresentLenient) o (length t))) (sym texts-are) (reads-of (rulesOf PresentLenient) (sound-rules PresentLenient) o t q);
+      reading = r;
+      reads = reads-is;
       word = word-is;
-      drafted = λ k e. cells-are ∙ ap (recordFrom o c) e ∙ sym (ap (λ (x : Packed). draftRecord (draftFrom (rulesOf PresentLenient) o x)) e);
+      drafted = record-of;
       refused = λ f e. cells-are ∙ ap (recordFrom o c) e;
+      read-back = back;
     }

@@ -2,47 +2,52 @@
 -- Assumes nothing.
 use Prim.Native.Nat.{ℕ, _≤_}
 use mathlib.Core.Path.{_≡_, refl, sym, _∙_, ap, subst}
-use mathlib.Core.Logic.{_⊎_, inl, inr, _↔_}
+use mathlib.Core.Logic.{_⊎_, inl, inr, _↔_, Iff·trans}
 use mathlib.Core.Bool.{Bool}
 use mathlib.Core.List.{List, [], _∷_}
 use mathlib.Core.Option.{Option, none}
 use native.Mathlib.Omega.{arith}
 use lib.ListN.{length}
 use lib.Dec.{T}
-use Rattle.rules.specs.Tests.{_=?_, pick-yes, pick-not, decide, of-eq, eq-of}
+use Rattle.rules.specs.Tests.{_=?_}
+use Rattle.rules.proofs.Tests.{pick-yes, pick-not, decide, of-eq, eq-of}
 use Rattle.rules.specs.Octets.{Octets}
 use Rattle.rules.specs.Table.{rulesOf}
 use Rattle.rules.specs.declared.Book.the-variants.{PresentLenient}
-use Rattle.message.specs.Judges.{verdictNumber, told-small, verdict-lenient}
-use Rattle.rules.specs.ContentLaw.{lenient-others}
+use Rattle.message.specs.Judges.{verdictNumber}
+use Rattle.message.proofs.Judges.{told-small, near-declined, verdict-lenient}
+use Rattle.rules.proofs.ContentLaw.{lenient-others}
 use Rattle.rules.specs.declared.Fault.{Fault}
 use Rattle.rules.specs.Refusals.{noted}
 use Rattle.rules.specs.Language.{languageOf}
-use Rattle.rules.specs.Calls.{spoken-of}
+use Rattle.rules.proofs.Grammar.{spoken-of}
 use Rattle.desk.specs.declared.Desk.{Desk}
 use Rattle.desk.specs.declared.Answer.{Answer}
 use Rattle.desk.specs.declared.Answer.the-variants.{Done, Refused}
 use Rattle.desk.specs.declared.Outcome.{Outcome}
 use Rattle.desk.proofs.Holding.{all-free}
-use Rattle.desk.specs.Settle.{newDesk, settleOf, numberOf, placeOf}
-use Rattle.desk.specs.History.{saidUnder, said, later, lastSaid, Call, History, Stands}
-use Rattle.desk.proofs.History.{open-by-last}
+use Rattle.desk.specs.Settle.{newDesk, settleOf, told}
+use Rattle.desk.specs.History.{saidUnder, said, later, lastSaid, Call, OpenBy, Names}
+use Rattle.desk.proofs.Words as words
+use Rattle.desk.proofs.History.{History, open-by-last}
 use Rattle.desk.proofs.Settles as settles
 use Rattle.desk.specs.Settles.{Settles}
-use Rattle.desk.specs.Open.{placeCount}
+use Rattle.desk.specs.References.{placeCount}
 use Rattle.firmware.specs.DeskRecord.{isRecord, deskIn, deskRecord}
 use Rattle.firmware.proofs.DeskRecord.{Small, small-in, record-is, decode-encode, encode-decode}
-use Rattle.firmware.specs.Word.{wordNumber, Unpacked, unpacked}
+use Rattle.firmware.specs.Word as word
+use Rattle.firmware.specs.Word.{wordNumber, Unpacked, unpacked, Seventeen}
 use Rattle.firmware.specs.Exports.{badRecord, deskWord, newDeskAnswer, newDeskRecord, settleAnswer, settleRecord}
-use Rattle.firmware.specs.RecordSettles.{RecordSettles, Seventeen, IsDesk, RecordCall, saidIn, lastSaidIn}
+use Rattle.firmware.specs.RecordSettles.{RecordSettles, IsDesk, RecordCall, saidIn, lastSaidIn, NamesIn, SaysIn}
+use Rattle.firmware.specs.Sizes.{deskSize}
 
 -- ---- numbers and places are small: a word has room for them
 fault-of : (f : Fault) (n : ℕ) → f .number ≡ n → f ≡ (record { number = n; place = f .place })
 fault-of f n e = λ i. record { number = e i; place = f .place }
 
 module _ (d : Desk) (o : List ℕ) (x : Outcome) (s : Settles (rulesOf PresentLenient) d o x) where
-  number-small : (a : Answer) → x .answer ≡ a → numberOf a ≤ 21
-  unfolding numberOf
+  number-small : (a : Answer) → x .answer ≡ a → told a .number ≤ 21
+  unfolding told
   number-small Done e = omega arith
   number-small (Refused f) e = go (s .numbers f e)
     where
@@ -51,31 +56,28 @@ module _ (d : Desk) (o : List ℕ) (x : Outcome) (s : Settles (rulesOf PresentLe
       go (inr (inl h)) = omega (arith, h)
       go (inr (inr h)) = omega (arith, h)
 
-  near : (a : Answer) → x .answer ≡ a → placeOf a ≤ 258
-  unfolding placeOf
+  near : (a : Answer) → x .answer ≡ a → told a .place ≤ 258
+  unfolding told
   near Done e = omega arith
   near (Refused f) e = go (s .numbers f e)
     where
       go : T (verdictNumber (languageOf PresentLenient) (f .number)) ⊎ ((f .number ≡ 17) ⊎ (f .number ≡ 21)) → f .place ≤ 258
-      go (inl h) = s .judged .near f (s .refused f h .0 e .1)
+      go (inl h) = near-declined (s .judged) f (s .refused f h .0 e .1)
       go (inr (inl h)) = omega (arith, s .seventeen (f .place) .0 (e ∙ ap Refused (fault-of f 17 h)) .0)
       go (inr (inr h)) = omega (arith, s .full (f .place) .0 (e ∙ ap Refused (fault-of f 21 h)) .0)
 
 module _ (c o : List ℕ) (w : ℕ) (c' : List ℕ) (a : w ≡ settleAnswer c o) (b : c' ≡ settleRecord c o) where
   pub seventeen : (T (isRecord c) → ⊥) → Seventeen c w c'
   unfolding settleAnswer settleRecord
-  seventeen n = record {
-    word = subst (Unpacked 17 0 0 0) (sym (a ∙ pick-not _ _ _ n)) (unpacked 17 0 0 0 (omega arith) (omega arith) (omega arith) (omega arith));
-    cells = b ∙ pick-not _ _ _ n;
-  }
+  seventeen n = word.seventeen c w c' (a ∙ pick-not _ _ _ n) (b ∙ pick-not _ _ _ n)
 
-  settled-word : Octets o → T (isRecord c) → Unpacked (numberOf (settleOf (rulesOf PresentLenient) (deskIn c) o .answer)) (placeOf (settleOf (rulesOf PresentLenient) (deskIn c) o .answer)) 0 0 w
+  settled-word : Octets o → T (isRecord c) → Unpacked (told (settleOf (rulesOf PresentLenient) (deskIn c) o .answer) .number) (told (settleOf (rulesOf PresentLenient) (deskIn c) o .answer) .place) 0 0 w
   unfolding settleAnswer deskWord
   settled-word q t =
       let x = settleOf (rulesOf PresentLenient) (deskIn c) o in
       let s = settles.settles PresentLenient (deskIn c) o q in
-      subst (Unpacked (numberOf (x .answer)) (placeOf (x .answer)) 0 0) (sym (a ∙ pick-yes _ _ _ t))
-      (unpacked (numberOf (x .answer)) (placeOf (x .answer)) 0 0 (omega (arith, number-small (deskIn c) o x s (x .answer) refl)) (omega (arith, near (deskIn c) o x s (x .answer) refl)) (omega arith) (omega arith))
+      subst (Unpacked (told (x .answer) .number) (told (x .answer) .place) 0 0) (sym (a ∙ pick-yes _ _ _ t))
+      (unpacked (told (x .answer) .number) (told (x .answer) .place) 0 0 (omega (arith, number-small (deskIn c) o x s (x .answer) refl)) (omega (arith, near (deskIn c) o x s (x .answer) refl)) (omega arith) (omega arith))
 
   pub record-settles : Octets o → T (isRecord c) → RecordSettles (deskIn c) o w c'
   unfolding settleRecord
@@ -88,12 +90,12 @@ module _ (c o : List ℕ) (w : ℕ) (c' : List ℕ) (a : w ≡ settleAnswer c o)
 
   module _ (q : Octets o) where
     -- what the word's number says of the answer
-    number-of : (t : T (isRecord c)) (y : RecordSettles (deskIn c) o w c') (k : Answer) → y .outcome .answer ≡ k → wordNumber w ≡ numberOf k
-    number-of t y k e = y .word .number ∙ ap numberOf e
+    number-of : (t : T (isRecord c)) (y : RecordSettles (deskIn c) o w c') (k : Answer) → y .outcome .answer ≡ k → wordNumber w ≡ told k .number
+    number-of t y k e = y .word .number ∙ ap (λ (x : Answer). told x .number) e
 
     -- 17 exactly for a record of another size, with a code or number out of range, or with a reference twice
     pub seventeen-iff : (wordNumber w ≡ 17) ↔ (IsDesk c → ⊥)
-    unfolding numberOf
+    unfolding told
     seventeen-iff = go (decide (isRecord c))
       where
         desk : (t : T (isRecord c)) (y : RecordSettles (deskIn c) o w c') (k : Answer) → y .outcome .answer ≡ k → (wordNumber w ≡ 17) ↔ (IsDesk c → ⊥)
@@ -112,7 +114,7 @@ module _ (c o : List ℕ) (w : ℕ) (c' : List ℕ) (a : w ≡ settleAnswer c o)
 
     -- no number but 0, 1 to 8, 17 and 21
     pub numbers : (wordNumber w ≤ 8) ⊎ ((wordNumber w ≡ 17) ⊎ (wordNumber w ≡ 21))
-    unfolding numberOf
+    unfolding told
     numbers = go (decide (isRecord c))
       where
         of-fault : (n : ℕ) (f : Fault) → n ≡ f .number → T (verdictNumber (languageOf PresentLenient) (f .number)) ⊎ ((f .number ≡ 17) ⊎ (f .number ≡ 21)) → (n ≤ 8) ⊎ ((n ≡ 17) ⊎ (n ≡ 21))
@@ -130,7 +132,7 @@ module _ (c o : List ℕ) (w : ℕ) (c' : List ℕ) (a : w ≡ settleAnswer c o)
 
     -- a refusal leaves the record as it was
     pub stays : Octets c → 1 ≤ wordNumber w → c' ≡ c
-    unfolding numberOf
+    unfolding told
     stays k n = go (decide (isRecord c))
       where
         refused : (t : T (isRecord c)) (y : RecordSettles (deskIn c) o w c') (x : Answer) → y .outcome .answer ≡ x → c' ≡ c
@@ -169,15 +171,20 @@ again c o k q w c₁ w₂ c₂ a b e f = go (decide (isRecord c))
         (e ∙ ap (λ (y : List ℕ). settleAnswer y o) i ∙ sym a, f ∙ ap (λ (y : List ℕ). settleRecord y o) i ∙ sym b)
 
 -- a record made new is that of a desk of which nothing is known and which holds no reference
-pub new : (c : List ℕ) (w : ℕ) (c' : List ℕ) → w ≡ newDeskAnswer c → c' ≡ newDeskRecord c → length c ≡ 52 → Unpacked 0 0 0 0 w × T (isRecord c') × (deskIn c' ≡ newDesk)
+pub new : (c : List ℕ) (w : ℕ) (c' : List ℕ) → w ≡ newDeskAnswer c → c' ≡ newDeskRecord c → length c ≡ deskSize → Unpacked 0 0 0 0 w × T (isRecord c') × (deskIn c' ≡ newDesk)
 unfolding newDeskAnswer newDeskRecord
 new c w c' a b n =
     let z : Small (newDesk .places) = record { long = refl; below = λ i. omega (arith, all-free placeCount i) } in
-    let e : c' ≡ deskRecord newDesk = b ∙ pick-yes (length c =? 52) _ c (of-eq _ _ n) in (
-      subst (Unpacked 0 0 0 0) (sym (a ∙ pick-yes (length c =? 52) _ badRecord (of-eq _ _ n))) (unpacked 0 0 0 0 (omega arith) (omega arith) (omega arith) (omega arith)),
+    let e : c' ≡ deskRecord newDesk = b ∙ pick-yes (length c =? deskSize) _ c (of-eq _ _ n) in (
+      subst (Unpacked 0 0 0 0) (sym (a ∙ pick-yes (length c =? deskSize) _ badRecord (of-eq _ _ n))) (unpacked 0 0 0 0 (omega arith) (omega arith) (omega arith) (omega arith)),
       subst (λ (y : List ℕ). T (isRecord y)) (sym e) (record-is newDesk z),
       ap deskIn e ∙ decode-encode newDesk z,
     )
+
+-- another size than 52 is 17, and the record stays
+pub new-17 : (c : List ℕ) (w : ℕ) (c' : List ℕ) → w ≡ newDeskAnswer c → c' ≡ newDeskRecord c → (length c ≡ deskSize → ⊥) → Seventeen c w c'
+unfolding newDeskAnswer newDeskRecord
+new-17 c w c' a b n = let k : T (length c =? deskSize) → ⊥ = λ t. n (eq-of _ _ t) in word.seventeen c w c' (a ∙ pick-not _ _ _ k) (b ∙ pick-not _ _ _ k)
 
 -- ---- call after call
 -- calls one after the other, from the record c to the record c': each on the record that the one before left
@@ -190,22 +197,22 @@ module _ (c : List ℕ) (t : T (isRecord c)) (w : Small (deskIn c .places)) (x :
   abbrev as-call : Call
   as-call = record { book = PresentLenient; octets = x .octets; outcome = settleOf (rulesOf PresentLenient) (deskIn c) (x .octets) }
 
+  number-is : wordNumber (x .word) ≡ told (as-call .outcome .answer) .number
+  number-is = settled-word c (x .octets) (x .word) (x .cells) a b q t .number
+
+  no-number : (f : Fault) → T (verdictNumber (languageOf PresentLenient) (f .number)) ⊎ ((f .number ≡ 17) ⊎ (f .number ≡ 21)) → f .number ≡ 0 → ⊥
+  no-number f (inl h) z = omega (arith, told-small (spoken-of PresentLenient) _ h .0, z)
+  no-number f (inr (inl h)) z = omega (arith, h, z)
+  no-number f (inr (inr h)) z = omega (arith, h, z)
+
   same-word : (r : ℕ) → saidIn r x ≡ said r as-call
-  unfolding saidIn said saidUnder numberOf
+  unfolding saidIn said saidUnder told
   same-word r = go (as-call .outcome .answer) refl
     where
-      number-is : wordNumber (x .word) ≡ numberOf (as-call .outcome .answer)
-      number-is = settled-word c (x .octets) (x .word) (x .cells) a b q t .number
-
       go : (k : Answer) → as-call .outcome .answer ≡ k → saidIn r x ≡ saidUnder (rulesOf PresentLenient) r (x .octets) (as-call .outcome .answer)
-      go Done e = pick-yes _ _ _ (of-eq _ _ (number-is ∙ ap numberOf e)) ∙ ap (saidUnder (rulesOf PresentLenient) r (x .octets)) (sym e)
+      go Done e = pick-yes _ _ _ (of-eq _ _ (number-is ∙ ap (λ (x : Answer). told x .number) e)) ∙ ap (saidUnder (rulesOf PresentLenient) r (x .octets)) (sym e)
       go (Refused f) e =
-          pick-not _ _ _ (λ z. no-number f (settles.settles PresentLenient (deskIn c) (x .octets) q .numbers f e) (sym (ap numberOf e) ∙ sym number-is ∙ eq-of _ _ z)) ∙ ap (saidUnder (rulesOf PresentLenient) r (x .octets)) (sym e)
-        where
-          no-number : (f : Fault) → T (verdictNumber (languageOf PresentLenient) (f .number)) ⊎ ((f .number ≡ 17) ⊎ (f .number ≡ 21)) → f .number ≡ 0 → ⊥
-          no-number f (inl h) z = omega (arith, told-small (spoken-of PresentLenient) _ h .0, z)
-          no-number f (inr (inl h)) z = omega (arith, h, z)
-          no-number f (inr (inr h)) z = omega (arith, h, z)
+          pick-not _ _ _ (λ z. no-number f (settles.settles PresentLenient (deskIn c) (x .octets) q .numbers f e) (sym (ap (λ (x : Answer). told x .number) e) ∙ sym number-is ∙ eq-of _ _ z)) ∙ ap (saidUnder (rulesOf PresentLenient) r (x .octets)) (sym e)
 
   after-is : x .cells ≡ deskRecord (as-call .outcome .desk)
   unfolding settleRecord
@@ -220,6 +227,33 @@ module _ (c : List ℕ) (t : T (isRecord c)) (w : Small (deskIn c .places)) (x :
   after-record : T (isRecord (x .cells))
   after-record = subst (λ (y : List ℕ). T (isRecord y)) (sym after-is) (record-is (as-call .outcome .desk) after-small)
 
+  -- number 0 exactly where the desk's own call is done
+  done-iff : (as-call .outcome .answer ≡ Done) ↔ (wordNumber (x .word) ≡ 0)
+  unfolding told
+  done-iff = (
+    λ e. number-is ∙ ap (λ (x : Answer). told x .number) e,
+    λ e. go (as-call .outcome .answer) refl (sym number-is ∙ e),
+  )
+    where
+      go : (k : Answer) → as-call .outcome .answer ≡ k → told (as-call .outcome .answer) .number ≡ 0 → as-call .outcome .answer ≡ Done
+      go Done e z = e
+      go (Refused f) e z = absurd (no-number f (settles.settles PresentLenient (deskIn c) (x .octets) q .numbers f e) (sym (ap (λ (x : Answer). told x .number) e) ∙ z))
+
+  names-iff : (s r : ℕ) → Names as-call s r ↔ NamesIn x s r
+  names-iff s r = (
+    λ n. record { m = n .m; legal = n .legal; is = n .is; notice = n .notice; done = done-iff .0 (n .done); high = n .high; low = n .low; counts = n .counts; reference = n .reference },
+    λ n. record { m = n .m; legal = n .legal; is = n .is; notice = n .notice; done = done-iff .1 (n .done); high = n .high; low = n .low; counts = n .counts; reference = n .reference },
+  )
+
+  -- the word of a call is the state and the reference of the 0DH that counts in its message
+  pub says-in : (r : ℕ) → SaysIn r x
+  says-in r =
+      let y = words.says r as-call (deskIn c) refl q in
+      record {
+        opens = rw (same-word r) (Iff·trans (y .opens) (names-iff 0xFF r));
+        closes = rw (same-word r) (Iff·trans (y .closes) (names-iff 0x00 r));
+      }
+
 goes-on : (r : ℕ) (c : List ℕ) → T (isRecord c) → Small (deskIn c .places) → (xs : List RecordCall) (c' : List ℕ) → RecordHistory c xs c' → (cs : List Call) × History (deskIn c) cs (deskIn c') × ((b : Option Bool) → lastSaidIn r xs b ≡ lastSaid r cs b)
 unfolding lastSaidIn lastSaid
 goes-on r c t w [] c' h = ([], ap deskIn h, λ b. refl)
@@ -232,7 +266,7 @@ goes-on r c t w (x ∷ xs) c' h =
     )
 
 -- a reference stands in the places of the last record as the last word on it says
-pub record-open-by-last : (r : ℕ) (c : List ℕ) → Octets c → T (isRecord c) → (xs : List RecordCall) (c' : List ℕ) → RecordHistory c xs c' → Stands r (deskIn c .places) (lastSaidIn r xs none) (deskIn c' .places)
+pub record-open-by-last : (r : ℕ) (c : List ℕ) → Octets c → T (isRecord c) → (xs : List RecordCall) (c' : List ℕ) → RecordHistory c xs c' → OpenBy r (deskIn c .places) (lastSaidIn r xs none) (deskIn c' .places)
 record-open-by-last r c k t xs c' h =
     let g = goes-on r c t (small-in c k) xs c' h in
-    subst (λ (b : Option Bool). Stands r (deskIn c .places) b (deskIn c' .places)) (sym (g .2 none)) (open-by-last r (deskIn c) (g .0) (deskIn c') (g .1))
+    subst (λ (b : Option Bool). OpenBy r (deskIn c .places) b (deskIn c' .places)) (sym (g .2 none)) (open-by-last r (deskIn c) (g .0) (deskIn c') (g .1))

@@ -12,7 +12,8 @@ use Rattle.desk.specs.declared.Waiting.the-variants as waiting
 use Rattle.desk.specs.declared.Lamp.{Lamp}
 use Rattle.desk.specs.declared.Lamp.the-variants as lamp
 use Rattle.desk.specs.declared.Desk.{Desk}
-use Rattle.desk.specs.Open.{placeCount}
+use Rattle.desk.specs.References.{placeCount}
+use Rattle.firmware.specs.Sizes.{deskSize}
 
 -- ---- a record that is a desk's
 unfoldable pub isWaiting : ℕ → ℕ → Bool
@@ -29,7 +30,7 @@ lampOf l = pick (l =? 0) lamp.Unknown (pick (l =? 1) lamp.Off lamp.On)
 
 -- the size first, then every code and number; what the places hold is for the desk to judge
 unfoldable pub isRecord : List ℕ → Bool
-isRecord c = length c =? 52 and isDesk (getD c 0 0) (getD c 1 0) (getD c 2 0) (getD c 3 0)
+isRecord c = length c =? deskSize and isDesk (getD c 0 0) (getD c 1 0) (getD c 2 0) (getD c 3 0)
 
 -- a place, from the octets that begin with it
 unfoldable pub placeIn : List ℕ → ℕ

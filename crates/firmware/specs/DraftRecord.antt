@@ -3,13 +3,15 @@
 -- Assumes nothing.
 use Prim.Native.Nat.{ℕ, _+_, _*_, _/_, _%_}
 use mathlib.Core.List.{List, [], _∷_, _++_}
-use lib.ListN.{replicate}
+use lib.ListN.{getD, replicate}
 use Rattle.rules.specs.Tests.{_=?_, pick}
 use Rattle.draft.specs.declared.Value.{Value}
 use Rattle.draft.specs.declared.Value.the-variants.{Date, Code, State, Text, Carried}
 use Rattle.draft.specs.declared.Entry.{Entry}
 use Rattle.draft.specs.declared.Draft.{Draft}
 use Rattle.firmware.specs.declared.drafts.Numbers.{Numbers}
+use Rattle.draft.specs.Meaning.{formNumber}
+use Rattle.rules.specs.declared.Form.the-variants.{CodeValue, DateValue, StateValue, TextValue, CarriedValue}
 
 -- start and length of a text, low octets first
 unfoldable pub textNumbers : ℕ → ℕ → ℕ → Numbers
@@ -17,11 +19,11 @@ textNumbers form s n = record { form = form; a = s % 256; b = s / 256 % 256; c =
 
 -- the kind of value, and its numbers: 0 a code; 1 month, day, hour and minute; 2 a state and, low octet first, its reference; 3 a text; 4 a carried text
 unfoldable pub numbersOf : Value → Numbers
-numbersOf (Code x) = record { form = 0; a = x; b = 0; c = 0; d = 0 }
-numbersOf (Date m y h n) = record { form = 1; a = m; b = y; c = h; d = n }
-numbersOf (State s r) = record { form = 2; a = s; b = 0; c = r % 256; d = r / 256 }
-numbersOf (Text s n) = textNumbers 3 s n
-numbersOf (Carried s n) = textNumbers 4 s n
+numbersOf (Code x) = record { form = formNumber CodeValue; a = x; b = 0; c = 0; d = 0 }
+numbersOf (Date m y h n) = record { form = formNumber DateValue; a = m; b = y; c = h; d = n }
+numbersOf (State s r) = record { form = formNumber StateValue; a = s; b = 0; c = r % 256; d = r / 256 }
+numbersOf (Text s n) = textNumbers (formNumber TextValue) s n
+numbersOf (Carried s n) = textNumbers (formNumber CarriedValue) s n
 
 -- the octets of an entry
 abbrev pub cellsOf : ℕ → Numbers → List ℕ
@@ -41,7 +43,18 @@ draftRecord d = d .kind ∷ d .count ∷ replicate 6 0 ++ entriesCells (d .entri
 -- ---- what the header's readers read back
 unfoldable pub valueOf : Numbers → Value
 valueOf f =
-    pick (f .form =? 0) (Code (f .a))
-    (pick (f .form =? 1) (Date (f .a) (f .b) (f .c) (f .d))
-    (pick (f .form =? 2) (State (f .a) (f .c + 256 * f .d))
-    (pick (f .form =? 3) (Text (f .a + 256 * f .b) (f .c + 256 * f .d)) (Carried (f .a + 256 * f .b) (f .c + 256 * f .d)))))
+    pick (f .form =? formNumber CodeValue) (Code (f .a))
+    (pick (f .form =? formNumber DateValue) (Date (f .a) (f .b) (f .c) (f .d))
+    (pick (f .form =? formNumber StateValue) (State (f .a) (f .c + 256 * f .d))
+    (pick (f .form =? formNumber TextValue) (Text (f .a + 256 * f .b) (f .c + 256 * f .d)) (Carried (f .a + 256 * f .b) (f .c + 256 * f .d)))))
+
+-- octet k of the entry i of a record
+abbrev pub cellIn : List ℕ → ℕ → ℕ → ℕ
+cellIn c i k = getD c (8 + 8 * i + k) 0
+
+-- the entry i of a record: its type, and its value by the kind and the numbers that stand behind it
+unfoldable pub entryIn : List ℕ → ℕ → Entry
+entryIn c i = record {
+  kind = cellIn c i 0;
+  value = valueOf (record { form = cellIn c i 1; a = cellIn c i 2; b = cellIn c i 3; c = cellIn c i 4; d = cellIn c i 5 });
+}

@@ -8,7 +8,7 @@ use Rattle.rules.specs.Table.{rulesOf}
 use Rattle.rules.specs.declared.Book.the-variants.{PresentLenient}
 use Rattle.listener.specs.declared.Listener.{Listener}
 use Rattle.listener.specs.declared.Heard.{Heard}
-use Rattle.listener.specs.Heard.{numberOf, placeOf, sizeOf, heardOf, newListener}
+use Rattle.listener.specs.Heard.{told, heardOf, newListener}
 use Rattle.draft.specs.Packing.{draftOf}
 use Rattle.message.specs.Parameters.{messageIn}
 use Rattle.message.specs.declared.Verdict.{Verdict}
@@ -17,8 +17,8 @@ use Rattle.message.specs.declared.Part.{Part}
 use Rattle.message.specs.declared.Part.the-variants.{At, Nowhere}
 use Rattle.message.specs.Verdict.{verdictOf}
 use Rattle.message.specs.Walking.{countedAt}
-use Rattle.caption.specs.declared.Found.{Found}
-use Rattle.caption.specs.declared.Found.the-variants as found
+use Rattle.caption.specs.declared.Shown.{Shown}
+use Rattle.caption.specs.declared.Shown.the-variants as found
 use Rattle.caption.specs.Caption as caption
 use Rattle.caption.specs.Caption.{findOf}
 use Rattle.reader.specs.declared.Packed.{Packed}
@@ -36,20 +36,21 @@ use Rattle.firmware.specs.declared.Decoded.{Decoded}
 use Rattle.firmware.specs.declared.Decoded.the-variants.{Known, Unknown}
 use Rattle.firmware.specs.Record.{decodeOf, recordOf}
 use Rattle.firmware.specs.Word.{packed}
+use Rattle.firmware.specs.Sizes.{listenerSize, draftSize, deskSize, partSize}
 
 -- number 17 at place 0, and 0 in every other field
 abbrev pub badRecord : ℕ
 badRecord = packed 17 0 0 0
 
 unfoldable pub resetAnswer : List ℕ → ℕ
-resetAnswer c = pick (length c =? 16) (packed 0 0 0 0) badRecord
+resetAnswer c = pick (length c =? listenerSize) (packed 0 0 0 0) badRecord
 
 unfoldable pub resetRecord : List ℕ → List ℕ
-resetRecord c = pick (length c =? 16) (recordOf (newListener PresentLenient)) c
+resetRecord c = pick (length c =? listenerSize) (recordOf (newListener PresentLenient)) c
 
 -- what a call of the listener answers, as a word
 unfoldable pub wordOf : Heard → ℕ
-wordOf h = packed (numberOf (h .answer)) (placeOf (h .answer)) (sizeOf (h .answer)) (h .taken)
+wordOf h = packed (told (h .answer) .number) (told (h .answer) .place) (told (h .answer) .size) (h .taken)
 
 unfoldable pub outcomeOf : Listener → List ℕ → Outcome
 outcomeOf l o = record { listener = heardOf l o .listener; word = wordOf (heardOf l o) }
@@ -70,10 +71,10 @@ listenRecord c o = recorded (decodeOf c) c o
 
 -- ---- the whole read: the record is only written, so its size alone is judged; the answer's size is the text octets laid down
 unfoldable pub packedWord : Packed → ℕ
-packedWord p = packed (reads.numberOf p) (reads.placeOf p) (reads.sizeOf p) 0
+packedWord p = packed (reads.told p .number) (reads.told p .place) (reads.told p .size) 0
 
 unfoldable pub readAnswer : List ℕ → List ℕ → List ℕ → ℕ
-readAnswer o c t = pick (length c =? 688) (packedWord (packOf (rulesOf PresentLenient) o (length t))) badRecord
+readAnswer o c t = pick (length c =? draftSize) (packedWord (packOf (rulesOf PresentLenient) o (length t))) badRecord
 
 -- the record of the message's draft; as it was with a refusal
 unfoldable pub recordFrom : List ℕ → List ℕ → Packed → List ℕ
@@ -81,21 +82,21 @@ recordFrom o c (Texts n) = draftRecord (draftOf (rulesOf PresentLenient) (messag
 recordFrom o c (Refused f) = c
 
 unfoldable pub readRecord : List ℕ → List ℕ → List ℕ → List ℕ
-readRecord o c t = pick (length c =? 688) (recordFrom o c (packOf (rulesOf PresentLenient) o (length t))) c
+readRecord o c t = pick (length c =? draftSize) (recordFrom o c (packOf (rulesOf PresentLenient) o (length t))) c
 
 unfoldable pub readTexts : List ℕ → List ℕ → List ℕ → List ℕ
-readTexts o c t = pick (length c =? 688) (areaAfter (rulesOf PresentLenient) o t) t
+readTexts o c t = pick (length c =? draftSize) (areaAfter (rulesOf PresentLenient) o t) t
 
 -- ---- the desk
 unfoldable pub newDeskAnswer : List ℕ → ℕ
-newDeskAnswer c = pick (length c =? 52) (packed 0 0 0 0) badRecord
+newDeskAnswer c = pick (length c =? deskSize) (packed 0 0 0 0) badRecord
 
 unfoldable pub newDeskRecord : List ℕ → List ℕ
-newDeskRecord c = pick (length c =? 52) (deskRecord newDesk) c
+newDeskRecord c = pick (length c =? deskSize) (deskRecord newDesk) c
 
 -- number and place of an answer as a word
 unfoldable pub deskWord : desk.Answer → ℕ
-deskWord a = packed (settle.numberOf a) (settle.placeOf a) 0 0
+deskWord a = packed (settle.told a .number) (settle.told a .place) 0 0
 
 -- a record that is a desk's: word and record of that desk's settling; any other is 17 and stays
 unfoldable pub settleAnswer : List ℕ → List ℕ → ℕ
@@ -118,17 +119,17 @@ unfoldable pub countedAnswer : List ℕ → ℕ → ℕ
 countedAnswer o t = countedUnder (verdictOf (rulesOf PresentLenient) o) o t
 
 -- ---- the caption: the record is only written, so its size alone is judged
-unfoldable pub foundWord : Found → ℕ
-foundWord r = packed (caption.numberOf r) (caption.placeOf r) 0 0
+unfoldable pub foundWord : Shown → ℕ
+foundWord r = packed (caption.told r .number) (caption.told r .place) 0 0
 
 -- the record of the part that is found; as it was with a refusal
-unfoldable pub partFrom : List ℕ → Found → List ℕ
+unfoldable pub partFrom : List ℕ → Shown → List ℕ
 partFrom c (found.InMessage start n) = partRecord 0 start n
 partFrom c (found.InDirectory start n) = partRecord 1 start n
 partFrom c (found.Refused f) = c
 
 unfoldable pub captionAnswer : List ℕ → List ℕ → List ℕ → ℕ
-captionAnswer o d c = pick (length c =? 24) (foundWord (findOf (rulesOf PresentLenient) o d)) badRecord
+captionAnswer o d c = pick (length c =? partSize) (foundWord (findOf (rulesOf PresentLenient) o d)) badRecord
 
 unfoldable pub captionRecord : List ℕ → List ℕ → List ℕ → List ℕ
-captionRecord o d c = pick (length c =? 24) (partFrom c (findOf (rulesOf PresentLenient) o d)) c
+captionRecord o d c = pick (length c =? partSize) (partFrom c (findOf (rulesOf PresentLenient) o d)) c

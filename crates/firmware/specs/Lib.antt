@@ -1,4 +1,5 @@
 -- The root of what the exports promise.
+pub mod Sizes
 pub mod Record
 pub mod Word
 pub mod DeskRecord

@@ -18,6 +18,7 @@ use Rattle.listener.specs.declared.Listener.{Listener}
 use Rattle.firmware.specs.declared.Fields.{Fields}
 use Rattle.firmware.specs.declared.Decoded.{Decoded}
 use Rattle.firmware.specs.declared.Decoded.the-variants.{Known, Unknown}
+use Rattle.firmware.specs.Sizes.{listenerSize}
 
 unfoldable pub fieldsOf : List ℕ → Fields
 fieldsOf c = record {
@@ -75,8 +76,8 @@ openingOf s q r idle =
     (known (idle =? 0) (Waiting (Header r) q)))
 
 -- in a parameter: its length or an octet of its contents is to come
-unfoldable pub parameterOf : ℕ → Spot → ℕ → ℕ → ℕ → ℕ → ℕ → ℕ → Decoded
-parameterOf s q c n i m r idle =
+unfoldable pub parameterState : ℕ → Spot → ℕ → ℕ → ℕ → ℕ → ℕ → ℕ → Decoded
+parameterState s q c n i m r idle =
     pick (c ≤? lastPresent)
     (pick (s =? 3) (known (n + i + m + idle =? 0) (Waiting (Length (classCoded c) r) q))
     (known (idle =? 0) (Waiting (Content (classCoded c) n i m r) q)))
@@ -92,9 +93,9 @@ endedOf s p k idle =
 unfoldable pub stateOf : Fields → Decoded
 stateOf f =
     pick (f .stage ≤? 2) (openingOf (f .stage) (spotOf f) (f .room) (f .class + f .length + f .index + f .memory + f .number + f .spare))
-    (pick (f .stage ≤? 4) (parameterOf (f .stage) (spotOf f) (f .class) (f .length) (f .index) (f .memory) (f .room) (f .number + f .spare))
+    (pick (f .stage ≤? 4) (parameterState (f .stage) (spotOf f) (f .class) (f .length) (f .index) (f .memory) (f .room) (f .number + f .spare))
     (endedOf (f .stage) (f .place) (f .number) (f .class + f .length + f .index + f .memory + f .sum + f .room + f .spare)))
 
 -- a record of another size stands for nothing
 unfoldable pub decodeOf : List ℕ → Decoded
-decodeOf c = pick (length c =? 16) (stateOf (fieldsOf c)) Unknown
+decodeOf c = pick (length c =? listenerSize) (stateOf (fieldsOf c)) Unknown

@@ -1,22 +1,19 @@
 -- What demand 3 says of a call on a listener's record, read off the answer's word and over the written rules alone.
 -- Assumes nothing.
-use Prim.Native.Nat.{ℕ, suc, _+_, _≤_}
+use Prim.Native.Nat.{ℕ, suc, _+_, _≤_, _<_}
 use mathlib.Core.Path.{_≡_}
 use mathlib.Core.Logic.{_↔_}
 use mathlib.Core.List.{List, _++_}
 use lib.ListN.{length, take}
 use lib.Dec.{T}
-use Rattle.rules.specs.Message.{Accepts}
-use Rattle.rules.specs.Judge.{inRange}
 use Rattle.rules.specs.Endings.{Ending, Spoilt, Numbered}
 use Rattle.rules.specs.Language.{Language, languageOf}
 use Rattle.rules.specs.declared.Fault.{Fault}
 use Rattle.listener.specs.declared.Listener.{Listener}
-use Rattle.listener.specs.Heard.{numberOf, placeOf, sizeOf, answerOf}
 use Rattle.listener.specs.Hears.{Stands}
 use Rattle.firmware.specs.declared.Decoded.the-variants.{Known}
 use Rattle.firmware.specs.Record.{decodeOf}
-use Rattle.firmware.specs.Word.{wordNumber, wordPlace, wordSize, wordTaken}
+use Rattle.firmware.specs.Word.{packed, wordNumber, wordPlace, wordSize, wordTaken}
 
 -- The record's listener had taken the octets h since its reset, was given the run o, and the call answered w.
 pub record RecordHears (L : Language) (h o : List ℕ) (w : ℕ) : Type 0 where
@@ -30,6 +27,12 @@ pub record RecordHears (L : Language) (h o : List ℕ) (w : ℕ) : Type 0 where
   pub taken-waiting : wordNumber w ≡ 0 → wordSize w ≡ 0 → wordTaken w ≡ length o
   pub taken-message : (n : ℕ) → 1 ≤ n → wordSize w ≡ n → length h + wordTaken w ≡ n
   pub taken-refused : 1 ≤ wordNumber w → length h + wordTaken w ≡ suc (wordPlace w)
+  -- a place with a number alone, a size with none; and nothing else stands in the word
+  pub no-place : wordNumber w ≡ 0 → wordPlace w ≡ 0
+  pub no-size : 1 ≤ wordNumber w → wordSize w ≡ 0
+  pub whole : w ≡ packed (wordNumber w) (wordPlace w) (wordSize w) (wordTaken w)
+  -- it has its answer after 258 octets at the latest
+  pub answers-by-258 : wordNumber w ≡ 0 → wordSize w ≡ 0 → length (h ++ o) < 258
 
 -- a record stands for a listener that the octets h lead to
 pub record RecordStands (c h : List ℕ) : Type 0 where
@@ -42,22 +45,6 @@ pub record Sound (c : List ℕ) : Type 0 where
   pub listener : Listener
   pub known : decodeOf c ≡ Known listener
   pub in-range : T (languageOf (listener .book) .inRange (listener .state))
-
--- 17 at place 0, no size, nothing taken, and the record as it was
-pub record Seventeen (c : List ℕ) (w : ℕ) (d : List ℕ) : Type 0 where
-  pub number : wordNumber w ≡ 17
-  pub place : wordPlace w ≡ 0
-  pub size : wordSize w ≡ 0
-  pub taken : wordTaken w ≡ 0
-  pub as-it-was : d ≡ c
-
--- after an answer it takes none, says the same again and stays as it was
-pub record Again (l : Listener) (c : List ℕ) (w : ℕ) (d : List ℕ) : Type 0 where
-  pub number : wordNumber w ≡ numberOf (answerOf (l .state))
-  pub place : wordPlace w ≡ placeOf (answerOf (l .state))
-  pub size : wordSize w ≡ sizeOf (answerOf (l .state))
-  pub taken : wordTaken w ≡ 0
-  pub as-it-was : d ≡ c
 
 -- two calls on a run cut in two end as one call on the whole: the same record and answer, and the octets taken together
 pub record SameEnd (w w₁ w₂ : ℕ) (d d₂ : List ℕ) : Type 0 where

@@ -16,9 +16,9 @@ use Rattle.message.specs.declared.Verdict.{Verdict}
 use Rattle.message.specs.declared.Verdict.the-variants.{Declined}
 use Rattle.message.specs.Judges.{Judges}
 use Rattle.message.specs.Places.{contentsAt}
-use Rattle.caption.specs.declared.Found.{Found}
-use Rattle.caption.specs.declared.Found.the-variants.{Refused}
-use Rattle.caption.specs.Caption.{numberOf, placeOf, sideOf, startOf, lengthOf}
+use Rattle.caption.specs.declared.Shown.{Shown}
+use Rattle.caption.specs.declared.Shown.the-variants.{Refused}
+use Rattle.caption.specs.Caption.{told}
 use Rattle.caption.specs.Finds.{Finds}
 use Rattle.firmware.specs.Word.{Unpacked}
 use Rattle.firmware.specs.PartRecord.{partRecord, partSide, partStart, partLength}
@@ -36,11 +36,11 @@ pub record RecordCounts (o : List ℕ) (t w : ℕ) : Type 0 where
 
 -- the octets o, the directory d and a record c of 24 octets went in; the word w came back, and c' is what the record then held
 pub record RecordFinds (o d c : List ℕ) (w : ℕ) (c' : List ℕ) : Type 0 where
-  pub found : Found
+  pub found : Shown
   pub finds : Finds (rulesOf PresentLenient) o d found
-  pub word : Unpacked (numberOf found) (placeOf found) 0 0 w
+  pub word : Unpacked (told found .number) (told found .place) 0 0 w
   -- side, start and length of the part; as it was with a refusal
-  pub part : numberOf found ≡ 0 → c' ≡ partRecord (sideOf found) (startOf found) (lengthOf found)
+  pub part : told found .number ≡ 0 → c' ≡ partRecord (told found .side) (told found .start) (told found .size)
   pub refused : (f : Fault) → found ≡ Refused f → c' ≡ c
   -- and the header's readers read them back; every slice has fewer than 2^64 octets
-  pub read-back : length d < 256 ^ 8 → numberOf found ≡ 0 → (partSide c' ≡ sideOf found) × (partStart c' ≡ startOf found) × (partLength c' ≡ lengthOf found)
+  pub read-back : length d < 256 ^ 8 → told found .number ≡ 0 → (partSide c' ≡ told found .side) × (partStart c' ≡ told found .start) × (partLength c' ≡ told found .size)

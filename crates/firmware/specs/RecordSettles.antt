@@ -1,35 +1,35 @@
 -- What settling says and leaves on a desk's record, read off the answer's word and over the written rules alone.
 -- Assumes nothing.
-use Prim.Native.Nat.{ℕ}
+use Prim.Native.Nat.{ℕ, _+_, _*_}
 use mathlib.Core.Path.{_≡_}
-use mathlib.Core.Bool.{Bool}
+use mathlib.Core.Bool.{Bool, true, false}
+use mathlib.Core.Logic.{_↔_}
 use mathlib.Core.List.{List, [], _∷_}
-use mathlib.Core.Option.{Option, none}
+use mathlib.Core.Option.{Option, none, some}
 use lib.Dec.{T}
 use Rattle.rules.specs.Tests.{_=?_, pick}
 use Rattle.rules.specs.Table.{rulesOf}
 use Rattle.rules.specs.declared.Book.the-variants.{PresentLenient}
+use Rattle.rules.specs.Message as message
+use Rattle.rules.specs.Message.{octets, LegalMessage}
+use Rattle.rules.specs.Counting.{counted}
 use Rattle.desk.specs.declared.Desk.{Desk}
 use Rattle.desk.specs.declared.Answer.the-variants.{Done}
 use Rattle.desk.specs.declared.Outcome.{Outcome}
 use Rattle.desk.specs.History.{saidUnder, later}
 use Rattle.desk.specs.Holding.{Fit}
-use Rattle.desk.specs.Settle.{numberOf, placeOf}
+use Rattle.desk.specs.Settle.{told}
 use Rattle.desk.specs.Settles.{Settles}
 use Rattle.firmware.specs.DeskRecord.{isRecord, deskIn, deskRecord}
 use Rattle.firmware.specs.Word.{wordNumber, Unpacked}
+use Rattle.rules.specs.Octets.{referenceOf}
 
 -- a record that is the desk d's: the word has number and place of that desk's settling, the record is that of the desk it leaves
 pub record RecordSettles (d : Desk) (o : List ℕ) (w : ℕ) (c' : List ℕ) : Type 0 where
   pub outcome : Outcome
   pub settles : Settles (rulesOf PresentLenient) d o outcome
-  pub word : Unpacked (numberOf (outcome .answer)) (placeOf (outcome .answer)) 0 0 w
+  pub word : Unpacked (told (outcome .answer) .number) (told (outcome .answer) .place) 0 0 w
   pub cells : c' ≡ deskRecord (outcome .desk)
-
--- any other record: 17, all other fields 0, and it stays
-pub record Seventeen (c : List ℕ) (w : ℕ) (c' : List ℕ) : Type 0 where
-  pub word : Unpacked 17 0 0 0 w
-  pub cells : c' ≡ c
 
 -- size and codes are right, every place is in range, and no reference stands twice
 pub record IsDesk (c : List ℕ) : Type 0 where
@@ -50,3 +50,21 @@ saidIn r x = pick (wordNumber (x .word) =? 0) (saidUnder (rulesOf PresentLenient
 unfoldable pub lastSaidIn : ℕ → List RecordCall → Option Bool → Option Bool
 lastSaidIn r [] b = b
 lastSaidIn r (x ∷ xs) b = lastSaidIn r xs (later (saidIn r x) b)
+
+-- ---- over the written rules
+-- the call got number 0, with a notice m whose 0DH counts with the state s and the reference r
+pub record NamesIn (x : RecordCall) (s r : ℕ) : Type 0 where
+  pub m : message.Message
+  pub legal : LegalMessage (rulesOf PresentLenient) m
+  pub is : octets m ≡ x .octets
+  pub notice : m .kind ≡ 0x82
+  pub done : wordNumber (x .word) ≡ 0
+  pub high : ℕ
+  pub low : ℕ
+  pub counts : counted (rulesOf PresentLenient) m 0x0D ≡ some (s ∷ high ∷ low ∷ [])
+  pub reference : referenceOf high low ≡ r
+
+-- what a call says of r: open exactly with FFH, not open exactly with 00H
+pub record SaysIn (r : ℕ) (x : RecordCall) : Type 0 where
+  pub opens : (saidIn r x ≡ some true) ↔ NamesIn x 0xFF r
+  pub closes : (saidIn r x ≡ some false) ↔ NamesIn x 0x00 r

@@ -8,8 +8,9 @@ ghost use mathlib.Core.List.{_++_};
 ghost use Prim.Native.Nat.{_≤_};
 ghost use lib.ListN.{length, take, drop};
 ghost use Rattle.rules.specs.Laying.{laid};
-ghost use Rattle.desk.specs.Open.{placeCount};
+ghost use Rattle.desk.specs.References.{placeCount};
 ghost use Rattle.firmware.specs.DeskRecord as record-of;
+ghost use Rattle.firmware.specs.Sizes.{deskSize};
 
 // The octets of a desk's record.
 pub(crate) const DESK: usize = 52;
@@ -76,7 +77,7 @@ fn place_in(cells: &[u8]) -> u32
 }
 
 fn places_in(cells: &[u8]) -> [u32; PLACES]
-    requires { ⌜ length (now cells) ≡ 52 ⌝ }
+    requires { ⌜ length (now cells) ≡ deskSize ⌝ }
     ensures { λ r. ⌜ r ≡ record-of.placesIn placeCount (drop 4 (now (cells .entry))) ⌝ }
 {
     let mut places: [u32; PLACES] = [0; PLACES];
@@ -90,7 +91,7 @@ fn places_in(cells: &[u8]) -> [u32; PLACES]
 }
 
 pub(crate) fn decode(cells: &[u8]) -> Desk
-    requires { ⌜ length (now cells) ≡ 52 ⌝ }
+    requires { ⌜ length (now cells) ≡ deskSize ⌝ }
     ensures { λ r. ⌜ r ≡ record-of.deskIn (now (cells .entry)) ⌝ }
 {
     let waiting = waiting_of(cells[0], cells[1]);
@@ -143,7 +144,7 @@ fn lay_place(cells: &mut [u8], place: u32)
 
 // Each place where it stands, behind the first four octets.
 fn lay_places(cells: &mut [u8], places: [u32; PLACES])
-    requires { ⌜ length (now cells) ≡ 52 ⌝ }
+    requires { ⌜ length (now cells) ≡ deskSize ⌝ }
     ensures { λ _. ⌜ now (cells .exit) ≡ take 4 (now (cells .entry)) ++ record-of.placesCells places ⌝ }
 {
     let mut i = 0;
@@ -155,7 +156,7 @@ fn lay_places(cells: &mut [u8], places: [u32; PLACES])
 }
 
 pub(crate) fn encode(cells: &mut [u8], d: Desk)
-    requires { ⌜ length (now cells) ≡ 52 ⌝ }
+    requires { ⌜ length (now cells) ≡ deskSize ⌝ }
     ensures { λ _. ⌜ now (cells .exit) ≡ record-of.deskRecord d ⌝ }
 {
     let waiting = d.waiting;

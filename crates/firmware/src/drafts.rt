@@ -12,6 +12,7 @@ ghost use Rattle.rules.specs.Laying.{laid};
 ghost use Rattle.draft.specs.Packing.{draftOf};
 ghost use Rattle.message.specs.Parameters.{messageIn};
 ghost use Rattle.firmware.specs.DraftRecord as record-of;
+ghost use Rattle.firmware.specs.Sizes.{draftSize};
 
 // The kind of a value and its numbers.
 struct Numbers {
@@ -98,7 +99,7 @@ fn clear(cells: &mut [u8])
 
 // The entries of the message's parameters, each at its place; how many there are.
 fn lay_entries(octets: &[u8], cells: &mut [u8]) -> usize
-    requires { ⌜ now cells ≡ replicate 688 0 ⌝ }
+    requires { ⌜ now cells ≡ replicate draftSize 0 ⌝ }
     ensures { λ r. ⌜ (r ≡ draftOf (rulesOf book.PresentLenient) (messageIn (now (octets .entry))) .count) × (now (cells .exit) ≡ replicate 8 0 ++ record-of.entriesCells (draftOf (rulesOf book.PresentLenient) (messageIn (now (octets .entry))) .entries)) ⌝ }
 {
     let mut at: usize = 2;
@@ -123,7 +124,7 @@ fn lay_entries(octets: &[u8], cells: &mut [u8]) -> usize
 
 // The record of a message's draft, whatever it held.
 pub(crate) fn lay_draft(octets: &[u8], cells: &mut [u8])
-    requires { ⌜ length (now cells) ≡ 688 ⌝ }
+    requires { ⌜ length (now cells) ≡ draftSize ⌝ }
     ensures { λ _. ⌜ now (cells .exit) ≡ record-of.draftRecord (draftOf (rulesOf book.PresentLenient) (messageIn (now (octets .entry)))) ⌝ }
 {
     clear(cells);

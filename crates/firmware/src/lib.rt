@@ -3,7 +3,7 @@ mod desks;
 mod drafts;
 mod parts;
 
-use caption::Found;
+use caption::Shown;
 use desks::DESK;
 use listener::Answer;
 use listener::Listener;
@@ -21,13 +21,14 @@ ghost use Prim.Native.Nat.{_+_, _*_, _≤_};
 ghost use lib.ListN.{length};
 ghost use Rattle.rules.specs.Table.{rulesOf};
 ghost use Rattle.rules.specs.declared.Book.the-variants as book;
-ghost use Rattle.listener.specs.Heard.{numberOf, placeOf, sizeOf};
+ghost use Rattle.listener.specs.Heard.{told};
 ghost use Rattle.message.specs.Walking.{countedAt};
 ghost use Rattle.caption.specs.Caption.{findOf};
 ghost use Rattle.reader.specs.Read.{packOf, areaAfter};
 ghost use Rattle.firmware.specs.Record as record-of;
 ghost use Rattle.firmware.specs.Word as word;
 ghost use Rattle.firmware.specs.Exports as exports;
+ghost use Rattle.firmware.specs.Sizes.{listenerSize, draftSize, partSize};
 
 // The octets of a listener's record.
 const LISTENER: usize = 16;
@@ -67,7 +68,7 @@ fn six(a: u8, b: u8, c: u8, d: u8, e: u8, f: u8) -> u16
 }
 
 fn fields_of(cells: &[u8]) -> Fields
-    requires { ⌜ length (now cells) ≡ 16 ⌝ }
+    requires { ⌜ length (now cells) ≡ listenerSize ⌝ }
     ensures { λ r. ⌜ r ≡ record-of.fieldsOf (now (cells .entry)) ⌝ }
 {
     let stage = cells[0];
@@ -140,7 +141,7 @@ fn parameter_of(
     idle: u32,
 ) -> Decoded
     requires { ⌜ idle ≤ 100000 ⌝ }
-    ensures { λ r. ⌜ r ≡ record-of.parameterOf stage q code length index memory room idle ⌝ }
+    ensures { λ r. ⌜ r ≡ record-of.parameterState stage q code length index memory room idle ⌝ }
 {
     if rules::LAST_PRESENT < code {
         return Decoded::Unknown;
@@ -289,7 +290,7 @@ fn fields_for(s: State) -> Fields
 }
 
 fn lay(cells: &mut [u8], f: Fields)
-    requires { ⌜ length (now cells) ≡ 16 ⌝ }
+    requires { ⌜ length (now cells) ≡ listenerSize ⌝ }
     ensures { λ _. ⌜ now (cells .exit) ≡ record-of.laidFields f ⌝ }
 {
     let low = (f.place % 256) as u8;
@@ -313,7 +314,7 @@ fn lay(cells: &mut [u8], f: Fields)
 }
 
 fn encode(cells: &mut [u8], l: Listener)
-    requires { ⌜ length (now cells) ≡ 16 ⌝ }
+    requires { ⌜ length (now cells) ≡ listenerSize ⌝ }
     ensures { λ _. ⌜ now (cells .exit) ≡ record-of.recordOf l ⌝ }
 {
     let state = l.state;
@@ -329,7 +330,7 @@ fn packed(number: u8, place: u16, size: u16, taken: usize) -> u64
 
 fn word_of(a: Answer, taken: usize) -> u64
     requires { ⌜ taken ≤ 258 ⌝ }
-    ensures { λ r. ⌜ r ≡ word.packed (numberOf a) (placeOf a) (sizeOf a) taken ⌝ }
+    ensures { λ r. ⌜ r ≡ word.packed (told a .number) (told a .place) (told a .size) taken ⌝ }
 {
     match a {
         Answer::Waits => packed(0, 0, 0, taken),
@@ -365,7 +366,7 @@ fn packed_word(p: Packed) -> u64
 
 // The texts, and the record where they were laid down.
 fn read_into(octets: &[u8], cells: &mut [u8], texts: &mut [u8]) -> u64
-    requires { ⌜ length (now cells) ≡ 688 ⌝ }
+    requires { ⌜ length (now cells) ≡ draftSize ⌝ }
     ensures answer { λ r. ⌜ r ≡ exports.packedWord (packOf (rulesOf book.PresentLenient) (now (octets .entry)) (length (now (texts .entry)))) ⌝ }
     ensures cells { λ r. ⌜ now (cells .exit) ≡ exports.recordFrom (now (octets .entry)) (now (cells .entry)) (packOf (rulesOf book.PresentLenient) (now (octets .entry)) (length (now (texts .entry)))) ⌝ }
     ensures texts { λ r. ⌜ now (texts .exit) ≡ areaAfter (rulesOf book.PresentLenient) (now (octets .entry)) (now (texts .entry)) ⌝ }
@@ -403,21 +404,21 @@ fn counted_in(octets: &[u8], kind: u8) -> u64
 
 // The record of the part that is found; as it was with a refusal.
 fn caption_into(octets: &[u8], directory: &[u8], cells: &mut [u8]) -> u64
-    requires { ⌜ length (now cells) ≡ 24 ⌝ }
+    requires { ⌜ length (now cells) ≡ partSize ⌝ }
     ensures answer { λ r. ⌜ r ≡ exports.foundWord (findOf (rulesOf book.PresentLenient) (now (octets .entry)) (now (directory .entry))) ⌝ }
     ensures cells { λ r. ⌜ now (cells .exit) ≡ exports.partFrom (now (cells .entry)) (findOf (rulesOf book.PresentLenient) (now (octets .entry)) (now (directory .entry))) ⌝ }
 {
     let found = caption::find(Book::PresentLenient, octets, directory);
     match found {
-        Found::InMessage { start, length: n } => {
+        Shown::InMessage { start, length: n } => {
             parts::lay_part(cells, 0, start, n);
             packed(0, 0, 0, 0)
         }
-        Found::InDirectory { start, length: n } => {
+        Shown::InDirectory { start, length: n } => {
             parts::lay_part(cells, 1, start, n);
             packed(0, 0, 0, 0)
         }
-        Found::Refused(f) => packed(f.number, f.place, 0, 0),
+        Shown::Refused(f) => packed(f.number, f.place, 0, 0),
     }
 }
 

@@ -4,6 +4,7 @@ ghost use Prim.Native.Nat.{_≤_};
 ghost use lib.ListN as list;
 ghost use Rattle.rules.specs.Laying.{laid};
 ghost use Rattle.firmware.specs.PartRecord as record-of;
+ghost use Rattle.firmware.specs.Sizes.{partSize};
 
 // The octets of a part's record.
 pub(crate) const PART: usize = 24;
@@ -47,7 +48,7 @@ fn lay_side(cells: &mut [u8], side: u8)
 
 // The whole record, whatever it held.
 pub(crate) fn lay_part(cells: &mut [u8], side: u8, start: usize, length: usize)
-    requires { ⌜ list.length (now cells) ≡ 24 ⌝ }
+    requires { ⌜ list.length (now cells) ≡ partSize ⌝ }
     ensures { λ _. ⌜ now (cells .exit) ≡ record-of.partRecord side start length ⌝ }
 {
     lay_side(cells, side);

@@ -3,11 +3,11 @@
 use Prim.Native.Nat.{ℕ, _<_}
 use native.Mathlib.Omega.{arith}
 use lib.Dec.{T}
-use Rattle.rules.specs.Tests.{both, le-of}
+use Rattle.rules.proofs.Tests.{both, le-of}
 use Rattle.rules.specs.Table.{Rules}
-use Rattle.rules.specs.ContentLaw.{SoundRules}
+use Rattle.rules.proofs.ContentLaw.{SoundRules}
 use Rattle.rules.specs.Judge.{inRange}
-use Rattle.rules.specs.InRange.{near}
+use Rattle.rules.proofs.InRange.{near}
 use Rattle.rules.specs.declared.Class.{Class}
 use Rattle.rules.specs.declared.Stage.{Stage}
 use Rattle.rules.specs.declared.Stage.the-variants.{Content}

@@ -4,25 +4,25 @@ use Prim.Native.Nat.{ℕ, _+_, _≤_, _<_}
 use mathlib.Core.Path.{_≡_, refl, sym, _∙_, ap, subst}
 use mathlib.Core.Bool.{true, false}
 use mathlib.Core.List.{List}
-use native.Mathlib.Numerals.{add-one}
 use native.Mathlib.Omega.{arith}
 use lib.ListN.{length, drop, getD}
 use lib.Dec.{T}
-use Rattle.rules.specs.Tests.{pick-yes, pick-not, of-eq, eq-of}
+use Rattle.rules.proofs.Tests.{pick-yes, pick-not, of-eq, eq-of}
 use Rattle.rules.specs.Table.{Rules}
-use Rattle.rules.specs.ContentLaw.{SoundRules}
-use Rattle.rules.specs.ContentJudge.{okAt, remember}
-use Rattle.rules.specs.Machine.{step, moved, declined}
+use Rattle.rules.proofs.ContentLaw.{SoundRules}
+use Rattle.rules.specs.ContentJudge.{okAt}
+use Rattle.rules.specs.Machine.{step, declined}
 use Rattle.rules.specs.Judge.{contents, final, fits, after, fault, machine, inRange}
-use Rattle.rules.specs.InRange.{in-range-closed}
-use Rattle.rules.specs.Steps.{takes, declines}
-use Rattle.rules.specs.declared.Class.{Class}
+use Rattle.rules.proofs.InRange.{in-range-closed}
+use Rattle.rules.proofs.Steps.{takes, declines}
 use Rattle.rules.specs.declared.Spot.{Spot}
 use Rattle.rules.specs.declared.Stage.{Stage}
 use Rattle.rules.specs.declared.Stage.the-variants.{Header, Content}
 use Rattle.rules.specs.declared.State.{State}
 use Rattle.rules.specs.declared.State.the-variants.{Waiting}
-use Rattle.listener.specs.Heard.{stopped, runFrom, Onward}
+use Rattle.listener.specs.Heard.{stopped, runFrom, insideOf, further, Onward}
+use Rattle.listener.specs.declared.Frame.{Frame}
+use Rattle.listener.specs.declared.Inside.{Inside}
 use Rattle.listener.proofs.Runs.{run-more}
 
 waits-on : (w : State) (s : Stage) (q : Spot) → w ≡ Waiting s q → stopped w ≡ false
@@ -41,18 +41,16 @@ module _ (R : Rules) (S : SoundRules R) where
   }
 
   -- ---- along contents
-  module _ (class : Class) (n room : ℕ) (o : List ℕ) (w : State) (from : ℕ) where
-    abbrev at : ℕ → ℕ → Spot → State
-    at k m q = Waiting (Content class n k m room) q
-
+  module _ (f : Frame) (o : List ℕ) (w : State) (from : ℕ) where
     -- where the loop stands: at octet i and index k of the contents
     pub record Stands (i k m : ℕ) (q : Spot) : Type 0 where
       pub gone : from ≤ i
       pub inside : i ≤ length o
-      pub in-range : T (inRange R (at k m q))
-      pub same : runFrom i (machine R) (at k m q) (drop i o) ≡ runFrom from (machine R) w (drop from o)
+      pub in-range : T (inRange R (insideOf f k m q))
+      pub same : runFrom i (machine R) (insideOf f k m q) (drop i o) ≡ runFrom from (machine R) w (drop from o)
 
-    pub stands-first : (k m : ℕ) (q : Spot) → w ≡ at k m q → T (inRange R (at k m q)) → from < length o → Stands from k m q
+    pub stands-first : (k m : ℕ) (q : Spot) → w ≡ insideOf f k m q → T (inRange R (insideOf f k m q)) →
+        from < length o → Stands from k m q
     stands-first k m q e t l = record {
       gone = omega arith;
       inside = omega arith;
@@ -61,32 +59,46 @@ module _ (R : Rules) (S : SoundRules R) where
     }
 
     module _ (i k m : ℕ) (q : Spot) (d : Stands i k m q) where
+      abbrev here : Stage
+      here = Content (f .class) (f .length) k m (f .room)
+
       -- the run is over
-      pub stands-ended : length o ≤ i → from < length o → Onward R w o from (record { state = at k m q; taken = i })
-      stands-ended h l = record { further = omega arith; inside = d .inside; in-range = d .in-range; same = d .same }
+      pub stands-ended : length o ≤ i → from < length o → (s : Stage) → s ≡ here →
+          Onward R w o from (record { state = Waiting s q; taken = i })
+      stands-ended h l s e = rw e (record { further = omega arith; inside = d .inside; in-range = d .in-range; same = d .same })
 
       module _ (h : i < length o) (x : getD o i 0 < 256) where
         -- the state after the octet, whatever it is
-        goes : (r : State) → r ≡ step (machine R) (at k m q) (getD o i 0) → Onward R w o from (record { state = r; taken = i + 1 })
-        goes r e = let z = one-step (Content class n k m room) q o i r (d .in-range) h x e in record { further = omega (arith, d .gone); inside = z .inside; in-range = z .in-range; same = z .same ∙ d .same }
+        goes : (r : State) → r ≡ step (machine R) (Waiting here q) (getD o i 0) →
+            Onward R w o from (record { state = r; taken = i + 1 })
+        goes r e =
+            let z = one-step here q o i r (d .in-range) h x e in
+            record { further = omega (arith, d .gone); inside = z .inside; in-range = z .in-range; same = z .same ∙ d .same }
 
         -- it is one of the contents': they go on, or are over
-        module _ (t : okAt class n k m (getD o i 0) ≡ true) (m' : ℕ) (p : Spot) (e : m' ≡ remember class n k m (getD o i 0)) (f : p ≡ moved (machine R) (Content class n k m room) q (getD o i 0)) where
-          next : (s : Stage) → s ≡ contents class n (k + 1) m' room → Onward R w o from (record { state = Waiting s p; taken = i + 1 })
-          unfolding final fits after
-          next s u = goes (Waiting s p) (takes R (Content class n k m room) q (getD o i 0) s p refl t (u ∙ (λ j. contents class n (add-one k j) (e j) room)) f)
+        module _ (t : okAt (f .class) (f .length) k m (getD o i 0) ≡ true)
+            (p : Inside) (e : p ≡ further R f k m q (getD o i 0)) where
+          next : (s : Stage) → s ≡ contents (f .class) (f .length) (p .index) (p .memory) (f .room) →
+              Onward R w o from (record { state = Waiting s (p .spot); taken = i + 1 })
+          unfolding further final fits after
+          next s u =
+              goes (Waiting s (p .spot)) (takes R here q (getD o i 0) s (p .spot) refl t
+              (u ∙ ap (λ (z : Inside). contents (f .class) (f .length) (z .index) (z .memory) (f .room)) e)
+              (ap (λ (z : Inside). z .spot) e))
 
-          pub stands-over : k + 1 ≡ n → Onward R w o from (record { state = Waiting (Header room) p; taken = i + 1 })
+          pub stands-over : p .index ≡ f .length →
+              Onward R w o from (record { state = Waiting (Header (f .room)) (p .spot); taken = i + 1 })
           unfolding contents
-          stands-over u = next (Header room) (sym (pick-yes _ _ _ (of-eq _ _ u)))
+          stands-over u = next (Header (f .room)) (sym (pick-yes _ _ _ (of-eq _ _ u)))
 
-          pub stands-more : (k + 1 ≡ n → ⊥) → Stands (i + 1) (k + 1) m' p
+          pub stands-more : (p .index ≡ f .length → ⊥) → Stands (i + 1) (p .index) (p .memory) (p .spot)
           unfolding contents
           stands-more u =
-              let z = next (Content class n (k + 1) m' room) (sym (pick-not _ _ _ (λ v. u (eq-of _ _ v)))) in
+              let z = next _ (sym (pick-not _ _ _ (λ v. u (eq-of _ _ v)))) in
               record { gone = omega (arith, d .gone); inside = z .inside; in-range = z .in-range; same = z .same }
 
         -- it spoils them
-        pub stands-spoilt : okAt class n k m (getD o i 0) ≡ false → (r : State) → r ≡ declined (machine R) (Content class n k m room) 5 q → Onward R w o from (record { state = r; taken = i + 1 })
+        pub stands-spoilt : okAt (f .class) (f .length) k m (getD o i 0) ≡ false → (s : Stage) → s ≡ here → (r : State) →
+            r ≡ declined (machine R) s 5 q → Onward R w o from (record { state = r; taken = i + 1 })
         unfolding final fits fault
-        stands-spoilt t r e = goes r (declines R (Content class n k m room) q (getD o i 0) r refl t e)
+        stands-spoilt t s g r e = goes r (declines R here q (getD o i 0) r refl t e)

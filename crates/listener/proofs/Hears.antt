@@ -9,15 +9,17 @@ use native.Mathlib.Omega.{arith}
 use lib.ListN.{length, length-append, take}
 use lib.Seq.{length-take-le}
 use lib.Dec.{T}
-use Rattle.rules.specs.Tests.{pick-yes, pick-not, decide, clash}
-use Rattle.rules.specs.Octets.{Octets, octets-append, octets-take}
+use Rattle.rules.proofs.Tests.{pick-yes, pick-not, decide, clash}
+use Rattle.rules.specs.Octets.{Octets}
+use Rattle.rules.proofs.Octets.{octets-append, octets-take}
 use Rattle.rules.specs.declared.Book.{Book}
 use Rattle.rules.specs.Machine as machine
 use Rattle.rules.specs.Refusals.{noted}
-use Rattle.rules.specs.Machine.{answer, run, start}
-use Rattle.rules.specs.Listening.{place, run-append}
-use Rattle.rules.specs.Language.{Language, Spoken, in-range-run, languageOf}
-use Rattle.rules.specs.Calls.{spoken-of, demand3-of}
+use Rattle.rules.specs.Machine.{answer, run, start, place}
+use Rattle.rules.proofs.Listening.{run-append}
+use Rattle.rules.specs.Language.{Language, languageOf}
+use Rattle.rules.proofs.Language.{Spoken, in-range-run}
+use Rattle.rules.proofs.Grammar.{spoken-of, demand3-of}
 use Rattle.rules.specs.declared.Fault.{Fault}
 use Rattle.rules.specs.declared.State.{State}
 use Rattle.rules.specs.declared.State.the-variants as state
@@ -25,7 +27,7 @@ use Rattle.listener.specs.declared.Listener.{Listener}
 use Rattle.listener.specs.declared.Answer.{Answer}
 use Rattle.listener.specs.declared.Answer.the-variants.{Waits, Message, Refused}
 use Rattle.listener.specs.declared.Heard.{Heard}
-use Rattle.listener.specs.Heard.{stopped, taken, answerOf, numberOf, placeOf, sizeOf, outOfRange, heardOf, heardIn, newListener}
+use Rattle.listener.specs.Heard.{stopped, taken, answerOf, told, outOfRange, stepped, heardOf, heardIn, newListener}
 use Rattle.listener.proofs.Runs.{run-stopped, taken-stopped, run-taken, place-taken, taken-all, taken-append, taken-most}
 use Rattle.listener.specs.Hears.{Hears, Stands}
 
@@ -77,9 +79,16 @@ not-stopped (state.Waiting s q) e = refl
 not-stopped (state.Message n) e = absurd e
 not-stopped (state.Refused f) e = absurd e
 
+-- a state that does not wait has its answer
+answered : (w : State) → (answerOf w ≡ Waits → ⊥) → stopped w ≡ true
+unfolding answerOf stopped
+answered (state.Waiting s q) n = absurd (n refl)
+answered (state.Message k) n = refl
+answered (state.Refused f) n = refl
+
 -- ---- a call in range
 module _ (l : Listener) (o : List ℕ) (t : T (L l .inRange (l .state))) where
-  pub in-range-heard : heardOf l o ≡ record { listener = record { book = l .book; state = run (M l) (l .state) o }; answer = answerOf (run (M l) (l .state) o); taken = taken (M l) (l .state) o }
+  pub in-range-heard : heardOf l o ≡ stepped (L l) l o
   unfolding heardIn
   in-range-heard = pick-yes _ _ _ t
 
@@ -136,6 +145,7 @@ module _ (l : Listener) (h : List ℕ) (s : Stands l h) where
       taken-waiting = λ a. took ∙ taken-all (M l) (l .state) o (rw ran (not-stopped _ (is-waiting _ (sym said ∙ a))));
       taken-message = λ n a. sym counts ∙ ap place (is-message _ n (sym said ∙ a));
       taken-refused = λ f a. sym counts ∙ ap place (is-refused _ f (sym said ∙ a));
+      answers-by-258 = λ a. demand3-of (l .book) .answers-by-258 (h ++ o) all (is-waiting _ (sym said ∙ a));
     }
       where
         by-message : (n : ℕ) → answer (M l) (h ++ o) ≡ state.Message n → answerOf (answer (M l) (h ++ o)) ≡ Message n
@@ -175,8 +185,18 @@ pub says-it-again : (l : Listener) (o : List ℕ) (r : Heard) → T (L l .inRang
 unfolding answerOf
 says-it-again l o r t s e = e ∙ in-range-heard l o t ∙ ap₃ (run-stopped (M l) (l .state) o s) (taken-stopped (M l) (l .state) o s)
   where
-    ap₃ : run (M l) (l .state) o ≡ l .state → taken (M l) (l .state) o ≡ 0 → _≡_ {A = Heard} (record { listener = record { book = l .book; state = run (M l) (l .state) o }; answer = answerOf (run (M l) (l .state) o); taken = taken (M l) (l .state) o }) (record { listener = l; answer = answerOf (l .state); taken = 0 })
+    ap₃ : run (M l) (l .state) o ≡ l .state → taken (M l) (l .state) o ≡ 0 → stepped (L l) l o ≡ (record { listener = l; answer = answerOf (l .state); taken = 0 })
     ap₃ a b = rw (a, b)
+
+-- an answer that a call gave, the next call gives again, takes none and leaves the listener as it was
+pub answer-stays : (l : Listener) (h : List ℕ) → Stands l h → (o : List ℕ) → Octets o → (r : Heard) → r ≡ heardOf l o → (r .answer ≡ Waits → ⊥) →
+    (o' : List ℕ) (r' : Heard) → r' ≡ heardOf (r .listener) o' → r' ≡ record { listener = r .listener; answer = r .answer; taken = 0 }
+answer-stays l h s o q r e n o' r' e' =
+    let z = e ∙ in-range-heard l o (stands-in-range l h s) in
+    let a : r .answer ≡ answerOf (r .listener .state) = ap (λ (x : Heard). x .answer) z ∙ sym (ap (λ (x : Heard). answerOf (x .listener .state)) z) in
+    let t = stands-in-range (r .listener) _ (stands-on l h s o q r e) in
+    says-it-again (r .listener) o' r' t (answered _ (λ w. n (a ∙ w))) e'
+    ∙ ap (λ (x : Answer). record { listener = r .listener; answer = x; taken = 0 }) (sym a)
 
 pub in-range-number : (l : Listener) (o : List ℕ) → Octets o → T (L l .inRange (l .state)) → (r : Heard) → r ≡ heardOf l o → (f : Fault) → r .answer ≡ Refused f → T (L l .given (f .number))
 in-range-number l o q t r e f a =
@@ -212,20 +232,20 @@ ranged H (state.Waiting s q) t = tt
 ranged H (state.Message n) t = H .sized n t
 ranged H (state.Refused f) t = let d = H .refused f t in let k = H .numbers _ (d .0) in (k .0, k .1, d .1)
 
-pub waits-told : (a : Answer) → Ranged a → ((numberOf a ≡ 0) × (sizeOf a ≡ 0)) ↔ (a ≡ Waits)
-unfolding numberOf sizeOf
+pub waits-told : (a : Answer) → Ranged a → ((told a .number ≡ 0) × (told a .size ≡ 0)) ↔ (a ≡ Waits)
+unfolding told
 waits-told Waits g = (λ _. refl, λ _. (refl, refl))
 waits-told (Message n) g = (λ e. absurd (omega (arith, e .1)), λ e. clash cc)
 waits-told (Refused f) g = (λ e. absurd (omega (arith, e .0)), λ e. clash cc)
 
-pub message-told : (a : Answer) (n : ℕ) → 1 ≤ n → (sizeOf a ≡ n) ↔ (a ≡ Message n)
-unfolding sizeOf
+pub message-told : (a : Answer) (n : ℕ) → 1 ≤ n → (told a .size ≡ n) ↔ (a ≡ Message n)
+unfolding told
 message-told Waits n l = (λ e. absurd (omega arith), λ e. clash cc)
 message-told (Message m) n l = (λ e. ap Message e, λ e. cc)
 message-told (Refused f) n l = (λ e. absurd (omega arith), λ e. clash cc)
 
-pub refused-told : (a : Answer) (f : Fault) → 1 ≤ f .number → ((numberOf a ≡ f .number) × (placeOf a ≡ f .place)) ↔ (a ≡ Refused f)
-unfolding numberOf placeOf
+pub refused-told : (a : Answer) (f : Fault) → 1 ≤ f .number → ((told a .number ≡ f .number) × (told a .place ≡ f .place)) ↔ (a ≡ Refused f)
+unfolding told
 refused-told Waits f l = (λ e. absurd (omega (arith, e .0)), λ e. clash cc)
 refused-told (Message n) f l = (λ e. absurd (omega (arith, e .0)), λ e. clash cc)
 refused-told (Refused g) f l = (λ e. (λ i. Refused (record { number = e .0 i; place = e .1 i })), λ e. let d : g ≡ f = cc in (ap (λ (x : Fault). x .number) d, ap (λ (x : Fault). x .place) d))

@@ -10,8 +10,8 @@ use native.Mathlib.Numerals.{add-one}
 use lib.ListN.{length, take, drop, getD, drop-of-length-le}
 use lib.Seq.{drop-cons}
 use Rattle.rules.specs.Tests.{pick}
-use Rattle.rules.specs.Machine.{Machine, step, run}
-use Rattle.rules.specs.Listening.{place, stepped, placed, message-stays, refused-stays}
+use Rattle.rules.specs.Machine.{Machine, step, run, place}
+use Rattle.rules.proofs.Listening.{stepped, placed, message-stays, refused-stays}
 use Rattle.rules.specs.declared.State.{State}
 use Rattle.rules.specs.declared.State.the-variants.{Waiting, Message, Refused}
 use Rattle.listener.specs.declared.Ran.{Ran}

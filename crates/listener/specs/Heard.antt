@@ -10,8 +10,11 @@ use Rattle.rules.specs.Tests.{pick}
 use Rattle.rules.specs.Table.{Rules}
 use Rattle.rules.specs.declared.Book.{Book}
 use Rattle.rules.specs.Refusals.{noted}
-use Rattle.rules.specs.Machine.{Machine, step, run, start}
+use Rattle.rules.specs.ContentJudge.{remember}
+use Rattle.rules.specs.Machine.{Machine, moved, step, run, start}
 use Rattle.rules.specs.Judge.{machine, inRange}
+use Rattle.rules.specs.declared.Spot.{Spot}
+use Rattle.rules.specs.declared.Stage.the-variants.{Content}
 use Rattle.rules.specs.declared.State.{State}
 use Rattle.rules.specs.declared.State.the-variants as state
 use Rattle.rules.specs.Language.{Language, languageOf}
@@ -20,6 +23,8 @@ use Rattle.listener.specs.declared.Answer.{Answer}
 use Rattle.listener.specs.declared.Answer.the-variants.{Waits, Message, Refused}
 use Rattle.listener.specs.declared.Heard.{Heard}
 use Rattle.listener.specs.declared.Ran.{Ran}
+use Rattle.listener.specs.declared.Frame.{Frame}
+use Rattle.listener.specs.declared.Inside.{Inside}
 
 -- it has its answer
 unfoldable pub stopped : State → Bool
@@ -37,21 +42,17 @@ answerOf (state.Waiting s q) = Waits
 answerOf (state.Message n) = Message n
 answerOf (state.Refused f) = Refused f
 
--- ---- this paper's number, place and size for each answer (0 where there is none)
-unfoldable pub numberOf : Answer → ℕ
-numberOf Waits = 0
-numberOf (Message n) = 0
-numberOf (Refused f) = f .number
+-- ---- what an answer tells (document 01, The forms we expect: a definition provides number and values for each case)
+-- the number and place of a refusal, the size of a message; 0 where there is none
+pub record Told : Type 0 where
+  pub number : ℕ
+  pub place : ℕ
+  pub size : ℕ
 
-unfoldable pub placeOf : Answer → ℕ
-placeOf Waits = 0
-placeOf (Message n) = 0
-placeOf (Refused f) = f .place
-
-unfoldable pub sizeOf : Answer → ℕ
-sizeOf Waits = 0
-sizeOf (Message n) = n
-sizeOf (Refused f) = 0
+unfoldable pub told : Answer → Told
+told Waits = record { number = 0; place = 0; size = 0 }
+told (Message n) = record { number = 0; place = 0; size = n }
+told (Refused f) = record { number = f .number; place = f .place; size = 0 }
 
 unfoldable pub runOf : Machine → State → List ℕ → Ran
 runOf M w h = record { state = run M w h; taken = taken M w h }
@@ -59,6 +60,18 @@ runOf M w h = record { state = run M w h; taken = taken M w h }
 -- the run from here on, where i octets are taken already
 unfoldable pub runFrom : ℕ → Machine → State → List ℕ → Ran
 runFrom i M w h = record { state = run M w h; taken = i + taken M w h }
+
+-- contents that have come so far
+abbrev pub insideOf : Frame → ℕ → ℕ → Spot → State
+insideOf f i m q = state.Waiting (Content (f .class) (f .length) i m (f .room)) q
+
+-- contents after octet x: the next index, what x leaves to remember, the next spot
+unfoldable pub further : Rules → Frame → ℕ → ℕ → Spot → ℕ → Inside
+further R f i m q x = record {
+  index = suc i;
+  memory = remember (f .class) (f .length) i m x;
+  spot = moved (machine R) (Content (f .class) (f .length) i m (f .room)) q x;
+}
 
 -- the run of o that stands at octet i in the state w stands further on, at r's octet in r's state, which is in range
 pub record Onward (R : Rules) (w : State) (o : List ℕ) (i : ℕ) (r : Ran) : Type 0 where
@@ -71,11 +84,16 @@ pub record Onward (R : Rules) (w : State) (o : List ℕ) (i : ℕ) (r : Ran) : T
 abbrev pub outOfRange : Listener → Heard
 outOfRange l = record { listener = l; answer = Refused (noted 17 0); taken = 0 }
 
+-- in range: its language's machine runs over the octets that it takes, and the answer tells where that ends
+abbrev pub stepped : Language → Listener → List ℕ → Heard
+stepped L l h = record {
+  listener = record { book = l .book; state = run (L .machine) (l .state) h };
+  answer = answerOf (run (L .machine) (l .state) h);
+  taken = taken (L .machine) (l .state) h;
+}
+
 unfoldable pub heardIn : Language → Listener → List ℕ → Heard
-heardIn L l h =
-    pick (L .inRange (l .state))
-    (record { listener = record { book = l .book; state = run (L .machine) (l .state) h }; answer = answerOf (run (L .machine) (l .state) h); taken = taken (L .machine) (l .state) h })
-    (outOfRange l)
+heardIn L l h = pick (L .inRange (l .state)) (stepped L l h) (outOfRange l)
 
 abbrev pub heardOf : Listener → List ℕ → Heard
 heardOf l h = heardIn (languageOf (l .book)) l h

@@ -1,15 +1,13 @@
 -- What demand 3 says of a call of the listener, over the written rules alone (document 01, Listening).
 -- Assumes nothing.
-use Prim.Native.Nat.{ℕ, suc, _+_, _≤_}
+use Prim.Native.Nat.{ℕ, suc, _+_, _≤_, _<_}
 use mathlib.Core.Path.{_≡_}
 use mathlib.Core.Logic.{_↔_}
 use mathlib.Core.List.{List, _++_}
 use lib.ListN.{length, take}
 use Rattle.rules.specs.Octets.{Octets}
 use Rattle.rules.specs.Message.{Accepts}
-use Rattle.rules.specs.Machine.{answer}
-use Rattle.rules.specs.Judge.{machine}
-use Rattle.rules.specs.Listening.{place}
+use Rattle.rules.specs.Machine.{answer, place}
 use Rattle.rules.specs.Endings.{Ending, Spoilt, Numbered}
 use Rattle.rules.specs.Language.{Language, languageOf}
 use Rattle.rules.specs.declared.Fault.{Fault}
@@ -29,6 +27,8 @@ pub record Hears (L : Language) (h o : List ℕ) (r : Heard) : Type 0 where
   pub taken-waiting : r .answer ≡ Waits → r .taken ≡ length o
   pub taken-message : (n : ℕ) → r .answer ≡ Message n → length h + r .taken ≡ n
   pub taken-refused : (f : Fault) → r .answer ≡ Refused f → length h + r .taken ≡ suc (f .place)
+  -- it has its answer after 258 octets at the latest
+  pub answers-by-258 : r .answer ≡ Waits → length (h ++ o) < 258
 
 -- a listener stands where the octets h lead, and has taken each of them
 pub record Stands (l : Listener) (h : List ℕ) : Type 0 where

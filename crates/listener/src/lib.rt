@@ -17,7 +17,8 @@ ghost use Rattle.rules.specs.Judge.{given, inRange};
 ghost use Rattle.rules.specs.Judge as judge;
 ghost use Rattle.rules.specs.declared.State.the-variants as state;
 ghost use Rattle.rules.specs.declared.Stage.the-variants as stage;
-ghost use Rattle.listener.specs.Heard.{answerOf, runOf, Onward, heardOf, newListener};
+ghost use Rattle.listener.specs.Heard.{answerOf, runOf, insideOf, Onward, heardOf, newListener};
+ghost use Rattle.listener.specs.Heard as heard;
 
 pub struct Listener {
     pub book: Book,
@@ -41,6 +42,20 @@ pub struct Heard {
 struct Ran {
     state: State,
     taken: usize,
+}
+
+// What stays while contents come: their class, their length, and the room after them.
+struct Frame {
+    class: Class,
+    length: u8,
+    room: u8,
+}
+
+// What moves with each octet of contents: the index of the one to come, what is remembered, and the spot.
+struct Inside {
+    index: u8,
+    memory: u8,
+    spot: Spot,
 }
 
 fn moved(book: Book, stage: Stage, q: Spot, x: u8) -> Spot
@@ -145,63 +160,70 @@ fn at_length(book: Book, class: Class, room: u8, q: Spot, x: u8) -> State
     }
 }
 
-// Contents as far as they go: to their end, to the octet that spoils them, or to the end of the run. Class, length and room stay; index, memory and spot move.
-fn along(
-    book: Book,
-    class: Class,
-    length: u8,
-    first: u8,
-    kept: u8,
-    room: u8,
-    spot: Spot,
-    octets: &[u8],
-    from: usize,
-) -> Ran
-    requires { ⌜ T (inRange (rulesOf book) (state.Waiting (stage.Content class length first kept room) spot)) × (from < list.length (now octets)) ⌝ }
-    ensures { λ r. ⌜ Onward (rulesOf book) (state.Waiting (stage.Content class length first kept room) spot) (now (octets .entry)) from r ⌝ }
+// The octet at this index of contents is to come.
+fn content_at(f: Frame, index: u8, memory: u8) -> Stage
+    ensures { λ r. ⌜ r ≡ stage.Content (f .class) (f .length) index memory (f .room) ⌝ }
 {
+    let class = f.class;
+    Stage::Content {
+        class,
+        length: f.length,
+        index,
+        memory,
+        room: f.room,
+    }
+}
+
+// Contents after an octet that may stand in them.
+fn further(book: Book, f: Frame, index: u8, memory: u8, q: Spot, x: u8) -> Inside
+    requires { ⌜ (index < 255) × (q .place < 65535) ⌝ }
+    ensures { λ r. ⌜ r ≡ heard.further (rulesOf book) f index memory q x ⌝ }
+{
+    let class = f.class;
+    let here = content_at(f, index, memory);
+    let kept = rules::remember(class, f.length, index, memory, x);
+    let spot = moved(book, here, q, x);
+    Inside {
+        index: index + 1,
+        memory: kept,
+        spot,
+    }
+}
+
+// Contents as far as they go: to their end, to the octet that spoils them, or to the end of the run.
+fn along(book: Book, f: Frame, first: u8, kept: u8, spot: Spot, octets: &[u8], from: usize) -> Ran
+    requires { ⌜ T (inRange (rulesOf book) (insideOf f first kept spot)) × (from < list.length (now octets)) ⌝ }
+    ensures { λ r. ⌜ Onward (rulesOf book) (insideOf f first kept spot) (now (octets .entry)) from r ⌝ }
+{
+    let class = f.class;
     let mut index = first;
     let mut memory = kept;
     let mut q = spot;
     let mut i = from;
     while i < octets.len() {
         let x = octets[i];
-        let here = Stage::Content {
-            class,
-            length,
-            index,
-            memory,
-            room,
-        };
-        if rules::content_ok(class, length, index, memory, x) {
-            memory = rules::remember(class, length, index, memory, x);
-            index += 1;
-            q = moved(book, here, q, x);
-            if index == length {
-                let taken = i + 1;
+        if rules::content_ok(class, f.length, index, memory, x) {
+            let next = further(book, f, index, memory, q, x);
+            index = next.index;
+            memory = next.memory;
+            q = next.spot;
+            if index == f.length {
                 return Ran {
-                    state: State::Waiting(Stage::Header { room }, q),
-                    taken,
+                    state: State::Waiting(Stage::Header { room: f.room }, q),
+                    taken: i + 1,
                 };
             }
             i += 1;
         } else {
-            let taken = i + 1;
+            let here = content_at(f, index, memory);
             return Ran {
                 state: declined(book, here, 5, q),
-                taken,
+                taken: i + 1,
             };
         }
     }
-    let there = Stage::Content {
-        class,
-        length,
-        index,
-        memory,
-        room,
-    };
     Ran {
-        state: State::Waiting(there, q),
+        state: State::Waiting(content_at(f, index, memory), q),
         taken: i,
     }
 }
@@ -235,7 +257,14 @@ fn onward(book: Book, stage: Stage, q: Spot, octets: &[u8], i: usize) -> Ran
             index,
             memory,
             room,
-        } => along(book, class, length, index, memory, room, q, octets, i),
+        } => {
+            let frame = Frame {
+                class,
+                length,
+                room,
+            };
+            along(book, frame, index, memory, q, octets, i)
+        }
     }
 }
 

@@ -6,9 +6,11 @@ use mathlib.Core.Bool.{Bool}
 use mathlib.Core.List.{List, [], _∷_, _++_}
 use lib.ListN.{getD}
 use lib.Dec.{T}
-use Rattle.rules.specs.Tests.{_≤?_, _=?_, _and_, both, le-of, eq-of}
+use Rattle.rules.specs.Tests.{_≤?_, _=?_, _and_}
+use Rattle.rules.proofs.Tests.{both, le-of, eq-of}
 use Rattle.rules.specs.Table.{rulesOf, ascii}
-use Rattle.rules.specs.Pairwise.{pairwise, sameOctets, octets-are}
+use Rattle.rules.specs.Pairwise.{pairwise, sameOctets}
+use Rattle.rules.proofs.Pairwise.{octets-are}
 use Rattle.listing.proofs.Tabled.{below, below-at}
 use Rattle.listing.specs.Put.{part}
 use Rattle.listing.specs.Listing.{rowAt, rowCount}

@@ -4,7 +4,8 @@ pub mod Keys
 pub mod Rows
 pub mod Whole
 pub mod Settled
-pub mod Listings
+pub mod Promised
+pub mod One
 pub mod Tabled
 pub mod Lines
 pub mod Values

@@ -7,20 +7,22 @@ use mathlib.Core.Option.{Option, none, some}
 use native.Mathlib.Omega.{arith}
 use lib.ListN.{length, length-append, replicate}
 use lib.Dec.{T}
-use Rattle.rules.specs.Tests.{_=?_, pick, pick-case}
+use Rattle.rules.specs.Tests.{_=?_, pick}
+use Rattle.rules.proofs.Tests.{pick-case}
 use Rattle.rules.specs.Table.{Row, rulesOf, rowOf, rowIn, listed, classOf, rivalOf, ascii, contentsFit}
 use Rattle.rules.specs.declared.Book.the-variants.{PresentLenient}
-use Rattle.rules.specs.ContentLaw.{sound-rules}
+use Rattle.rules.proofs.ContentLaw.{sound-rules}
 use Rattle.rules.specs.Message as message
 use Rattle.rules.specs.Message.{Message, LegalMessage}
-use Rattle.rules.specs.Counting.{counted, counted-iff, legal-counts, carriedIn, one-of-pair}
+use Rattle.rules.specs.Counting.{counted, carriedIn}
+use Rattle.rules.proofs.Counting.{counted-iff, legal-counts, one-of-pair}
 use Rattle.rules.specs.declared.Fault.{Fault}
-use Rattle.rules.specs.Sizes.{few}
+use Rattle.rules.proofs.Sizes.{few}
 use Rattle.listing.specs.declared.Text.{Text}
 use Rattle.listing.specs.Numerals.{decimal}
 use Rattle.listing.proofs.Numerals.{two-digits, three-digits}
 use Rattle.listing.proofs.Values.{widest, value}
-use Rattle.listing.specs.Listing.{Line, lineText, written, lineOf, linesFor, rowLines, rowAt, kindLine, carriedLine, linesOf, refusal, textOf, written-one, written-append, bufferSize}
+use Rattle.listing.specs.Listing.{Line, lineText, written, lineOf, linesFor, rowLines, rowAt, kindLine, carriedLine, messageLines, refusalLines, bufferOf, written-one, written-append, bufferSize}
 
 -- ---- lines
 line-long : (l : Line) → length (lineText l) ≡ length (l .key) + length (l .value) + 2
@@ -94,22 +96,22 @@ module _ (m : Message) (legal : LegalMessage (rulesOf PresentLenient) m) where
   carried-few [] = omega arith
   carried-few (p ∷ ps) = pick-case (λ (n : ℕ). n ≤ suc (length ps)) (listed (rulesOf PresentLenient) (p .kind)) _ _ (λ _. omega (arith, carried-few ps)) (λ _. omega (arith, carried-few ps))
 
-  pub longest : length (written (linesOf (rulesOf PresentLenient) m)) ≤ bufferSize
-  unfolding linesOf written kindLine carriedLine ascii
+  pub longest : length (written (messageLines (rulesOf PresentLenient) m)) ≤ bufferSize
+  unfolding messageLines written kindLine carriedLine ascii
   longest =
       let n = carriedIn (rulesOf PresentLenient) (m .parameters) in
       omega
       (arith, rows-wide, length-append (lineText (kindLine (m .kind))) (written (rowLines (rulesOf PresentLenient) m ((rulesOf PresentLenient) .rows) ++ carriedLine n ∷ [])), line-long (kindLine (m .kind)), kind-wide (m .kind), append-long (rowLines (rulesOf PresentLenient) m ((rulesOf PresentLenient) .rows)) (carriedLine n ∷ []), one-line (carriedLine n), two-digits n (omega (arith, carried-few (m .parameters), few (rulesOf PresentLenient) (sound-rules PresentLenient) m legal)))
 
 -- nor is that of a refusal
-pub refusal-short : (f : Fault) → f .number < 1000 → f .place < 1000 → length (written (refusal f)) ≤ bufferSize
-unfolding refusal written ascii
+pub refusal-short : (f : Fault) → f .number < 1000 → f .place < 1000 → length (written (refusalLines f)) ≤ bufferSize
+unfolding refusalLines written ascii
 refusal-short f a b =
     let k : Line = record { key = ascii "refused"; value = decimal (f .number) } in
     let p : Line = record { key = ascii "at"; value = decimal (f .place) } in
     omega (arith, length-append (lineText k) (written (p ∷ [])), line-long k, one-line p, three-digits (f .number) a, three-digits (f .place) b)
 
 -- so a listing lies within its buffer
-pub text-inside : (t : Text) (v : List ℕ) → t ≡ textOf v → t .length ≤ length (t .octets)
-unfolding textOf
+pub text-inside : (t : Text) (v : List ℕ) → t ≡ bufferOf v → t .length ≤ length (t .octets)
+unfolding bufferOf
 text-inside t v e = omega (arith, ap (λ (x : Text). x .length) e, ap (λ (x : Text). length (x .octets)) e, length-append v (replicate {A = ℕ} (bufferSize - length v) 0))

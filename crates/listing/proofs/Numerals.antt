@@ -7,7 +7,8 @@ use mathlib.Core.List.{List, [], _∷_, _++_}
 use native.Mathlib.Omega.{arith}
 use lib.ListN.{length, length-append, getD}
 use lib.Dec.{T}
-use Rattle.rules.specs.Tests.{_≤?_, pick, pick-yes, pick-not, le-of, of-le, not-le, decide}
+use Rattle.rules.specs.Tests.{_≤?_, pick}
+use Rattle.rules.proofs.Tests.{pick-yes, pick-not, le-of, of-le, not-le, decide}
 use Rattle.listing.specs.Numerals.{digitsBy, decimal, hexDigit, hex}
 
 -- ---- the laws of decimal, free of the depth

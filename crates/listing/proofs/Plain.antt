@@ -6,7 +6,8 @@ use mathlib.Core.List.{List, [], _∷_, _++_, append-assoc, append-nil}
 use mathlib.Core.Option.{Option, none, some}
 use native.Mathlib.Omega.{arith}
 use lib.Dec.{T}
-use Rattle.rules.specs.Tests.{_≤?_, _=?_, _and_, pick, pick-yes, pick-not, pick-case, every, every-head, every-tail, both, le-of, eq-of, of-eq}
+use Rattle.rules.specs.Tests.{_≤?_, _=?_, _and_, pick, every}
+use Rattle.rules.proofs.Tests.{pick-yes, pick-not, pick-case, every-head, every-tail, both, le-of, eq-of, of-eq}
 use Rattle.rules.specs.Table.{Row, rulesOf, classOf, styleOf, ascii}
 use Rattle.rules.specs.declared.Book.the-variants.{PresentLenient}
 use Rattle.rules.specs.Message.{Message, LegalMessage}
@@ -14,7 +15,7 @@ use Rattle.rules.specs.Counting.{counted, carriedIn}
 use Rattle.listing.specs.Numerals.{decimal}
 use Rattle.listing.proofs.Values.{plain, plain-append, plain-decimal, value}
 use Rattle.listing.proofs.Longest.{counted-fits}
-use Rattle.listing.specs.Listing.{printed, Line, lineText, written, lineOf, linesFor, rowLines, kindLine, carriedLine, linesOf}
+use Rattle.listing.specs.Listing.{printed, Line, lineText, written, lineOf, linesFor, rowLines, kindLine, carriedLine, messageLines}
 
 -- ---- cutting
 
@@ -96,6 +97,7 @@ module _ (m : Message) (legal : LegalMessage (rulesOf PresentLenient) m) where
   rows-plain (r ∷ rs) t = let d = both _ _ t in plain-lines (linesFor (rulesOf PresentLenient) r (counted (rulesOf PresentLenient) m (r .kind))) (rowLines (rulesOf PresentLenient) m rs) (row-plain r (d .0)) (rows-plain rs (d .1))
 
   -- cut at its line ends, the listing of a message gives its lines, in their order
-  pub lines-back : cut (written (linesOf (rulesOf PresentLenient) m)) ≡ bares (linesOf (rulesOf PresentLenient) m)
-  unfolding linesOf
-  lines-back = cut-written (linesOf (rulesOf PresentLenient) m) (plain-kind (m .kind), plain-lines (rowLines (rulesOf PresentLenient) m ((rulesOf PresentLenient) .rows)) (carriedLine (carriedIn (rulesOf PresentLenient) (m .parameters)) ∷ []) (rows-plain ((rulesOf PresentLenient) .rows) (words .keys)) (plain-carried (carriedIn (rulesOf PresentLenient) (m .parameters)), tt))
+  pub lines-back :
+      cut (written (messageLines (rulesOf PresentLenient) m)) ≡ bares (messageLines (rulesOf PresentLenient) m)
+  unfolding messageLines
+  lines-back = cut-written (messageLines (rulesOf PresentLenient) m) (plain-kind (m .kind), plain-lines (rowLines (rulesOf PresentLenient) m ((rulesOf PresentLenient) .rows)) (carriedLine (carriedIn (rulesOf PresentLenient) (m .parameters)) ∷ []) (rows-plain ((rulesOf PresentLenient) .rows) (words .keys)) (plain-carried (carriedIn (rulesOf PresentLenient) (m .parameters)), tt))

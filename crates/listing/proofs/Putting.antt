@@ -1,18 +1,30 @@
 -- What each function that puts octets owes its callers: words from their tests, texts from copies and single stores.
 -- Assumes nothing.
 use Prim.Native.Nat.{ℕ, _+_, _-_}
-use mathlib.Core.Path.{_≡_, sym, _∙_, ap}
+use mathlib.Core.Path.{_≡_, refl, sym, _∙_, ap}
 use mathlib.Core.List.{List, [], _∷_, _++_}
 use native.Mathlib.Numerals.{add-one}
 use native.Mathlib.Omega.{arith}
 use lib.ListN.{length, take, drop, set}
 use lib.Seq.{set-split}
 use borrow.Rule.Slice.PartMut.{putMid}
-use Rattle.rules.specs.Tests.{_=?_, pick-yes, pick-not, of-eq, eq-of}
+use Rattle.rules.specs.Tests.{_=?_}
+use Rattle.rules.proofs.Tests.{pick-yes, pick-not, of-eq, eq-of}
 use Rattle.rules.specs.Table.{ascii}
-use Rattle.rules.specs.Laying.{laidAt, rest-copied}
-use Rattle.listing.specs.Put.{Room, Put, put-whole}
+use Rattle.rules.specs.Laying.{laidAt}
+use Rattle.rules.proofs.Laying.{laid-front, laid-behind, laid-length, rest-copied}
+use Rattle.listing.specs.Put.{Room, Put}
 use Rattle.listing.specs.Listing.{lampWord, stateWord, kindLine, lineText}
+
+-- the text laid over the area from its place on
+put-whole : (v : List ℕ) (at : ℕ) (old new : List ℕ) → Room v at old → new ≡ laidAt v at old → Put v at old (at + length v) new
+unfolding Room
+put-whole v at old new h e = record {
+  ends = refl;
+  long = ap length e ∙ laid-length v at old h;
+  front = ap (take (at + length v)) e ∙ laid-front v at old h;
+  behind = ap (drop (at + length v)) e ∙ laid-behind v at old h;
+}
 
 -- ---- a text copied over the rest of the area, from a place on
 pub copied : (v old last : List ℕ) (at : ℕ) → Room v at old →

@@ -18,11 +18,12 @@ use Rattle.message.specs.declared.Found.the-variants.{Parameter, Nothing}
 use Rattle.message.specs.declared.Part.{Part}
 use Rattle.message.specs.declared.Part.the-variants.{At, Nowhere}
 use Rattle.message.specs.Walking.{parameterAt, countedAt, partOf}
-use Rattle.message.specs.Places.{counted-inside}
-use Rattle.message.specs.Parameters.{parametersFrom, parametersIn, no-more, none-here, one-here}
+use Rattle.message.proofs.Places.{counted-inside}
+use Rattle.message.specs.Parameters.{parametersFrom, parametersIn}
+use Rattle.message.proofs.Parameters.{no-more, none-here, one-here}
 use Rattle.listing.specs.Numerals.{decimal}
 use Rattle.listing.specs.Put.{Room, Put, put-then, put-same, put-none}
-use Rattle.listing.specs.Listing.{lineText, written, written-one, written-append, lineOf, linesFor, partLines, rowsAt, rowAt, kindLine, carriedLine, linesAt, numberLine, refusal, rowCount, row-count}
+use Rattle.listing.specs.Listing.{lineText, written, written-one, written-append, lineOf, linesFor, partLines, rowsAt, rowAt, kindLine, carriedLine, linesAt, numberLine, refusalLines, rowCount, row-count}
 use Rattle.listing.proofs.Keys.{kinds, key-at}
 
 -- ---- where contents stand, they lie inside
@@ -53,57 +54,58 @@ rows = (rulesOf PresentLenient) .rows
 
 module _ (o : List ℕ) where
   -- the text of some rows
-  abbrev textAt : List Row → List ℕ
-  textAt rs = written (rowsAt (rulesOf PresentLenient) o rs)
+  abbrev rowsText : List Row → List ℕ
+  rowsText rs = written (rowsAt (rulesOf PresentLenient) o rs)
 
-  rows-append : (a b : List Row) → textAt (a ++ b) ≡ textAt a ++ textAt b
+  rows-append : (a b : List Row) → rowsText (a ++ b) ≡ rowsText a ++ rowsText b
   unfolding rowsAt written
   rows-append [] b = refl
   rows-append (r ∷ a) b =
       written-append (partLines (rulesOf PresentLenient) o r) (rowsAt (rulesOf PresentLenient) o (a ++ b))
       ∙ ap (λ (v : List ℕ). written (partLines (rulesOf PresentLenient) o r) ++ v) (rows-append a b)
-      ∙ sym (append-assoc (written (partLines (rulesOf PresentLenient) o r)) (textAt a) (textAt b))
-      ∙ ap (λ (v : List ℕ). v ++ textAt b) (sym (written-append (partLines (rulesOf PresentLenient) o r) (rowsAt (rulesOf PresentLenient) o a)))
+      ∙ sym (append-assoc (written (partLines (rulesOf PresentLenient) o r)) (rowsText a) (rowsText b))
+      ∙ ap (λ (v : List ℕ). v ++ rowsText b) (sym (written-append (partLines (rulesOf PresentLenient) o r) (rowsAt (rulesOf PresentLenient) o a)))
 
-  row-alone : (r : Row) → textAt (r ∷ []) ≡ written (partLines (rulesOf PresentLenient) o r)
+  row-alone : (r : Row) → rowsText (r ∷ []) ≡ written (partLines (rulesOf PresentLenient) o r)
   unfolding rowsAt
   row-alone r = ap written (append-nil (partLines (rulesOf PresentLenient) o r))
 
-  pub row-next : (i : ℕ) → i < rowCount → textAt (take (i + 1) rows) ≡ textAt (take i rows) ++ written (partLines (rulesOf PresentLenient) o (rowAt i))
+  pub row-next : (i : ℕ) → i < rowCount → rowsText (take (i + 1) rows) ≡ rowsText (take i rows) ++ written (partLines (rulesOf PresentLenient) o (rowAt i))
   unfolding rowAt
   row-next i h =
-      ap (λ (n : ℕ). textAt (take n rows)) (add-one i)
-      ∙ ap textAt (take-suc rows i _ (omega (arith, row-count)))
+      ap (λ (n : ℕ). rowsText (take n rows)) (add-one i)
+      ∙ ap rowsText (take-suc rows i _ (omega (arith, row-count)))
       ∙ rows-append (take i rows) (rowAt i ∷ [])
-      ∙ ap (λ (v : List ℕ). textAt (take i rows) ++ v) (row-alone (rowAt i))
+      ∙ ap (λ (v : List ℕ). rowsText (take i rows) ++ v) (row-alone (rowAt i))
 
   module _ (at : ℕ) (old : List ℕ) where
-    pub no-rows : Put (textAt (take 0 rows)) at old at old
+    pub no-rows : Put (rowsText (take 0 rows)) at old at old
     unfolding rowsAt written
     no-rows = put-none at old
 
-    module _ (i : ℕ) (h : i < rowCount) (end : ℕ) (now : List ℕ) (p : Put (textAt (take i rows)) at old end now) where
-      pub row-room : Room (textAt rows) at old → Room (written (partLines (rulesOf PresentLenient) o (rowAt i))) end now
+    module _ (i : ℕ) (h : i < rowCount) (end : ℕ) (now : List ℕ)
+        (p : Put (rowsText (take i rows)) at old end now) where
+      pub row-room : Room (rowsText rows) at old → Room (written (partLines (rulesOf PresentLenient) o (rowAt i))) end now
       unfolding Room
       row-room r =
-          let a = ap length (sym (rows-append (take (i + 1) rows) (drop (i + 1) rows)) ∙ ap textAt (take-append-drop (i + 1) rows)) in
-          let b = length-append (textAt (take (i + 1) rows)) (textAt (drop (i + 1) rows)) in
-          let d = ap length (row-next i h) ∙ length-append (textAt (take i rows)) (written (partLines (rulesOf PresentLenient) o (rowAt i))) in
+          let a = ap length (sym (rows-append (take (i + 1) rows) (drop (i + 1) rows)) ∙ ap rowsText (take-append-drop (i + 1) rows)) in
+          let b = length-append (rowsText (take (i + 1) rows)) (rowsText (drop (i + 1) rows)) in
+          let d = ap length (row-next i h) ∙ length-append (rowsText (take i rows)) (written (partLines (rulesOf PresentLenient) o (rowAt i))) in
           omega (arith, p .ends, p .long)
 
-      pub row-more : (last : ℕ) (next : List ℕ) → Put (written (partLines (rulesOf PresentLenient) o (rowAt i))) end now last next → Put (textAt (take (i + 1) rows)) at old last next
+      pub row-more : (last : ℕ) (next : List ℕ) → Put (written (partLines (rulesOf PresentLenient) o (rowAt i))) end now last next → Put (rowsText (take (i + 1) rows)) at old last next
       row-more last next q = put-same _ _ at old last next (sym (row-next i h)) (put-then _ _ at old end now last next p q)
 
-    pub all-rows : (i end : ℕ) (now : List ℕ) → i ≤ rowCount → rowCount ≤ i → Put (textAt (take i rows)) at old end now → Put (textAt rows) at old end now
+    pub all-rows : (i end : ℕ) (now : List ℕ) → i ≤ rowCount → rowCount ≤ i → Put (rowsText (take i rows)) at old end now → Put (rowsText rows) at old end now
     unfolding rulesOf
-    all-rows i end now a b p = let z : i ≡ rowCount = omega arith in put-same _ _ at old end now (ap (λ (n : ℕ). textAt (take n rows)) z) p
+    all-rows i end now a b p = let z : i ≡ rowCount = omega arith in put-same _ _ at old end now (ap (λ (n : ℕ). rowsText (take n rows)) z) p
 
 -- ---- how many are carried
 module _ (o : List ℕ) where
-  abbrev pub Counted : ℕ → ℕ → ℕ → Type 0
-  Counted count at turns = (count + carriedIn (rulesOf PresentLenient) (parametersFrom turns o at) ≡ carriedIn (rulesOf PresentLenient) (parametersIn o)) × (count + turns ≤ most)
+  abbrev pub CarriedSoFar : ℕ → ℕ → ℕ → Type 0
+  CarriedSoFar count at turns = (count + carriedIn (rulesOf PresentLenient) (parametersFrom turns o at) ≡ carriedIn (rulesOf PresentLenient) (parametersIn o)) × (count + turns ≤ most)
 
-  pub none-counted : Counted 0 2 most
+  pub none-counted : CarriedSoFar 0 2 most
   unfolding parametersIn
   none-counted = (omega arith, omega arith)
 
@@ -117,12 +119,12 @@ module _ (o : List ℕ) where
   few true = omega arith
   few false = omega arith
 
-  module _ (count at turns : ℕ) (i : Counted count at turns) where
+  module _ (count at turns : ℕ) (i : CarriedSoFar count at turns) where
     module _ (h : 0 < turns) (k s n x : ℕ) (e : Parameter k s n ≡ parameterAt o at) (d : x ≡ pick (listed (rulesOf PresentLenient) k) 0 1) where
       pub counted-small : count + x ≤ most
       counted-small = omega (arith, few (listed (rulesOf PresentLenient) k), i .1)
 
-      pub counted-more : Counted (count + x) (s + n) (turns - 1)
+      pub counted-more : CarriedSoFar (count + x) (s + n) (turns - 1)
       unfolding carriedIn
       counted-more =
           let p = ap (carriedIn (rulesOf PresentLenient)) (one-here turns o at h k s n e) ∙ one-more (listed (rulesOf PresentLenient) k) (carriedIn (rulesOf PresentLenient) (parametersFrom (turns - 1) o (s + n))) in
@@ -148,6 +150,6 @@ message-text o x n e d =
     ∙ ap₂ (λ (k : ℕ) (v : List ℕ). lineText (kindLine k) ++ v) e
     (ap (λ (v : List ℕ). written (rowsAt (rulesOf PresentLenient) o rows) ++ v) (ap (λ (k : ℕ). numberLine (ascii "carried=") k) d ∙ carried-line (carriedIn (rulesOf PresentLenient) (parametersIn o))) ∙ sym (written-append (rowsAt (rulesOf PresentLenient) o rows) (carriedLine (carriedIn (rulesOf PresentLenient) (parametersIn o)) ∷ [])))
 
-pub refusal-text : (f : Fault) → numberLine (ascii "refused=") (f .number) ++ numberLine (ascii "at=") (f .place) ≡ written (refusal f)
-unfolding refusal written lineText numberLine ascii
+pub refusal-text : (f : Fault) → numberLine (ascii "refused=") (f .number) ++ numberLine (ascii "at=") (f .place) ≡ written (refusalLines f)
+unfolding refusalLines written lineText numberLine ascii
 refusal-text f = ap (λ (v : List ℕ). numberLine (ascii "refused=") (f .number) ++ v) (sym (append-nil (numberLine (ascii "at=") (f .place))))

@@ -7,8 +7,10 @@ use mathlib.Core.Logic.{_⊎_, inl, inr}
 use mathlib.Core.List.{List}
 use native.Mathlib.Omega.{arith}
 use lib.Dec.{T}
-use Rattle.rules.specs.Tests.{_=?_, _and_, pick, both, eq-of, of-eq, decide}
-use Rattle.rules.specs.Pairwise.{sameOctets, octets-self}
+use Rattle.rules.specs.Tests.{_=?_, _and_, pick}
+use Rattle.rules.proofs.Tests.{both, eq-of, of-eq, decide}
+use Rattle.rules.specs.Pairwise.{sameOctets}
+use Rattle.rules.proofs.Pairwise.{octets-self}
 
 -- two lists differ
 unfoldable pub differ : List ℕ → List ℕ → Bool

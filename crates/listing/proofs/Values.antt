@@ -8,12 +8,14 @@ use mathlib.Core.List.{List, [], _∷_, _++_}
 use native.Mathlib.Omega.{arith}
 use lib.ListN.{length, length-append, getD}
 use lib.Dec.{T}
-use Rattle.rules.specs.Tests.{_≤?_, _=?_, _and_, pick-case, every, every-head, every-tail, both, join, either, le-of, of-le}
-use Rattle.rules.specs.Octets.{Octets, octet-at}
+use Rattle.rules.specs.Tests.{_≤?_, _=?_, _and_, every}
+use Rattle.rules.proofs.Tests.{pick-case, every-head, every-tail, both, join, either, le-of, of-le}
+use Rattle.rules.specs.Octets.{Octets, referenceOf}
+use Rattle.rules.proofs.Octets.{octet-at}
 use Rattle.rules.specs.Contents.{Range, within, inSet, digit, pairFits, pairsFit, columnsFit, allIn}
 use Rattle.rules.specs.Table.{dateRanges, numberSet, absentSet, nameSet, oldNumberSet, whole, contentsFit, styleOf, ascii}
-use Rattle.rules.specs.ClassLaw.{fit-octets}
-use Rattle.rules.specs.ContentLaw.{lawful}
+use Rattle.rules.proofs.ClassLaw.{fit-octets}
+use Rattle.rules.proofs.ContentLaw.{lawful}
 use Rattle.rules.specs.declared.Class.{Class}
 use Rattle.rules.specs.declared.Class.the-variants.{Date, Number, Absent, Name, Lamp, Identity, CallType, Waiting, Forwarded, User, Carried, OldNumber, ShortText, OldForwarded, OldUser, Unlisted}
 use Rattle.listing.specs.Numerals.{decimal, hexDigit, hex}
@@ -155,7 +157,7 @@ reference-wide : (v : List ℕ) → Octets v → length (stateWord (getD v 0 0) 
 unfolding ascii reference
 reference-wide v o =
     omega
-    (arith, state-wide (getD v 0 0), five-digits (256 * getD v 1 0 + getD v 2 0) (omega (arith, octet-at v o 1, octet-at v o 2)), length-append (stateWord (getD v 0 0) ++ ascii " ") (decimal (256 * getD v 1 0 + getD v 2 0)), length-append (stateWord (getD v 0 0)) (ascii " "))
+    (arith, state-wide (getD v 0 0), five-digits (referenceOf (getD v 1 0) (getD v 2 0)) (omega (arith, octet-at v o 1, octet-at v o 2)), length-append (stateWord (getD v 0 0) ++ ascii " ") (decimal (referenceOf (getD v 1 0) (getD v 2 0))), length-append (stateWord (getD v 0 0)) (ascii " "))
 
 clock-plain : (v : List ℕ) → T (pairsFit dateRanges v) → T (plain (clock v))
 unfolding clock

@@ -10,21 +10,22 @@ use lib.Seq.{drop-at}
 use Rattle.rules.specs.Octets.{Octets}
 use Rattle.rules.specs.Table.{Row, rulesOf}
 use Rattle.rules.specs.declared.Book.the-variants.{PresentLenient}
-use Rattle.rules.specs.ContentLaw.{sound-rules}
+use Rattle.rules.proofs.ContentLaw.{sound-rules}
 use Rattle.rules.specs.Message as message
 use Rattle.rules.specs.Message.{octets, LegalMessage, Accepts}
 use Rattle.rules.specs.Counting.{counted, carriedIn}
 use Rattle.rules.specs.declared.Fault.{Fault}
-use Rattle.rules.specs.Calls.{spoken-of}
+use Rattle.rules.proofs.Grammar.{spoken-of}
 use Rattle.message.specs.declared.Verdict.{Verdict}
 use Rattle.message.specs.declared.Verdict.the-variants.{Accepted, Declined}
 use Rattle.message.specs.Verdict.{verdictOf}
-use Rattle.message.specs.Judges.{judges-of, told-small}
+use Rattle.message.proofs.Judges.{judges-of, told-small, near-declined}
 use Rattle.message.specs.Walking.{countedAt, partOf}
-use Rattle.message.specs.Searching.{counted-part}
-use Rattle.message.specs.Parameters.{parametersIn, messageIn, message-in}
+use Rattle.message.proofs.Searching.{counted-part}
+use Rattle.message.specs.Parameters.{parametersIn, messageIn}
+use Rattle.message.proofs.Parameters.{message-in}
 use Rattle.listing.specs.Put.{Room, Put, put-first}
-use Rattle.listing.specs.Listing.{Line, written, kindLine, carriedLine, linesFor, rowLines, linesOf, partLines, rowsAt, linesAt, listed, refusal, listingOf, textOf, bufferSize}
+use Rattle.listing.specs.Listing.{Line, written, kindLine, carriedLine, linesFor, rowLines, messageLines, partLines, rowsAt, linesAt, verdictLines, refusalLines, listingOf, bufferOf, bufferSize}
 use Rattle.listing.proofs.Longest.{longest, refusal-short}
 
 -- ---- the rows from the octets, and from the message
@@ -33,40 +34,49 @@ unfolding rowsAt rowLines partLines
 rows-same o m e [] = refl
 rows-same o m e (r ∷ rs) = ap₂ (λ (x : Option (List ℕ)) (ls : List Line). linesFor (rulesOf PresentLenient) r x ++ ls) (e (r .kind)) (rows-same o m e rs)
 
-lines-same : (m : message.Message) → LegalMessage (rulesOf PresentLenient) m → linesAt (rulesOf PresentLenient) (octets m) ≡ linesOf (rulesOf PresentLenient) (messageIn (octets m))
-unfolding linesAt linesOf messageIn
+lines-same : (m : message.Message) → LegalMessage (rulesOf PresentLenient) m → linesAt (rulesOf PresentLenient) (octets m) ≡ messageLines (rulesOf PresentLenient) (messageIn (octets m))
+unfolding linesAt messageLines messageIn
 lines-same m l =
     ap (λ (ls : List Line). kindLine (getD (octets m) 0 0) ∷ (ls ++ carriedLine (carriedIn (rulesOf PresentLenient) (parametersIn (octets m))) ∷ []))
     (rows-same (octets m) (messageIn (octets m)) (λ t. counted-part (rulesOf PresentLenient) m t ∙ ap (λ (x : message.Message). counted (rulesOf PresentLenient) x t) (sym (message-in (rulesOf PresentLenient) (sound-rules PresentLenient) m l))) ((rulesOf PresentLenient) .rows))
 
-pub record Lists (o v : List ℕ) : Type 0 where
+-- v is the listing of o, and has room in the buffer
+pub record Fitting (o v : List ℕ) : Type 0 where
   pub is : v ≡ listingOf (rulesOf PresentLenient) o
   pub short : length v ≤ bufferSize
 
 module _ (o : List ℕ) (q : Octets o) (v : Verdict) (e : v ≡ verdictOf (rulesOf PresentLenient) o) where
-  pub lists-message : (n : ℕ) → v ≡ Accepted n → Lists o (written (linesAt (rulesOf PresentLenient) o))
-  unfolding listingOf listed
+  pub lists-message : (n : ℕ) → v ≡ Accepted n → Fitting o (written (linesAt (rulesOf PresentLenient) o))
+  unfolding listingOf verdictLines
   lists-message n d = go (judges-of PresentLenient o q .accepted n .0 (sym e ∙ d) .1)
     where
-      go : Accepts (rulesOf PresentLenient) o → Lists o (written (linesAt (rulesOf PresentLenient) o))
+      go : Accepts (rulesOf PresentLenient) o → Fitting o (written (linesAt (rulesOf PresentLenient) o))
       go a =
           let m = a .0 in
           let l = a .1 in
-          let s : linesAt (rulesOf PresentLenient) o ≡ linesOf (rulesOf PresentLenient) (messageIn o) = subst (λ (x : List ℕ). linesAt (rulesOf PresentLenient) x ≡ linesOf (rulesOf PresentLenient) (messageIn x)) (a .2) (lines-same m l) in
+          let s : linesAt (rulesOf PresentLenient) o ≡ messageLines (rulesOf PresentLenient) (messageIn o) = subst (λ (x : List ℕ). linesAt (rulesOf PresentLenient) x ≡ messageLines (rulesOf PresentLenient) (messageIn x)) (a .2) (lines-same m l) in
           let k : messageIn o ≡ m = ap messageIn (sym (a .2)) ∙ message-in (rulesOf PresentLenient) (sound-rules PresentLenient) m l in
           record {
-            is = ap written s ∙ ap (λ (x : Verdict). written (listed (rulesOf PresentLenient) o x)) (sym d ∙ e);
-            short = omega (arith, longest m l, ap (λ (ls : List Line). length (written ls)) (s ∙ ap (linesOf (rulesOf PresentLenient)) k));
+            is = ap written s ∙ ap (λ (x : Verdict). written (verdictLines (rulesOf PresentLenient) o x)) (sym d ∙ e);
+            short = omega (arith, longest m l, ap (λ (ls : List Line). length (written ls)) (s ∙ ap (messageLines (rulesOf PresentLenient)) k));
           }
 
-  pub lists-refusal : (f : Fault) → v ≡ Declined f → Lists o (written (refusal f))
-  unfolding listingOf listed
+  pub lists-refusal : (f : Fault) → v ≡ Declined f → Fitting o (written (refusalLines f))
+  unfolding listingOf verdictLines
   lists-refusal f d =
       let j = judges-of PresentLenient o q in
       record {
-        is = ap (λ (x : Verdict). written (listed (rulesOf PresentLenient) o x)) (sym d ∙ e);
-        short = refusal-short f (omega (arith, told-small (spoken-of PresentLenient) _ (j .numbers f (sym e ∙ d)) .1)) (omega (arith, j .near f (sym e ∙ d)));
+        is = ap (λ (x : Verdict). written (verdictLines (rulesOf PresentLenient) o x)) (sym d ∙ e);
+        short = refusal-short f (omega (arith, told-small (spoken-of PresentLenient) _ (j .numbers f (sym e ∙ d)) .1)) (omega (arith, near-declined j f (sym e ∙ d)));
       }
+
+-- every listing has
+pub listing-short : (o : List ℕ) → Octets o → length (listingOf (rulesOf PresentLenient) o) ≤ bufferSize
+listing-short o q = go (verdictOf (rulesOf PresentLenient) o) refl
+  where
+    go : (v : Verdict) → v ≡ verdictOf (rulesOf PresentLenient) o → length (listingOf (rulesOf PresentLenient) o) ≤ bufferSize
+    go (Accepted n) e = let f = lists-message o q _ e n refl in omega (arith, ap length (f .is), f .short)
+    go (Declined g) e = let f = lists-refusal o q _ e g refl in omega (arith, ap length (f .is), f .short)
 
 -- ---- in the buffer
 zeros : (n k z : ℕ) → n ≤ k → drop n (replicate k z) ≡ replicate (k - n) z
@@ -74,14 +84,14 @@ zeros n k z h =
     let e : n + (k - n) ≡ k = omega arith in
     ap (drop n) (sym (replicate-append-replicate n (k - n) z ∙ ap (λ (x : ℕ). replicate x z) e)) ∙ drop-at (replicate n z) (replicate (k - n) z) n (length-replicate n z)
 
-module _ (o v : List ℕ) (l : Lists o v) where
+module _ (o v : List ℕ) (l : Fitting o v) where
   pub listing-room : Room v 0 (replicate bufferSize 0)
   unfolding Room
   listing-room = omega (arith, l .short, length-replicate {A = ℕ} bufferSize 0)
 
-  pub listing-text : (end : ℕ) (new : List ℕ) → Put v 0 (replicate bufferSize 0) end new → (record { octets = new; length = end }) ≡ textOf (listingOf (rulesOf PresentLenient) o)
-  unfolding textOf
+  pub listing-text : (end : ℕ) (new : List ℕ) → Put v 0 (replicate bufferSize 0) end new → (record { octets = new; length = end }) ≡ bufferOf (listingOf (rulesOf PresentLenient) o)
+  unfolding bufferOf
   listing-text end new p =
       let n : end ≡ length v = omega (arith, p .ends) in
       let w : new ≡ v ++ replicate (bufferSize - length v) 0 = put-first v (replicate bufferSize 0) end new p ∙ ap (λ (x : List ℕ). v ++ x) (zeros (length v) bufferSize 0 (l .short)) in
-      (λ i. record { octets = w i; length = n i }) ∙ ap textOf (l .is)
+      (λ i. record { octets = w i; length = n i }) ∙ ap bufferOf (l .is)

@@ -20,7 +20,7 @@ use Rattle.message.specs.Walking.{parameterAt}
 use Rattle.message.specs.Parameters.{found, parametersFrom, parametersIn, messageIn}
 use Rattle.listing.specs.Numerals.{digitsBy, decimal, hexDigit, hex}
 use Rattle.listing.specs.Listing as listing
-use Rattle.listing.specs.Listing.{half, clock, lampWord, stateWord, reference, printed, lineText, written, lineOf, linesFor, rowLines, kindLine, carriedLine, linesOf, refusal, listingOf, bufferSize}
+use Rattle.listing.specs.Listing.{half, clock, lampWord, stateWord, reference, printed, lineText, written, lineOf, linesFor, rowLines, kindLine, carriedLine, messageLines, refusalLines, listingOf, bufferSize}
 
 -- octets, and what is printed of them
 abbrev pub Row : Type 0
@@ -83,5 +83,5 @@ pub record Claim : Type 0 where
   pub longest : length (listingOf (rulesOf PresentLenient) (octets long)) ≡ bufferSize
 
 pub examples : Claim
-unfolding ascii _≤?_ _=?_ _and_ _or_ pick total checksum within inSet whole digit rowIn rowOf listedIn listed classOf rivalOf typeFault classFault someLength styleOf rulesOf body octets messageKind firstOf counted carriedIn opens tensFit onesFit pairAt columnAt judgeOf step run roomFits rangePossible somePossible possible final fits contents after fault machine judged verdictOf parameterAt found parametersFrom parametersIn messageIn digitsBy decimal hexDigit hex half clock lampWord stateWord reference printed lineText written lineOf linesFor rowLines kindLine carriedLine linesOf refusal listing.listed listingOf listings texts
+unfolding ascii _≤?_ _=?_ _and_ _or_ pick total checksum within inSet whole digit rowIn rowOf listedIn listed classOf rivalOf typeFault classFault someLength styleOf rulesOf body octets messageKind firstOf counted carriedIn opens tensFit onesFit pairAt columnAt judgeOf step run roomFits rangePossible somePossible possible final fits contents after fault machine judged verdictOf parameterAt found parametersFrom parametersIn messageIn digitsBy decimal hexDigit hex half clock lampWord stateWord reference printed lineText written lineOf linesFor rowLines kindLine carriedLine messageLines refusalLines listing.verdictLines listingOf listings texts
 examples = record { printed = refl; longest = refl }

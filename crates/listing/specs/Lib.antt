@@ -2,4 +2,5 @@
 pub mod Numerals
 pub mod Put
 pub mod Listing
+pub mod Lists
 pub mod Examples

@@ -19,6 +19,7 @@ use Rattle.message.specs.Walking.{countedAt, partOf}
 use Rattle.message.specs.Parameters.{parametersIn, messageIn}
 use Rattle.listing.specs.declared.Text.{Text}
 use Rattle.listing.specs.Numerals.{decimal, hex}
+use Rattle.rules.specs.Octets.{referenceOf}
 
 -- ---- values
 
@@ -40,7 +41,7 @@ stateWord x = pick (x =? 0x55) (ascii "unset") (lampWord x)
 
 -- two octets, the high one first
 unfoldable pub reference : List ℕ → ℕ
-reference v = 256 * getD v 1 0 + getD v 2 0
+reference v = referenceOf (getD v 1 0) (getD v 2 0)
 
 -- what a style makes of contents
 unfoldable pub printed : Style → List ℕ → List ℕ
@@ -91,29 +92,29 @@ unfoldable pub carriedLine : ℕ → Line
 carriedLine n = record { key = ascii "carried"; value = decimal n }
 
 -- the kind, what counts in the order of the rows, and the number of carried parameters
-unfoldable pub linesOf : Rules → Message → List Line
-linesOf R m = kindLine (m .kind) ∷ (rowLines R m (R .rows) ++ carriedLine (carriedIn R (m .parameters)) ∷ [])
+unfoldable pub messageLines : Rules → Message → List Line
+messageLines R m = kindLine (m .kind) ∷ (rowLines R m (R .rows) ++ carriedLine (carriedIn R (m .parameters)) ∷ [])
 
 -- number and place of a refusal
-unfoldable pub refusal : Fault → List Line
-refusal f = (record { key = ascii "refused"; value = decimal (f .number) }) ∷ (record { key = ascii "at"; value = decimal (f .place) }) ∷ []
+unfoldable pub refusalLines : Fault → List Line
+refusalLines f = (record { key = ascii "refused"; value = decimal (f .number) }) ∷ (record { key = ascii "at"; value = decimal (f .place) }) ∷ []
 
 -- an accepted message has its lines, and a refusal its two
-unfoldable pub listed : Rules → List ℕ → Verdict → List Line
-listed R o (Accepted n) = linesOf R (messageIn o)
-listed R o (Declined f) = refusal f
+unfoldable pub verdictLines : Rules → List ℕ → Verdict → List Line
+verdictLines R o (Accepted n) = messageLines R (messageIn o)
+verdictLines R o (Declined f) = refusalLines f
 
 -- what showmsg prints of octets
 unfoldable pub listingOf : Rules → List ℕ → List ℕ
-listingOf R o = written (listed R o (verdictOf R o))
+listingOf R o = written (verdictLines R o (verdictOf R o))
 
 -- no listing is longer (Longest)
 abbrev pub bufferSize : ℕ
 bufferSize = 292
 
 -- a listing in its buffer, zeros behind it
-unfoldable pub textOf : List ℕ → Text
-textOf v = record { octets = v ++ replicate (bufferSize - length v) 0; length = length v }
+unfoldable pub bufferOf : List ℕ → Text
+bufferOf v = record { octets = v ++ replicate (bufferSize - length v) 0; length = length v }
 
 -- ---- for the code: the same from the octets, row by row
 

@@ -7,7 +7,6 @@ use native.Mathlib.Nat.{add-zero}
 use native.Mathlib.Omega.{arith}
 use lib.ListN.{length, length-append, take, drop, take-append-drop}
 use lib.Seq.{drop-drop}
-use Rattle.rules.specs.Laying.{laidAt, laid-front, laid-behind, laid-length}
 
 -- the text v fits behind the first `at` octets of the area
 unfoldable pub Room : List ℕ → ℕ → List ℕ → Type 0
@@ -50,16 +49,6 @@ put-same v w at old end new e p = record {
   long = p .long;
   front = p .front ∙ ap (λ (l : List ℕ). take at old ++ l) e;
   behind = p .behind;
-}
-
--- the text laid over the area from its place on
-pub put-whole : (v : List ℕ) (at : ℕ) (old new : List ℕ) → Room v at old → new ≡ laidAt v at old → Put v at old (at + length v) new
-unfolding Room
-put-whole v at old new h e = record {
-  ends = refl;
-  long = ap length e ∙ laid-length v at old h;
-  front = ap (take (at + length v)) e ∙ laid-front v at old h;
-  behind = ap (drop (at + length v)) e ∙ laid-behind v at old h;
 }
 
 -- what was put from the beginning is the area's front

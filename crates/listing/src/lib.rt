@@ -17,7 +17,7 @@ ghost use Rattle.rules.specs.Counting.{carriedIn};
 ghost use Rattle.message.specs.Parameters.{parametersIn};
 ghost use Rattle.listing.specs.Numerals.{hexDigit, hex, decimal};
 ghost use Rattle.listing.specs.Put.{Room, Put, part};
-ghost use Rattle.listing.specs.Listing.{half, clock, lampWord, stateWord, reference, printed, kindLine, numberLine, lineText, lineOf, rowAt, rowCount, partLines, rowsAt, linesAt, written, refusal, listingOf, textOf};
+ghost use Rattle.listing.specs.Listing.{half, clock, lampWord, stateWord, reference, printed, kindLine, numberLine, lineText, lineOf, rowAt, rowCount, partLines, rowsAt, linesAt, written, refusalLines, listingOf, bufferOf};
 
 // No listing is longer.
 const LONGEST: usize = 292;
@@ -321,8 +321,8 @@ fn put_message(octets: &[u8], out: &mut [u8]) -> usize
 }
 
 fn put_refusal(fault: Fault, out: &mut [u8]) -> usize
-    requires { ⌜ Room (written (refusal fault)) 0 (now out) ⌝ }
-    ensures { λ r. ⌜ Put (written (refusal fault)) 0 (now (out .entry)) r (now (out .exit)) ⌝ }
+    requires { ⌜ Room (written (refusalLines fault)) 0 (now out) ⌝ }
+    ensures { λ r. ⌜ Put (written (refusalLines fault)) 0 (now (out .entry)) r (now (out .exit)) ⌝ }
 {
     let place = put_number(b"refused=", fault.number as u16, out, 0);
     put_number(b"at=", fault.place, out, place)
@@ -330,7 +330,7 @@ fn put_refusal(fault: Fault, out: &mut [u8]) -> usize
 
 // What showmsg prints of any octets.
 pub fn listing(octets: &[u8]) -> Text
-    ensures { λ r. ⌜ r ≡ textOf (listingOf (rulesOf book.PresentLenient) (now (octets .entry))) ⌝ }
+    ensures { λ r. ⌜ r ≡ bufferOf (listingOf (rulesOf book.PresentLenient) (now (octets .entry))) ⌝ }
 {
     let mut out = [0u8; LONGEST];
     let verdict = message::judge(Book::PresentLenient, octets);

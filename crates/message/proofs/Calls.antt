@@ -5,10 +5,10 @@ use mathlib.Core.List.{List}
 use Prim.Native.Nat.{ℕ, _+_, _%_, _≤_}
 use native.Mathlib.Omega.{arith}
 use lib.ListN.{length}
-use Rattle.rules.specs.Tests.{pick-yes, pick-not, of-eq, eq-of}
+use Rattle.rules.proofs.Tests.{pick-yes, pick-not, of-eq, eq-of}
 use Rattle.rules.specs.Octets.{Octets}
 use Rattle.rules.specs.Table.{Rules}
-use Rattle.rules.specs.ContentLaw.{SoundRules}
+use Rattle.rules.proofs.ContentLaw.{SoundRules}
 use Rattle.rules.specs.declared.Class.{Class}
 use Rattle.rules.specs.declared.Fault.{Fault}
 use Rattle.rules.specs.declared.Stage.the-variants as stage
@@ -23,13 +23,15 @@ use Rattle.message.specs.declared.Verdict.the-variants.{Accepted, Declin
 use Rattle.message.specs.Verdict.{endFrom, onHead, HeadFits, onBody, verdictOf}
 use Rattle.message.proofs.Turns.{endVerdict, verdict-end, early-short}
 
-pub head-fits : (w : Head) (room : ℕ) (c : Class) (n r sum : ℕ) → HeadFits w room → w ≡ head.Good c n r sum → (1 ≤ n) × (n + 2 + r ≡ room)
+pub head-fits : (w : Head) (room : ℕ) (c : Class) (n r sum : ℕ) → HeadFits w room → w ≡ head.Good c n r sum →
+    (1 ≤ n) × (n + 2 + r ≡ room)
 unfolding HeadFits
 head-fits w room c n r sum f g = rw g at f
 
 module _ (R : Rules) where
   module _ (w : Head) (at : ℕ) (s : List ℕ) (whole : End) (e : whole ≡ onHead R w at s) where
-    pub head-good : (c : Class) (n r sum : ℕ) (x : End) → w ≡ head.Good c n r sum → x ≡ endFrom R (stage.Content c n 0 0 r) sum at s → x ≡ whole
+    pub head-good : (c : Class) (n r sum : ℕ) (x : End) → w ≡ head.Good c n r sum →
+        x ≡ endFrom R (stage.Content c n 0 0 r) sum at s → x ≡ whole
     unfolding onHead
     head-good c n r sum x g q = q ∙ sym (e ∙ rw g)
 

@@ -1,5 +1,10 @@
 -- The root of the proofs.
+pub mod Searching
+pub mod Parameters
+pub mod Places
+pub mod Judges
 pub mod Calls
 pub mod Settled
-pub mod Judging
+pub mod Promised
+pub mod One
 pub mod Turns

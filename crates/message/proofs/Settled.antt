@@ -12,7 +12,8 @@ judge-settled κs a r r' s s' p q = p ∙ sym q
 pub octet-settled : (κs : _) (a : _) (r r' : _) (s s' : _) → octet.Post κs a r s → octet.Post κs a r' s' → r ≡ r'
 octet-settled κs a r r' s s' p q = p ∙ sym q
 
-pub parameter-settled : (κs : _) (a : _) (r r' : _) (s s' : _) → parameter.Post κs a r s → parameter.Post κs a r' s' → r ≡ r'
+pub parameter-settled : (κs : _) (a : _) (r r' : _) (s s' : _) → parameter.Post κs a r s →
+    parameter.Post κs a r' s' → r ≡ r'
 parameter-settled κs a r r' s s' p q = p ∙ sym q
 
 pub counted-settled : (κs : _) (a : _) (r r' : _) (s s' : _) → counted.Post κs a r s → counted.Post κs a r' s' → r ≡ r'

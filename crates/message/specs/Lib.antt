@@ -2,6 +2,5 @@
 pub mod Verdict
 pub mod Walking
 pub mod Judges
-pub mod Searching
 pub mod Parameters
 pub mod Places

@@ -11,7 +11,8 @@ use Rattle.message.specs.declared.Found.the-variants.{Parameter, Nothing
 use Rattle.message.specs.declared.Part.{Part}
 use Rattle.message.specs.declared.Part.the-variants.{At, Nowhere}
 
--- type, start and length of the parameter at a place, if one stands there whole before the last octet, which is the checksum
+-- type, start and length of the parameter at a place, if one stands there whole before the last octet, which is the
+-- checksum
 unfoldable pub parameterAt : List ℕ → ℕ → Found
 parameterAt o at =
     pick (at + 3 ≤? length o)
@@ -23,7 +24,8 @@ unfoldable pub matched : ℕ → ℕ → Found → (ℕ → Part) → Part
 matched t u (Parameter k start n) next = pick (k =? t) (At start n) (pick (k =? u) Nowhere (next (start + n)))
 matched t u Nothing next = Nowhere
 
--- from a place on, the first parameter of type t, if none of type u stands before it; each parameter found takes one of the turns
+-- from a place on, the first parameter of type t, if none of type u stands before it; each parameter found takes one
+-- of the turns
 unfoldable pub searchFrom : ℕ → ℕ → ℕ → List ℕ → ℕ → Part
 searchFrom zero t u o at = Nowhere
 searchFrom (suc turns) t u o at = matched t u (parameterAt o at) (searchFrom turns t u o)

@@ -3,7 +3,7 @@
 // and prints for each what `reader::read`, the walker, `caption` and `writer::write` answer, and whether the message
 // comes back from its draft. What it must print was written by the second reader, some rows by hand (tools/replay). All
 // is by the present edition, and types without a row are carried.
-use caption::Found;
+use caption::Shown;
 use draft::Draft;
 use draft::Entry;
 use draft::Flat;
@@ -20,7 +20,7 @@ use writer::Written;
 ghost use mathlib.Core.Path.{_≡_};
 ghost use Prim.Native.Nat.{_≤_};
 ghost use lib.ListN.{length};
-ghost use Rattle.walker.specs.Moves.{begun, seen, moved};
+ghost use Rattle.walker.specs.Moves.{begun, seen, advanced};
 
 // The most octets that a message has, and the most that its texts have (document 01, The message).
 const LONGEST: usize = 258;
@@ -31,6 +31,9 @@ const TEXTS: usize = 253;
 const HEARD: usize = 300;
 
 const LENT: usize = 200;
+
+// A code that is no side: with a refusal `caption` leaves it (document 01, The caption).
+const LENT_CODE: u8 = 7;
 
 // From this number on the kinds of value have a text (`draft::form_of`).
 const TEXT: u8 = 3;
@@ -261,7 +264,7 @@ fn first(message: &[u8]) -> Step
 
 // What a walker at a place sees when it has moved on.
 fn onward(message: &[u8], place: usize) -> Step
-    ensures { λ r. ⌜ r ≡ seen (moved (record { message = message .entry; place = place })) ⌝ }
+    ensures { λ r. ⌜ r ≡ seen (advanced (record { message = message .entry; place = place })) ⌝ }
 {
     walker::look(walker::next(Walker { message, place }))
 }
@@ -356,15 +359,17 @@ fn say_part(text: &[u8], start: usize, size: usize) {
 fn say_find(message: &[u8], directory: &[u8]) {
     let found = caption::find(Book::PresentLenient, message, directory);
     match found {
-        Found::InMessage { start, length } => say_part(b"find message ", start, length),
-        Found::InDirectory { start, length } => say_part(b"find directory ", start, length),
-        Found::Refused(fault) => say_fault(b"find ", fault),
+        Shown::InMessage { start, length } => say_part(b"find message ", start, length),
+        Shown::InDirectory { start, length } => say_part(b"find directory ", start, length),
+        Shown::Refused(fault) => say_fault(b"find ", fault),
     }
 }
 
 fn say_caption<'a>(message: &'a [u8], directory: &'a [u8]) {
-    let text = caption::caption(Book::PresentLenient, message, directory);
-    say(b"caption=");
+    let mut side = LENT_CODE;
+    let text = caption::caption(Book::PresentLenient, message, directory, &mut side);
+    say_number(b"caption ", side as u64);
+    say(b"=");
     say_octets(text);
 }
 

@@ -4,15 +4,24 @@
 use Prim.Native.Nat.{ℕ, _≤_}
 use mathlib.Core.Path.{_≡_, refl, sym, _∙_, ap, subst}
 use mathlib.Core.List.{List, _++_}
-use mathlib.Core.Option.{none}
+use mathlib.Core.Option.{none, some}
+use native.Mathlib.Omega.{arith}
 use lib.ListN.{length, take, drop}
 use lib.Dec.{T}
+use Rattle.rules.specs.Tests.{_=?_, _or_, pick}
+use Rattle.rules.proofs.Tests.{pick-not, clash}
 use Rattle.rules.specs.Octets.{Octets}
-use Rattle.rules.specs.Table.{rulesOf}
+use Rattle.rules.specs.Table.{rulesOf, rowIn, rowOf, listedIn, listed, rivalOf}
 use Rattle.rules.specs.declared.Book.{Book}
+use Rattle.rules.specs.declared.Book.the-variants.{PresentStrict, PresentLenient, OldStrict, OldLenient}
 use Rattle.rules.specs.Message as message
-use Rattle.rules.specs.Message.{octets, LegalMessage}
-use Rattle.rules.specs.Unique.{told-in}
+use Rattle.rules.specs.Message.{Message, octets, LegalMessage}
+use Rattle.rules.specs.Counting.{counted}
+use Rattle.rules.proofs.Counting.{one-of-pair}
+use Rattle.rules.proofs.Unique.{unique-in}
+use Rattle.message.specs.declared.Part.{Part}
+use Rattle.message.specs.Places.{CountsAt}
+use Rattle.message.proofs.Promised as messages
 use Rattle.draft.specs.declared.Draft.{Draft}
 use Rattle.draft.specs.Draft.{messageOf, Equal}
 use Rattle.rules.specs.Laying.{laid}
@@ -20,59 +29,103 @@ use Rattle.draft.specs.Packing.{draftOf}
 use Rattle.reader.specs.declared.Packed.the-variants as packed
 use Rattle.reader.specs.declared.Reading.{Reading}
 use Rattle.reader.specs.Reads.{texts, Reads}
-use Rattle.reader.proofs.Readings.{reads}
-use Rattle.reader.proofs.read.Reads as read
+use Rattle.reader.proofs.Promised as reader
+use Rattle.writer.specs.declared.Written.{Written}
 use Rattle.writer.specs.declared.Written.the-variants as written
-use Rattle.writer.specs.Reasons.{Answers}
-use Rattle.writer.proofs.Writing as writing
-use Rattle.writer.proofs.Writing.{Laid, writes-back, reads-back}
-use Rattle.writer.proofs.write.Reads as write
+use Rattle.writer.specs.Reasons.{Writes}
+use Rattle.writer.proofs.Promised as writer
 use Rattle.desk.specs.declared.Desk.{Desk}
+use Rattle.desk.specs.declared.Outcome.{Outcome}
 use Rattle.desk.specs.Settles.{Settles}
-use Rattle.desk.specs.History.{Call, lastSaid, Stands, Says}
-use Rattle.desk.proofs.Settling as settling
-use Rattle.desk.proofs.settle.Reads as settle
+use Rattle.desk.specs.History.{Call, lastSaid, OpenBy, Says}
+use Rattle.desk.proofs.Promised as desk
 use Rattle.firmware.specs.DeskRecord.{isRecord, deskIn}
 use Rattle.firmware.specs.RecordReads.{RecordReads}
-use Rattle.firmware.specs.RecordSettles.{RecordSettles, RecordCall, lastSaidIn}
-use Rattle.firmware.proofs.Readings as readings
-use Rattle.firmware.proofs.Settlings as settlings
-use Rattle.firmware.proofs.anthercup_read.Reads as anthercup-read
-use Rattle.firmware.proofs.anthercup_settle.Reads as anthercup-settle
+use Rattle.firmware.specs.RecordSettles.{RecordSettles, RecordCall, lastSaidIn, SaysIn}
+use Rattle.firmware.proofs.Promised as firmware
+use Rattle.firmware.specs.Sizes.{draftSize}
 
 -- ---- each follows the rules
--- reading: which answer, with its place, and which draft and texts (`Reads`)
-pub reading-follows : (κs : _) (a : _) (r : _) (s : _) → read.Post κs a r s → Octets (a .1 .0 .now) → Reads (rulesOf (a .0)) (a .1 .0 .now) (a .1 .1 .0 .now) r (s .1 .1 .0 .now)
-reading-follows κs a r s p o = reads κs a r s p o
+-- reading: which answer, with its place, and which draft and texts
+pub reading-follows : (b : Book) (o old : List ℕ) (r : Reading) (area : List ℕ) → reader.read-gives b o old r area → Octets o → Reads (rulesOf b) o old r area
+reading-follows b o old r area h q = reader.reads b o old r area h q
 
--- writing: each number exactly where document 01 gives it (`Answers`), and what a written message is (`Laid`)
-pub writing-follows : (κs : _) (a : _) (r : _) (s : _) → write.Post κs a r s → Answers (rulesOf (a .0)) (a .1 .0) (a .1 .1 .0 .now) (length (a .1 .1 .1 .0 .now)) r
-writing-follows κs a r s p = writing.writer-answers κs a r s p
+-- writing: each number exactly where document 01 gives it, and what the output then holds
+pub writing-follows : (b : Book) (d : Draft) (t old : List ℕ) (w : Written) (out : List ℕ) → writer.write-gives b d t old w out → Writes (rulesOf b) d t old w out
+writing-follows b d t old w out h = writer.writing b d t old w out h
 
-pub writer-lays : (κs : _) (a : _) (r : _) (s : _) → write.Post κs a r s → (n : ℕ) → r ≡ written.Message n → Laid (rulesOf (a .0)) (a .1 .0) (a .1 .1 .0 .now) (a .1 .1 .1 .0 .now) (s .1 .1 .1 .0 .now) n
-writer-lays κs a r s p n e = writing.writer-lays κs a r s p n e
+-- what counts: of a message's octets, the part of the contents of a type that count, and none exactly where none count
+pub counting-follows : (b : Book) (o : List ℕ) (t : ℕ) (p : Part) → messages.counted-gives b o t p → (m : Message) → octets m ≡ o → CountsAt (rulesOf b) m t p
+counting-follows b o t p h m e = messages.counts b o t p h m e
 
--- settling: which answer, and what a notice, a call message and a refusal do to the desk (`Settles`)
-pub settling-follows : (κs : _) (a : _) (r : _) (s : _) → settle.Post κs a r s → Octets (a .1 .1 .0 .now) → Settles (rulesOf (a .0)) (a .1 .0) (a .1 .1 .0 .now) r
-settling-follows κs a r s p o = settling.settling κs a r s p o
+-- settling: which answer, and what a notice, a call message and a refusal do to the desk
+pub settling-follows : (b : Book) (d : Desk) (o : List ℕ) (r : Outcome) → desk.settle-gives b d o r → Octets o → Settles (rulesOf b) d o r
+settling-follows b d o r h q = desk.settling b d o r h q
 
 -- a reference is open after any calls, each by its own book, as the last word on it says
-pub open-by-last : (r : ℕ) (d : Desk) (cs : List Call) (e : Desk) → settling.Calls d cs e → Stands r (d .places) (lastSaid r cs none) (e .places)
-open-by-last r d cs e h = settling.open-by-last r d cs e h
+pub open-by-last : (r : ℕ) (d : Desk) (cs : List Call) (e : Desk) → desk.Calls d cs e → OpenBy r (d .places) (lastSaid r cs none) (e .places)
+open-by-last r d cs e h = desk.open-by-last r d cs e h
 
--- and the word of each call is the state and the reference of the 0DH that counts in its message (`Says`)
-pub says : (r : ℕ) (c : Call) (d : Desk) → settling.Promised d c → Octets (c .octets) → Says r c
-says r c d p o = settling.says r c d p o
+-- and the word of each call is the state and the reference of the 0DH that counts in its message
+pub says : (r : ℕ) (c : Call) (d : Desk) → desk.call-gives d c → Octets (c .octets) → Says r c
+says r c d h q = desk.says r c d h q
 
 -- the exports do the same on their records
-pub anthercup-reading-follows : (κs : _) (a : _) (r : _) (s : _) → anthercup-read.Post κs a r s → Octets (a .0 .now) → length (a .1 .0 .now) ≡ 688 → RecordReads (a .0 .now) (a .1 .0 .now) (a .1 .1 .0 .now) r (s .1 .0 .now) (s .1 .1 .0 .now)
-anthercup-reading-follows κs a r s p o n = readings.record-read κs a r s p o n
+pub anthercup-reading-follows : (o c t : List ℕ) (w : ℕ) (c' t' : List ℕ) → firmware.read-gives o c t w c' t' → Octets o → length c ≡ draftSize → RecordReads o c t w c' t'
+anthercup-reading-follows o c t w c' t' h q n = firmware.record-read o c t w c' t' h q n
 
-pub anthercup-settling-follows : (κs : _) (a : _) (r : _) (s : _) → anthercup-settle.Post κs a r s → Octets (a .1 .0 .now) → T (isRecord (a .0 .now)) → RecordSettles (deskIn (a .0 .now)) (a .1 .0 .now) r (s .0 .now)
-anthercup-settling-follows κs a r s p o t = settlings.settled-record κs a r s p o t
+pub anthercup-settling-follows : (c o : List ℕ) (w : ℕ) (c' : List ℕ) → firmware.settle-gives c o w c' → Octets o → T (isRecord c) → RecordSettles (deskIn c) o w c'
+anthercup-settling-follows c o w c' h q t = firmware.settled-record c o w c' h q t
 
-pub anthercup-open-by-last : (r : ℕ) (c : List ℕ) → Octets c → T (isRecord c) → (xs : List RecordCall) (c' : List ℕ) → settlings.RecordCalls c xs c' → Stands r (deskIn c .places) (lastSaidIn r xs none) (deskIn c' .places)
-anthercup-open-by-last r c q t xs c' h = settlings.open-by-last r c q t xs c' h
+pub anthercup-open-by-last : (r : ℕ) (c : List ℕ) → Octets c → T (isRecord c) → (xs : List RecordCall) (c' : List ℕ) → firmware.RecordCalls c xs c' → OpenBy r (deskIn c .places) (lastSaidIn r xs none) (deskIn c' .places)
+anthercup-open-by-last r c q t xs c' h = firmware.open-by-last r c q t xs c' h
+
+pub anthercup-says : (r : ℕ) (c : List ℕ) → Octets c → T (isRecord c) → (x : RecordCall) → firmware.settle-gives c (x .octets) (x .word) (x .cells) → Octets (x .octets) → SaysIn r x
+anthercup-says r c k t x h q = firmware.says r c k t x h q
+
+-- ---- of each pair one counts at most, by every book
+pub record Pairs (b : Book) (m : Message) : Type 0 where
+  pub caller : (v : List ℕ) → counted (rulesOf b) m 0x02 ≡ some v → counted (rulesOf b) m 0x04 ≡ none
+  pub no-caller : (v : List ℕ) → counted (rulesOf b) m 0x04 ≡ some v → counted (rulesOf b) m 0x02 ≡ none
+  pub name : (v : List ℕ) → counted (rulesOf b) m 0x07 ≡ some v → counted (rulesOf b) m 0x08 ≡ none
+  pub no-name : (v : List ℕ) → counted (rulesOf b) m 0x08 ≡ some v → counted (rulesOf b) m 0x07 ≡ none
+
+rivals : (b : Book) (m : Message) (t u : ℕ) → (t ≡ u → ⊥) → rivalOf (rulesOf b) t ≡ u → rivalOf (rulesOf b) u ≡ t → (v : List ℕ) → counted (rulesOf b) m t ≡ some v → counted (rulesOf b) m u ≡ none
+rivals b m t u n e f v k =
+    subst (λ (x : ℕ). counted (rulesOf b) m x ≡ none) e
+    (one-of-pair (rulesOf b) m t v (λ z. n (z ∙ e)) (ap (rivalOf (rulesOf b)) e ∙ f) k)
+
+-- a type without a row never counts
+unlisted : (b : Book) (m : Message) (t : ℕ) → (T (listed (rulesOf b) t) → ⊥) → counted (rulesOf b) m t ≡ none
+unfolding counted
+unlisted b m t n = pick-not _ _ _ n
+
+pub pairs : (b : Book) (m : Message) → Pairs b m
+unfolding rulesOf rivalOf rowOf rowIn listed listedIn pick _=?_ _or_
+pairs PresentStrict m = record {
+  caller = rivals PresentStrict m 0x02 0x04 (λ z. omega arith) refl refl;
+  no-caller = rivals PresentStrict m 0x04 0x02 (λ z. omega arith) refl refl;
+  name = rivals PresentStrict m 0x07 0x08 (λ z. omega arith) refl refl;
+  no-name = rivals PresentStrict m 0x08 0x07 (λ z. omega arith) refl refl;
+}
+pairs PresentLenient m = record {
+  caller = rivals PresentLenient m 0x02 0x04 (λ z. omega arith) refl refl;
+  no-caller = rivals PresentLenient m 0x04 0x02 (λ z. omega arith) refl refl;
+  name = rivals PresentLenient m 0x07 0x08 (λ z. omega arith) refl refl;
+  no-name = rivals PresentLenient m 0x08 0x07 (λ z. omega arith) refl refl;
+}
+pairs OldStrict m = record {
+  caller = rivals OldStrict m 0x02 0x04 (λ z. omega arith) refl refl;
+  no-caller = rivals OldStrict m 0x04 0x02 (λ z. omega arith) refl refl;
+  name = λ v k. unlisted OldStrict m 0x08 (λ t. t);
+  no-name = λ v k. clash (cc (sym (unlisted OldStrict m 0x08 (λ t. t)) ∙ k));
+}
+pairs OldLenient m = record {
+  caller = rivals OldLenient m 0x02 0x04 (λ z. omega arith) refl refl;
+  no-caller = rivals OldLenient m 0x04 0x02 (λ z. omega arith) refl refl;
+  name = λ v k. unlisted OldLenient m 0x08 (λ t. t);
+  no-name = λ v k. clash (cc (sym (unlisted OldLenient m 0x08 (λ t. t)) ∙ k));
+}
 
 -- ---- and they invert each other
 -- an area that holds texts from octet 0 on
@@ -81,46 +134,40 @@ unfolding laid
 laid-area v old = refl
 
 -- a message read and written again by one book is the same octets, with room for its texts and for the output; the octets behind them stay
-pub read-written : (κs : _) (a : _) (r : _) (s : _) → read.Post κs a r s → (κs' : _) (b : _) (w : _) (t : _) → write.Post κs' b w t → b .0 ≡ a .0 →
-    Octets (a .1 .0 .now) → (m : message.Message) → LegalMessage (rulesOf (a .0)) m → octets m ≡ a .1 .0 .now → length (texts (rulesOf (a .0)) m) ≤ length (a .1 .1 .0 .now) → length (a .1 .0 .now) ≤ length (b .1 .1 .1 .0 .now) →
-    b .1 .0 ≡ r .draft → b .1 .1 .0 .now ≡ s .1 .1 .0 .now →
-    (w ≡ written.Message (length (a .1 .0 .now))) × (t .1 .1 .1 .0 .now ≡ laid (a .1 .0 .now) (b .1 .1 .1 .0 .now))
-read-written κs a r s p κs' b w t q c o m l e h k d u =
-    let g = reads κs a r s p o .drafted m l e h in
-    let rest = drop (length (texts (rulesOf (a .0)) m)) (a .1 .1 .0 .now) in
-    let x : b .1 .0 ≡ draftOf (rulesOf (b .0)) m = d ∙ ap (λ (y : Reading). y .draft) (g .0) ∙ ap (λ (z : Book). draftOf (rulesOf z) m) (sym c) in
-    let y : b .1 .1 .0 .now ≡ texts (rulesOf (b .0)) m ++ rest = u ∙ g .1 ∙ laid-area (texts (rulesOf (a .0)) m) (a .1 .1 .0 .now) ∙ ap (λ (z : Book). texts (rulesOf z) m ++ rest) (sym c) in
-    let z = writes-back κs' b w t q m (subst (λ (z : Book). LegalMessage (rulesOf z) m) (sym c) l) rest x y (subst (λ (v : List ℕ). length v ≤ length (b .1 .1 .1 .0 .now)) (sym e) k) in
-    (z .0 ∙ ap (λ (v : List ℕ). written.Message (length v)) e, z .1 ∙ ap (λ (v : List ℕ). laid v (b .1 .1 .1 .0 .now)) e)
+pub read-written : (b : Book) (o old : List ℕ) (r : Reading) (area : List ℕ) → reader.read-gives b o old r area → (to : List ℕ) (w : Written) (out : List ℕ) → writer.write-gives b (r .draft) area to w out →
+    (m : Message) → LegalMessage (rulesOf b) m → octets m ≡ o → length (texts (rulesOf b) m) ≤ length old → length o ≤ length to → (w ≡ written.Message (length o)) × (out ≡ laid o to)
+read-written b o old r area h to w out k m l e n p =
+    let R = rulesOf b in
+    let g = reader.reads b o old r area h (unique-in b .octets o (m, l, e)) .drafted m l e n in
+    let rest = drop (length (texts R m)) old in
+    let y : area ≡ texts R m ++ rest = g .1 ∙ laid-area (texts R m) old in
+    let z = writer.writes-back b (r .draft) area to w out k m l rest (ap (λ (x : Reading). x .draft) (g .0)) y (subst (λ (v : List ℕ). length v ≤ length to) (sym e) p) in
+    (z .0 ∙ ap (λ (v : List ℕ). written.Message (length v)) e, z .1 ∙ ap (λ (v : List ℕ). laid v to) e)
 
 -- a draft that the writer takes, written and read again by one book with room for its texts, is the same draft
-pub written-read : (κs : _) (b : _) (w : _) (t : _) → write.Post κs b w t → (κs' : _) (a : _) (r : _) (s : _) → read.Post κs' a r s → b .0 ≡ a .0 →
-    (n : ℕ) → w ≡ written.Message n → a .1 .0 .now ≡ take n (t .1 .1 .1 .0 .now) → Octets (a .1 .0 .now) → length (texts (rulesOf (a .0)) (messageOf (b .1 .0) (b .1 .1 .0 .now))) ≤ length (a .1 .1 .0 .now) →
-    (r .answer ≡ packed.Texts (length (texts (rulesOf (a .0)) (messageOf (b .1 .0) (b .1 .1 .0 .now))))) × Equal (b .1 .0) (b .1 .1 .0 .now) (r .draft) (s .1 .1 .0 .now)
-written-read κs b w t q κs' a r s p x n e f o h =
-    let m = messageOf (b .1 .0) (b .1 .1 .0 .now) in
-    let R = rulesOf (a .0) in
-    let g = writing.writer-lays κs b w t q n e in
+pub written-read : (b : Book) (d : Draft) (t old : List ℕ) (n : ℕ) (out : List ℕ) → writer.write-gives b d t old (written.Message n) out → (before : List ℕ) (r : Reading) (area : List ℕ) → reader.read-gives b (take n out) before r area →
+    length (texts (rulesOf b) (messageOf d t)) ≤ length before → (r .answer ≡ packed.Texts (length (texts (rulesOf b) (messageOf d t)))) × Equal d t (r .draft) area
+written-read b d t old n out h before r area k p =
+    let R = rulesOf b in
+    let m = messageOf d t in
+    let g = writer.writer-lays b d t old (written.Message n) out h n refl in
     let c = g .accepted in
-    let same : c .0 ≡ m = told-in (b .0) .message (c .0) m (c .2 ∙ g .begins) in
-    let l : LegalMessage R m = subst (λ (z : Book). LegalMessage (rulesOf z) m) x (subst (LegalMessage (rulesOf (b .0))) same (c .1)) in
-    let z = reads κs' a r s p o .drafted m l (sym (g .begins) ∙ sym f) h in
-    let rest = drop (length (texts R m)) (a .1 .1 .0 .now) in
-    let v = subst (λ (k : Book). Equal (b .1 .0) (b .1 .1 .0 .now) (draftOf (rulesOf k) m) (texts (rulesOf k) m ++ rest)) x (reads-back κs b w t q n e rest) in (
-      ap (λ (y : Reading). y .answer) (z .0),
-      subst (λ (y : Draft). Equal (b .1 .0) (b .1 .1 .0 .now) y (s .1 .1 .0 .now)) (sym (ap (λ (y : Reading). y .draft) (z .0)))
-          (subst (λ (y : List ℕ). Equal (b .1 .0) (b .1 .1 .0 .now) (draftOf R m) y) (sym (z .1)) (subst (λ (y : List ℕ). Equal (b .1 .0) (b .1 .1 .0 .now) (draftOf R m) y) (sym (laid-area (texts R m) (a .1 .1 .0 .now))) v)),
-    )
+    let same : c .0 ≡ m = unique-in b .message (c .0) m (c .2 ∙ g .begins) in
+    let l : LegalMessage R m = subst (LegalMessage R) same (c .1) in
+    let z = reader.reads b (take n out) before r area k (unique-in b .octets _ c) .drafted m l (sym (g .begins)) p in
+    let rest = drop (length (texts R m)) before in
+    let v = writer.reads-back b d t old (written.Message n) out h n refl rest in
+    let a : texts R m ++ rest ≡ area = sym (z .1 ∙ laid-area (texts R m) before) in
+    let u : draftOf R m ≡ r .draft = sym (ap (λ (y : Reading). y .draft) (z .0)) in
+    (ap (λ (y : Reading). y .answer) (z .0), subst (λ (y : Draft). Equal d t y area) u (subst (Equal d t (draftOf R m)) a v))
 
--- equal drafts get the same answer by one book in outputs of one length, and are written as the same octets
-pub equals-written : (κs : _) (a : _) (r : _) (s : _) (κs' : _) (a' : _) (r' : _) (s' : _) → write.Post κs a r s → write.Post κs' a' r' s' → a' .0 ≡ a .0 →
-    Equal (a .1 .0) (a .1 .1 .0 .now) (a' .1 .0) (a' .1 .1 .0 .now) → length (a .1 .1 .1 .0 .now) ≡ length (a' .1 .1 .1 .0 .now) →
-    (r ≡ r') × (octets (messageOf (a .1 .0) (a .1 .1 .0 .now)) ≡ octets (messageOf (a' .1 .0) (a' .1 .1 .0 .now)))
-equals-written κs a r s κs' a' r' s' p q z e l = writing.equals-written κs a r s κs' a' r' s' p q z e l
+-- equal drafts, each with its text area, written by one book over one output, get the same answer and leave the same output
+pub equals-written : (b : Book) (d : Draft) (t : List ℕ) (e : Draft) (u old : List ℕ) (w w' : Written) (out out' : List ℕ) → writer.write-gives b d t old w out → writer.write-gives b e u old w' out' → Equal d t e u → (w ≡ w') × (out ≡ out')
+equals-written b d t e u old w w' out out' h k q = writer.equals-written b d t e u old w w' out out' h k q
 
 -- settled twice running by one book leaves what once left, and says the same; on the record too
-pub settled-twice : (κs : _) (a : _) (r : _) (s : _) → settle.Post κs a r s → (κs' : _) (a' : _) (r' : _) (s' : _) → settle.Post κs' a' r' s' → a' .0 ≡ a .0 → a' .1 .0 ≡ r .desk → a' .1 .1 .0 .now ≡ a .1 .1 .0 .now → Octets (a .1 .1 .0 .now) → r' ≡ r
-settled-twice κs a r s p κs' a' r' s' p' b d e o = settling.settled-twice κs a r s p κs' a' r' s' p' b d e o
+pub settled-twice : (b : Book) (d : Desk) (o : List ℕ) (r r' : Outcome) → desk.settle-gives b d o r → desk.settle-gives b (r .desk) o r' → Octets o → r' ≡ r
+settled-twice b d o r r' h k q = desk.settled-twice b d o r h r' k q
 
-pub anthercup-settled-twice : (κs : _) (a : _) (r : _) (s : _) → anthercup-settle.Post κs a r s → (κs' : _) (b : _) (r' : _) (s' : _) → anthercup-settle.Post κs' b r' s' → b .0 .now ≡ s .0 .now → b .1 .0 .now ≡ a .1 .0 .now → Octets (a .0 .now) → Octets (a .1 .0 .now) → (r' ≡ r) × (s' .0 .now ≡ s .0 .now)
-anthercup-settled-twice κs a r s p κs' b r' s' q e f k o = settlings.settled-twice κs a r s p κs' b r' s' q e f k o
+pub anthercup-settled-twice : (c o : List ℕ) (w : ℕ) (c' : List ℕ) (w' : ℕ) (c'' : List ℕ) → firmware.settle-gives c o w c' → firmware.settle-gives c' o w' c'' → Octets c → Octets o → (w' ≡ w) × (c'' ≡ c')
+anthercup-settled-twice c o w c' w' c'' h k p q = firmware.settled-twice c o w c' h w' c'' k p q

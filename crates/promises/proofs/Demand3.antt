@@ -2,72 +2,90 @@
 -- after call, whatever outcomes they allow; and a whole read of the same octets says the same.
 -- Assumes nothing.
 use Prim.Native.Nat.{ℕ, _+_}
-use mathlib.Core.Path.{_≡_, refl, sym, subst}
+use mathlib.Core.Path.{_≡_, refl}
 use mathlib.Core.Logic.{_↔_, Iff·trans, Iff·symm}
 use mathlib.Core.List.{List, _++_}
 use lib.ListN.{length}
 use lib.Dec.{T}
 use Rattle.rules.specs.Octets.{Octets}
-use Rattle.rules.specs.Table.{Rules, rulesOf}
-use Rattle.rules.specs.Judge.{given}
+use Rattle.rules.specs.Language.{languageOf}
 use Rattle.rules.specs.declared.Book.{Book}
 use Rattle.rules.specs.declared.Book.the-variants.{PresentLenient}
-use Rattle.rules.specs.Message.{Accepts}
-use Rattle.rules.specs.Endings.{Ending, Spoilt, Numbered}
 use Rattle.rules.specs.Refusals.{noted}
-use Rattle.rules.specs.Language.{calls, languageOf}
 use Rattle.rules.specs.declared.Fault.{Fault}
-use Rattle.listener.specs.Heard.{newListener}
+use Rattle.listener.specs.Heard.{newListener, stepped, outOfRange}
 use Rattle.listener.specs.Hears.{Hears}
+use Rattle.listener.specs.declared.Listener.{Listener}
+use Rattle.listener.specs.declared.Heard.{Heard}
 use Rattle.listener.specs.declared.Answer.{Answer}
 use Rattle.listener.specs.declared.Answer.the-variants as answer
-use Rattle.listener.proofs.Hearing as hearing
-use Rattle.listener.proofs.reset.Reads as reset
-use Rattle.listener.proofs.listen.Reads as listen
+use Rattle.listener.proofs.Promised as listener
 use Rattle.reader.specs.declared.Packed.{Packed}
 use Rattle.reader.specs.declared.Packed.the-variants as packed
-use Rattle.reader.proofs.Readings as reading
-use Rattle.reader.proofs.read.Reads as read
-use Rattle.firmware.specs.RecordHears.{RecordHears}
-use Rattle.firmware.proofs.Hearing as records
-use Rattle.firmware.proofs.anthercup_listen.Reads as anthercup-listen
+use Rattle.reader.specs.declared.Reading.{Reading}
+use Rattle.reader.proofs.Promised as reader
+use Rattle.firmware.specs.Word.{packed as word-of, wordNumber, wordPlace, wordSize}
+use Rattle.firmware.specs.RecordHears.{RecordHears, SameEnd}
+use Rattle.firmware.proofs.Promised as firmware
 
--- the listener heard h since its reset to the book b, in whatever runs, and then one more: it waits, has a message or refuses exactly as that book's rules
--- say of all these octets (`Hears`: waits, has-message, refuses, and the octets taken)
-pub waits-or-answers : (κs : _) (a : _) (r : _) (s : _) {b : Book} {h : List ℕ} → listen.Post κs a r s → hearing.Heard b (a .0) h → Octets (a .1 .0 .now) → Hears (languageOf b) h (a .1 .0 .now) r
-waits-or-answers κs a r s p d o = hearing.demand3 κs a r s p d o
+module _ (b : Book) (l : Listener) (h : List ℕ) (d : listener.HasHeard b l h) (o : List ℕ) (q : Octets o) (r : Heard) (p : listener.listen-gives l o r) where
+  -- the listener heard h since its reset to the book b, in whatever runs, and then one more: it waits, has a message or refuses exactly as that book's rules
+  -- say of all these octets (`Hears`: waits, has-message, refuses, answers-by-258, and the octets taken)
+  pub waits-or-answers : Hears (languageOf b) h o r
+  waits-or-answers = listener.demand3 b l h d o q r p
 
--- the export, on a record that heard h since it was reset: the same, read off the word
-pub anthercup-waits-or-answers : (κs : _) (a : _) (r : _) (s : _) {h : List ℕ} → anthercup-listen.Post κs a r s → records.Heard (a .0 .now) h → Octets (a .1 .0 .now) → RecordHears (languageOf PresentLenient) h (a .1 .0 .now) r
-anthercup-waits-or-answers κs a r s p d o = records.demand3 κs a r s p d o
+  -- an answer, once given, stays the same with the same place: the next call, with any run, takes nothing, says it again and leaves the listener
+  pub answer-stays : (r .answer ≡ answer.Waits → ⊥) → (o' : List ℕ) (r' : Heard) → listener.listen-gives (r .listener) o' r' → r' ≡ record { listener = r .listener; answer = r .answer; taken = 0 }
+  answer-stays n o' r' k = listener.answer-stays b l h d o q r p n o' r' k
 
--- any cutting ends as one run does: c is the call on the whole run, a and b those on its parts
-pub cut-anywhere : (κs₀ : _) (c : _) (r : _) (s₀ : _) → listen.Post κs₀ c r s₀ → (κs₁ : _) (a : _) (r₁ : _) (s₁ : _) → listen.Post κs₁ a r₁ s₁ → (κs₂ : _) (b : _) (r₂ : _) (s₂ : _) → listen.Post κs₂ b r₂ s₂ → c .0 ≡ a .0 → b .0 ≡ r₁ .listener → c .1 .0 .now ≡ a .1 .0 .now ++ b .1 .0 .now → Octets (a .1 .0 .now) → (r .listener ≡ r₂ .listener) × (r .answer ≡ r₂ .answer) × (r .taken ≡ r₁ .taken + r₂ .taken)
-cut-anywhere κs₀ c r s₀ p κs₁ a r₁ s₁ p₁ κs₂ b r₂ s₂ p₂ e f g o = hearing.cut-anywhere κs₀ c r s₀ p κs₁ a r₁ s₁ p₁ κs₂ b r₂ s₂ p₂ e f g o
+  -- it never gets 17
+  pub never-17 : (f : Fault) → r .answer ≡ answer.Refused f → T (languageOf b .given (f .number))
+  never-17 f e = listener.never-17 b l h d o q r p f e
 
--- a reset listener equals a new one
-pub reset-is-new : (κs : _) (a : _) (r : _) (s : _) → reset.Post κs a r s → r ≡ newListener (a .0)
-reset-is-new κs a r s p = hearing.reset-is-new κs a r s p
+module _ (l : Listener) (o : List ℕ) (r : Heard) (p : listener.listen-gives l o r) where
+  -- a listener in range that no octets lead to is stepped by the written rule: listener, answer and octets taken
+  pub by-the-rule : T (languageOf (l .book) .inRange (l .state)) → r ≡ stepped (languageOf (l .book)) l o
+  by-the-rule t = listener.by-the-rule l o r p t
 
--- a listener heard h since its reset, and then a run: what it says is what a whole read of all these octets by the book of the reset says
-pub record AsListened (R : Rules) (o : List ℕ) (w : Answer) (x : Packed) : Type 0 where
-  pub refuses : (f : Fault) → T (given R (f .number)) → (x ≡ packed.Refused f) ↔ (w ≡ answer.Refused f)
+  -- one out of range gets 17 at 0, takes nothing and comes back as it was
+  pub out-of-range : (T (languageOf (l .book) .inRange (l .state)) → ⊥) → r ≡ outOfRange l
+  out-of-range n = listener.out-of-range l o r p n
+
+-- any cutting ends as one run does
+pub cut-anywhere : (l : Listener) (x y : List ℕ) (r r₁ r₂ : Heard) → listener.listen-gives l (x ++ y) r → listener.listen-gives l x r₁ → listener.listen-gives (r₁ .listener) y r₂ → Octets x →
+    (r .listener ≡ r₂ .listener) × (r .answer ≡ r₂ .answer) × (r .taken ≡ r₁ .taken + r₂ .taken)
+cut-anywhere l x y r r₁ r₂ p p₁ p₂ q = listener.cut-anywhere l x y r r₁ r₂ p p₁ p₂ q
+
+-- a reset listener equals a new one, and its book is that of its reset after any calls
+pub reset-is-new : (b : Book) (l : Listener) → listener.reset-gives b l → l ≡ newListener b
+reset-is-new b l h = listener.reset-is-new b l h
+
+pub book-kept : (b : Book) (l : Listener) (h : List ℕ) → listener.HasHeard b l h → l .book ≡ b
+book-kept b l h d = listener.book-kept b l h d
+
+-- ---- the exports, on a record that heard h since it was reset: the same, read off the word
+module _ (c h : List ℕ) (d : firmware.RecordHasHeard c h) (o : List ℕ) (q : Octets o) (w : ℕ) (c' : List ℕ) (k : firmware.listen-gives c o w c') where
+  pub anthercup-waits-or-answers : RecordHears (languageOf PresentLenient) h o w
+  anthercup-waits-or-answers = firmware.demand3 c h d o q w c' k
+
+  pub anthercup-answer-stays : (((wordNumber w ≡ 0) × (wordSize w ≡ 0)) → ⊥) → (o' : List ℕ) (w' : ℕ) (c'' : List ℕ) → firmware.listen-gives c' o' w' c'' → (w' ≡ word-of (wordNumber w) (wordPlace w) (wordSize w) 0) × (c'' ≡ c')
+  anthercup-answer-stays n o' w' c'' x = firmware.answer-stays c h d o q w c' k n o' w' c'' x
+
+pub anthercup-cut-anywhere : (c x y : List ℕ) (w w₁ w₂ : ℕ) (d d₁ d₂ : List ℕ) → firmware.listen-gives c (x ++ y) w d → firmware.listen-gives c x w₁ d₁ → firmware.listen-gives d₁ y w₂ d₂ → Octets c → Octets x → Octets y → SameEnd w w₁ w₂ d d₂
+anthercup-cut-anywhere c x y w w₁ w₂ d d₁ d₂ h h₁ h₂ q a b = firmware.cut-anywhere c x y w w₁ w₂ d d₁ d₂ h h₁ h₂ q a b
+
+-- ---- a listener heard h since its reset, and then a run: what it says is what a whole read of all these octets by the book of the reset says
+pub record AsListened (b : Book) (o : List ℕ) (w : Answer) (x : Packed) : Type 0 where
+  pub refuses : (f : Fault) → T (languageOf b .given (f .number)) → (x ≡ packed.Refused f) ↔ (w ≡ answer.Refused f)
   pub waits : (x ≡ packed.Refused (noted 8 (length o))) ↔ (w ≡ answer.Waits)
 
--- what a listener says of all the octets it heard: where they are spoilt, and whether it waits
-abbrev Answered : Rules → List ℕ → Answer → Type 0
-Answered R x w = ((f : Fault) → (w ≡ answer.Refused f) ↔ (Spoilt (Accepts R) x (f .place) × Numbered (Accepts R) (calls R .roles) x (f .place) (f .number))) × ((w ≡ answer.Waits) ↔ Ending (Accepts R) x)
-
-pub as-listened : (κs : _) (a : _) (r : _) (s : _) {h : List ℕ} → listen.Post κs a r s → (κs' : _) (b : _) (r' : _) (s' : _) → read.Post κs' b r' s' → hearing.Heard (b .0) (a .0) h → Octets (a .1 .0 .now) → b .1 .0 .now ≡ h ++ a .1 .0 .now → Octets (b .1 .0 .now) → AsListened (rulesOf (b .0)) (b .1 .0 .now) (r .answer) (r' .answer)
-as-listened κs a r s {h = h} p κs' b r' s' p' d o e o' =
-    let R = rulesOf (b .0) in
-    let g = reading.reads κs' b r' s' p' o' in
-    let k = subst (λ (x : List ℕ). Answered R x (r .answer)) (sym e) (answered (b .0) (hearing.demand3 κs a r s p d o)) in
-    let v = g .early (length (b .1 .0 .now)) in
+pub as-listened : (b : Book) (l : Listener) (h : List ℕ) → listener.HasHeard b l h → (o : List ℕ) → Octets o → (r : Heard) → listener.listen-gives l o r →
+    (old : List ℕ) (x : Reading) (area : List ℕ) → reader.read-gives b (h ++ o) old x area → Octets (h ++ o) → AsListened b (h ++ o) (r .answer) (x .answer)
+as-listened b l h d o q r p old x area k q' =
+    let g = reader.reads b (h ++ o) old x area k q' in
+    let y = listener.demand3 b l h d o q r p in
+    let v = g .early (length (h ++ o)) in
     record {
-      refuses = λ f l. Iff·trans (g .spoilt f l) (Iff·symm (k .0 f));
-      waits = (λ q. k .1 .1 (v .0 q .1), λ q. v .1 (refl, k .1 .0 q));
+      refuses = λ f t. Iff·trans (g .spoilt f t) (Iff·symm (y .refuses f));
+      waits = (λ e. y .waits .1 (v .0 e .1), λ e. v .1 (refl, y .waits .0 e));
     }
-  where
-    answered : (c : Book) → Hears (languageOf c) h (a .1 .0 .now) r → Answered (rulesOf c) (h ++ a .1 .0 .now) (r .answer)
-    answered c k = (k .refuses, k .waits)

@@ -1,4 +1,5 @@
--- A read says and leaves what is promised: by the verdict on the octets, the room for the texts, and the draft of the message that accepted octets are.
+-- A read says and leaves what is promised: by the verdict on the octets, the room for the texts, and the draft of the
+-- message that accepted octets are.
 -- Assumes nothing.
 use Prim.Native.Nat.{ℕ, _≤_, _<_}
 use mathlib.Core.Path.{_≡_, refl, sym, _∙_, ap, subst}
@@ -7,29 +8,32 @@ use mathlib.Core.List.{List}
 use native.Mathlib.Omega.{arith}
 use lib.ListN.{length, drop}
 use lib.Dec.{T}
-use Rattle.rules.specs.Tests.{_≤?_, left, right, of-eq, pick-case, pick-yes, pick-not, picked-by, le-of, of-le, not-le, clash}
+use Rattle.rules.specs.Tests.{_≤?_}
+use Rattle.rules.proofs.Tests.{left, right, of-eq, pick-case, pick-yes, pick-not, picked-by, le-of, of-le, not-le, clash}
 use Rattle.rules.specs.Octets.{Octets}
 use Rattle.rules.specs.Table.{Rules}
-use Rattle.rules.specs.ContentLaw.{SoundRules}
-use Rattle.rules.specs.Sizes.{some-parameter}
+use Rattle.rules.proofs.ContentLaw.{SoundRules}
+use Rattle.rules.proofs.Sizes.{some-parameter}
 use Rattle.rules.specs.Message.{Message, Parameter, octets, LegalMessage, Accepts}
 use Rattle.rules.specs.Refusals.{noted}
 use Rattle.rules.specs.Language.{calls}
-use Rattle.rules.specs.Calls.{spoken, accepted-size}
+use Rattle.rules.proofs.Grammar.{spoken, accepted-size}
 use Rattle.rules.specs.declared.Fault.{Fault}
 use Rattle.message.specs.declared.Verdict.{Verdict}
 use Rattle.message.specs.declared.Verdict.the-variants.{Accepted, Declined}
 use Rattle.message.specs.Verdict.{verdictOf}
-use Rattle.message.specs.Judges.{Judges, judges-calls, given-apart, told-small, verdictNumber}
-use Rattle.message.specs.Parameters.{parametersIn, messageIn, message-in}
+use Rattle.message.specs.Judges.{Judges, verdictNumber}
+use Rattle.message.proofs.Judges.{judges-calls, given-apart, told-small, near-declined}
+use Rattle.message.specs.Parameters.{parametersIn, messageIn}
+use Rattle.message.proofs.Parameters.{message-in}
 use Rattle.draft.specs.Draft.{emptyOf, messageOf}
 use Rattle.rules.specs.Laying.{laid}
 use Rattle.draft.specs.Packing.{textsOf, draftOf}
 use Rattle.draft.proofs.Packing.{draft-stands}
 use Rattle.reader.specs.declared.Packed.the-variants.{Texts, Refused}
-use Rattle.reader.proofs.Taking.{texts-in-body, size-within}
+use Rattle.reader.proofs.Turns.{texts-in-body, size-within}
 use Rattle.reader.specs.Read.{textSize, packFrom, packOf, areaFrom, areaAfter, draftFrom, readOf}
-use Rattle.reader.specs.Reads.{numberOf, placeOf, sizeOf, Near, texts, readNumber, Reads}
+use Rattle.reader.specs.Reads.{told, Near, texts, readNumber, Reads}
 
 -- 253 octets are always enough for them
 pub area-enough : (R : Rules) (m : Message) → LegalMessage R m → length (texts R m) ≤ 253
@@ -44,7 +48,8 @@ place-is f g e = let z : f ≡ g = cc in ap (λ (x : Fault). x .place) z
 module _ (R : Rules) (S : SoundRules R) where
   module _ (o : List ℕ) (room : ℕ) where
     -- ---- which verdict is behind an answer
-    declined-iff : (v : Verdict) (f : Fault) → (f .number ≡ 9 → ⊥) → (packFrom R o room v ≡ Refused f) ↔ (v ≡ Declined f)
+    declined-iff : (v : Verdict) (f : Fault) → (f .number ≡ 9 → ⊥) →
+        (packFrom R o room v ≡ Refused f) ↔ (v ≡ Declined f)
     unfolding packFrom
     declined-iff (Accepted n) f l = (
       λ e. picked-by _ _ _ _ _ e (λ _ d. clash cc) (λ _ d. absurd (l (sym (number-is _ _ d)))),
@@ -58,7 +63,8 @@ module _ (R : Rules) (S : SoundRules R) where
     short-iff (Accepted n) p l = (
       λ e. picked-by _ _ _ _ _ e (λ _ d. clash cc)
           (λ t d. let z = place-is _ _ d in (n, refl, sym z, omega (arith, not-le _ _ t))),
-      λ e. pick-not _ _ _ (λ t. omega (arith, le-of _ _ t, e .2, e .3)) ∙ ap (λ (k : ℕ). Refused (noted 9 k)) (sym (e .2)),
+      λ e. pick-not _ _ _ (λ t. omega (arith, le-of _ _ t, e .2, e .3))
+          ∙ ap (λ (k : ℕ). Refused (noted 9 k)) (sym (e .2)),
     )
     short-iff (Declined g) p l = (
       λ e. let z : g ≡ (noted 9 p) = cc in absurd (l g refl (ap (λ (x : Fault). x .number) z)),
@@ -103,41 +109,53 @@ module _ (R : Rules) (S : SoundRules R) where
     unfolding packOf
     declined f l = declined-iff o room v f l
 
-    short-message : (p : ℕ) → (packOf R o room ≡ Refused (noted 9 p)) ↔ ((m : Message) × LegalMessage R m × (octets m ≡ o) × (p ≡ length (texts R m)) × (room < p))
+    short-message : (p : ℕ) →
+        (packOf R o room ≡ Refused (noted 9 p)) ↔
+        ((m : Message) × LegalMessage R m × (octets m ≡ o) × (p ≡ length (texts R m)) × (room < p))
     unfolding packOf
     short-message p =
         let d = short-iff o room v p (λ f e. told-small (spoken R S) _ (j .numbers f e) .2) in (
-          λ e. let x = d .0 e in let a = j .accepted (x .0) .0 (x .1) .1 in (a .0, a .1, a .2, x .2 ∙ size-of (a .0) o (a .1) (a .2), x .3),
+          λ e. let x = d .0 e in
+              let a = j .accepted (x .0) .0 (x .1) .1 in
+              (a .0, a .1, a .2, x .2 ∙ size-of (a .0) o (a .1) (a .2), x .3),
           λ e. d .1 (length o, accepted (e .0) (e .1) (e .2), e .3 ∙ sym (size-of (e .0) o (e .1) (e .2)), e .4),
         )
 
     module _ (m : Message) (l : LegalMessage R m) (e : octets m ≡ o) (h : length (texts R m) ≤ room) where
       packs : packOf R o room ≡ Texts (length (texts R m))
       unfolding packOf
-      packs = whole-is o room v (length o) (accepted m l e) (omega (arith, size-of m o l e)) ∙ ap Texts (size-of m o l e)
+      packs =
+          whole-is o room v (length o) (accepted m l e) (omega (arith, size-of m o l e)) ∙ ap Texts (size-of m o l e)
 
       reads : readOf R o room ≡ (record { answer = Texts (length (texts R m)); draft = draftOf R m })
       unfolding readOf draftFrom
       reads =
-          let z : draftFrom R o (packOf R o room) ≡ draftOf R m = ap (draftFrom R o) packs ∙ ap (draftOf R) (in-octets m o l e) in
+          let z : draftFrom R o (packOf R o room) ≡ draftOf R m =
+          ap (draftFrom R o) packs ∙ ap (draftOf R) (in-octets m o l e) in
           λ i. record { answer = packs i; draft = z i }
 
       area-is : areaAfter R o old ≡ laid (texts R m) old
       unfolding areaAfter areaFrom
-      area-is = ap (areaFrom R o old) packs ∙ ap (λ (ps : List Parameter). laid (textsOf R ps) old) (parameters-in m o l e)
+      area-is =
+          ap (areaFrom R o old) packs ∙ ap (λ (ps : List Parameter). laid (textsOf R ps) old) (parameters-in m o l e)
 
       stands : messageOf (draftOf R m) (laid (texts R m) old) ≡ m
       unfolding laid
       stands = draft-stands R m (drop (length (texts R m)) old) l
 
-    refused-all : (f : Fault) → packOf R o room ≡ Refused f → (areaAfter R o old ≡ old) × (readOf R o room .draft ≡ emptyOf 0)
+    refused-all : (f : Fault) → packOf R o room ≡ Refused f →
+        (areaAfter R o old ≡ old) × (readOf R o room .draft ≡ emptyOf 0)
     unfolding areaAfter areaFrom readOf draftFrom
     refused-all f e = (ap (areaFrom R o old) e, ap (draftFrom R o) e)
 
-    numbers-of : (w : Verdict) (f : Fault) → ((g : Fault) → w ≡ Declined g → T (verdictNumber (calls R) (g .number))) → packFrom R o room w ≡ Refused f → T (readNumber R (f .number))
+    numbers-of : (w : Verdict) (f : Fault) →
+        ((g : Fault) → w ≡ Declined g → T (verdictNumber (calls R) (g .number))) → packFrom R o room w ≡ Refused f →
+        T (readNumber R (f .number))
     unfolding packFrom readNumber
-    numbers-of (Accepted n) f b e = picked-by _ _ _ _ _ e (λ _ d. clash cc) (λ _ d. right _ _ (of-eq _ _ (sym (number-is _ _ d))))
-    numbers-of (Declined g) f b e = left _ _ (subst (λ (k : ℕ). T (verdictNumber (calls R) k)) (number-is _ _ e) (b g refl))
+    numbers-of (Accepted n) f b e =
+        picked-by _ _ _ _ _ e (λ _ d. clash cc) (λ _ d. right _ _ (of-eq _ _ (sym (number-is _ _ d))))
+    numbers-of (Declined g) f b e =
+        left _ _ (subst (λ (k : ℕ). T (verdictNumber (calls R) k)) (number-is _ _ e) (b g refl))
 
     refused-number : (f : Fault) → packOf R o room ≡ Refused f → T (readNumber R (f .number))
     unfolding packOf
@@ -145,16 +163,20 @@ module _ (R : Rules) (S : SoundRules R) where
 
     -- numbers, places and sizes are small: a word has room for them
     near-of : (w : Verdict) → ((g : Fault) → w ≡ Declined g → (g .number ≤ 10) × (g .place ≤ 258)) → ((n : ℕ) → w ≡ Accepted n → length o ≤ 258) → Near (packFrom R o room w)
-    unfolding packFrom numberOf placeOf sizeOf
+    unfolding packFrom told
     near-of (Accepted n) b l =
         let z = size-within R o in
         let k = l n refl in
-        pick-case Near (textSize R o ≤? room) _ _ (λ _. record { number = omega arith; place = omega arith; size = omega arith }) (λ _. record { number = omega arith; place = omega arith; size = omega arith })
-    near-of (Declined g) b l = let x = b g refl in record { number = omega (arith, x .0); place = x .1; size = omega arith }
+        pick-case Near (textSize R o ≤? room) _ _
+        (λ _. record { number = omega arith; place = omega arith; size = omega arith })
+        (λ _. record { number = omega arith; place = omega arith; size = omega arith })
+    near-of (Declined g) b l =
+        let x = b g refl in
+        record { number = omega (arith, x .0); place = x .1; size = omega arith }
 
     pub near : Near (packOf R o room)
     unfolding packOf
-    near = near-of v (λ g e. (told-small (spoken R S) _ (j .numbers g e) .1, j .near g e)) (λ n e. accepted-size R o (j .accepted n .0 e .1) .1)
+    near = near-of v (λ g e. (told-small (spoken R S) _ (j .numbers g e) .1, near-declined j g e)) (λ n e. accepted-size R o (j .accepted n .0 e .1) .1)
 
     only-message : (n : ℕ) → packOf R o room ≡ Texts n → Accepts R o
     unfolding packOf
@@ -164,11 +186,16 @@ module _ (R : Rules) (S : SoundRules R) where
     unfolding readOf
     reads-of = record {
       spoilt = λ f l. Iff·trans (declined f (given-apart (spoken R S) _ l .2)) (j .spoilt f l);
-      as-the-listener = λ f l. Iff·trans (declined f (given-apart (spoken R S) _ l .2)) (j .as-the-listener f l);
       early = λ p. Iff·trans (declined (noted 8 p) (λ x. omega arith)) (j .early p);
       followed = λ p. Iff·trans (declined (noted 7 p) (λ x. omega arith)) (j .followed p);
       short = short-message;
-      drafted = λ m l e h. (reads m l e h, area-is m l e h, (λ i. messageOf (reads m l e h i .draft) (area-is m l e h i)) ∙ stands m l e h);
+      drafted =
+          λ m l e h. (
+            reads m l e h,
+            area-is m l e h,
+            (λ i. messageOf (reads m l e h i .draft) (area-is m l e h i))
+                ∙ stands m l e h,
+          );
       only = only-message;
       refused = λ f e. (refused-all f e .0, refused-all f e .1, refused-number f e);
     }

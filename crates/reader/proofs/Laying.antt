@@ -1,4 +1,5 @@
--- How texts are laid down one behind the other, and entries taken one after the other: what holds between the turns of the loops.
+-- How texts are laid down one behind the other, and entries taken one after the other: what holds between the turns
+-- of the loops.
 -- Assumes nothing.
 use Prim.Native.Nat.{ℕ, suc, _+_, _-_, _≤_, _<_}
 use mathlib.Core.Path.{_≡_, refl, sym, _∙_, ap, ap₂}
@@ -7,18 +8,21 @@ use native.Mathlib.Numerals.{add-one}
 use native.Mathlib.Omega.{arith}
 use lib.ListN.{length, length-append, length-drop, length-set, length-replicate, take, drop, set, getD, replicate, take-append-drop}
 use lib.Seq.{drop-drop, take-suc-set, drop-set-lt, length-take-le}
-use Rattle.rules.specs.Tests.{_≤?_, pick-yes, pick-not, le-of, of-le}
+use Rattle.rules.specs.Tests.{_≤?_}
+use Rattle.rules.proofs.Tests.{pick-yes, pick-not, le-of, of-le}
 use Rattle.rules.specs.Table.{Rules}
 use Rattle.rules.specs.declared.Fault.{Fault}
 use Rattle.message.specs.declared.Verdict.{Verdict}
 use Rattle.message.specs.declared.Verdict.the-variants.{Accepted, Declined}
 use Rattle.message.specs.Verdict.{verdictOf}
 use Rattle.rules.specs.Message.{Parameter, most}
-use Rattle.message.specs.Parameters.{parametersFrom, parametersIn, messageIn, no-more}
+use Rattle.message.specs.Parameters.{parametersFrom, parametersIn, messageIn}
+use Rattle.message.proofs.Parameters.{no-more}
 use Rattle.draft.specs.declared.Entry.{Entry}
 use Rattle.draft.specs.declared.Draft.{Draft}
 use Rattle.draft.specs.Draft.{noEntry, emptyOf}
-use Rattle.rules.specs.Laying.{laid, laidAt, laid-front, laid-behind, laid-length}
+use Rattle.rules.specs.Laying.{laid, laidAt}
+use Rattle.rules.proofs.Laying.{laid-front, laid-behind, laid-length}
 use Rattle.rules.specs.Refusals.{noted}
 use Rattle.draft.specs.Packing.{textsOf, entriesOf, draftOf}
 use Rattle.draft.proofs.Packing.{entries-length}
@@ -26,24 +30,24 @@ use Rattle.reader.specs.declared.Packed.{Packed}
 use Rattle.reader.specs.declared.Packed.the-variants as packed
 use Rattle.reader.specs.declared.Taken.the-variants as taken
 use Rattle.reader.specs.declared.Text.the-variants as text
-use Rattle.reader.specs.Read.{textSize, textAt, entryAt, packFrom, packOf, areaFrom, areaAfter, draftFrom, readOf}
-use Rattle.reader.proofs.Taking.{TextHere, text-here, text-none, EntryHere, entry-here, entry-none, size-within, accepted-long}
+use Rattle.reader.specs.Read.{textSize, textAt, takenAt, packFrom, packOf, areaFrom, areaAfter, draftFrom, readOf}
+use Rattle.reader.proofs.Turns.{TextHere, text-here, text-none, EntryHere, entry-here, entry-none, size-within, accepted-long}
 
 -- the parameters not yet taken
-abbrev pub left : List ℕ → ℕ → ℕ → List Parameter
-left o count at = parametersFrom (most - count) o at
+abbrev pub untaken : List ℕ → ℕ → ℕ → List Parameter
+untaken o count at = parametersFrom (most - count) o at
 
 -- none are left after 85, or where none stands
-pub left-full : (o : List ℕ) (count at : ℕ) → most ≤ count → left o count at ≡ []
+pub left-full : (o : List ℕ) (count at : ℕ) → most ≤ count → untaken o count at ≡ []
 left-full o count at h = no-more (most - count) o at (omega arith)
 
-pub left-none : (R : Rules) (o : List ℕ) (count at : ℕ) → count < most → text.End ≡ textAt R o at → left o count at ≡ []
+pub left-none : (R : Rules) (o : List ℕ) (count at : ℕ) → count < most → text.End ≡ textAt R o at → untaken o count at ≡ []
 left-none R o count at h e = text-none R o (most - count) at (omega arith) e
 
-pub left-ended : (R : Rules) (o : List ℕ) (count at used : ℕ) → count < most → taken.End ≡ entryAt R o at used → left o count at ≡ []
+pub left-ended : (R : Rules) (o : List ℕ) (count at used : ℕ) → count < most → taken.End ≡ takenAt R o at used → untaken o count at ≡ []
 left-ended R o count at used h e = entry-none R o (most - count) at (omega arith) used e
 
-turn : (o : List ℕ) (count at : ℕ) → parametersFrom (most - count - 1) o at ≡ left o (count + 1) at
+turn : (o : List ℕ) (count at : ℕ) → parametersFrom (most - count - 1) o at ≡ untaken o (count + 1) at
 turn o count at = let z : most - count - 1 ≡ most - (count + 1) = omega arith in ap (λ (n : ℕ). parametersFrom n o at) z
 
 module _ (R : Rules) (o : List ℕ) where
@@ -54,7 +58,7 @@ module _ (R : Rules) (o : List ℕ) where
   -- ---- the size of the texts
   pub record Sized (count at size : ℕ) : Type 0 where
     pub few : count ≤ most
-    pub sum : size + length (textsOf R (left o count at)) ≡ textSize R o
+    pub sum : size + length (textsOf R (untaken o count at)) ≡ textSize R o
 
   pub sized-first : Sized 0 2 0
   unfolding textSize parametersIn
@@ -68,9 +72,10 @@ module _ (R : Rules) (o : List ℕ) where
       text-long : length (take n (drop start o)) ≡ n
       text-long = length-take-le n (drop start o) (omega (arith, length-drop start o, here .lies))
 
-      parted : length (textsOf R (left o count at)) ≡ n + length (textsOf R (left o (count + 1) place))
+      parted : length (textsOf R (untaken o count at)) ≡ n + length (textsOf R (untaken o (count + 1) place))
       parted =
-          ap length (here .texts) ∙ length-append (take n (drop start o)) (textsOf R (parametersFrom (most - count - 1) o place))
+          ap length (here .texts) ∙ length-append (take n (drop start o))
+          (textsOf R (parametersFrom (most - count - 1) o place))
           ∙ ap₂ (λ (a : ℕ) (ps : List Parameter). a + length (textsOf R ps)) text-long (turn o count place)
 
       pub sized-more : Sized (count + 1) place (size + n)
@@ -79,28 +84,31 @@ module _ (R : Rules) (o : List ℕ) where
       pub sized-small : size + n ≤ length o
       sized-small = omega (arith, s .sum, parted, size-within R o)
 
-    pub sized-end : left o count at ≡ [] → size ≡ textSize R o
+    pub sized-end : untaken o count at ≡ [] → size ≡ textSize R o
     unfolding textsOf
     sized-end e = omega (arith, s .sum, ap (λ (ps : List Parameter). length (textsOf R ps)) e)
 
   -- ---- the texts laid down
-  pub record Laid (old : List ℕ) (count at used : ℕ) (area : List ℕ) : Type 0 where
+  pub record LaidTexts (old : List ℕ) (count at used : ℕ) (area : List ℕ) : Type 0 where
     pub sized : Sized count at used
     pub long : length area ≡ length old
-    pub texts : take used area ++ textsOf R (left o count at) ≡ textsOf R (parametersIn o)
+    pub texts : take used area ++ textsOf R (untaken o count at) ≡ textsOf R (parametersIn o)
     pub rest : drop used area ≡ drop used old
 
   module _ (old : List ℕ) (room : textSize R o ≤ length old) where
-    pub laid-first : Laid old 0 2 0 old
+    pub laid-first : LaidTexts old 0 2 0 old
     unfolding parametersIn
     laid-first = record { sized = sized-first; long = refl; texts = refl; rest = refl }
 
-    module _ (count at used : ℕ) (area : List ℕ) (w : Laid old count at used area) where
+    module _ (count at used : ℕ) (area : List ℕ) (w : LaidTexts old count at used area) where
       module _ (h : count < most) (start n place : ℕ) (e : text.At start n place ≡ textAt R o at) where
         pub laid-room : (start + n ≤ length o) × (used + n ≤ length area)
-        laid-room = (here count at used (w .sized) h start n place e .lies, omega (arith, w .sized .sum, parted count at used (w .sized) h start n place e, w .long))
+        laid-room = (
+          here count at used (w .sized) h start n place e .lies,
+          omega (arith, w .sized .sum, parted count at used (w .sized) h start n place e, w .long),
+        )
 
-        pub laid-more : (next : List ℕ) → next ≡ laidAt (take n (drop start o)) used area → Laid old (count + 1) place (used + n) next
+        pub laid-more : (next : List ℕ) → next ≡ laidAt (take n (drop start o)) used area → LaidTexts old (count + 1) place (used + n) next
         laid-more next p =
             let v = take n (drop start o) in
             let l : length v ≡ n = text-long count at used (w .sized) h start n place e in
@@ -110,46 +118,56 @@ module _ (R : Rules) (o : List ℕ) where
               sized = sized-more count at used (w .sized) h start n place e;
               long = ap length p ∙ laid-length v used area f ∙ w .long;
               texts =
-                  ap₂ (λ (k : ℕ) (a : List ℕ). take k a ++ textsOf R (left o (count + 1) place)) z p
-                  ∙ ap (λ (a : List ℕ). a ++ textsOf R (left o (count + 1) place)) (laid-front v used area f)
-                  ∙ append-assoc (take used area) v (textsOf R (left o (count + 1) place))
+                  ap₂ (λ (k : ℕ) (a : List ℕ). take k a ++ textsOf R (untaken o (count + 1) place)) z p
+                  ∙ ap (λ (a : List ℕ). a ++ textsOf R (untaken o (count + 1) place)) (laid-front v used area f)
+                  ∙ append-assoc (take used area) v (textsOf R (untaken o (count + 1) place))
                   ∙ ap (λ (a : List ℕ). take used area ++ a) (ap (λ (ps : List Parameter). v ++ textsOf R ps) (sym (turn o count place)) ∙ sym (here count at used (w .sized) h start n place e .texts))
                   ∙ w .texts;
               rest =
                   ap₂ drop z p
                   ∙ laid-behind v used area f
-                  ∙ sym (drop-drop (length v) used area) ∙ ap (drop (length v)) (w .rest) ∙ drop-drop (length v) used old
+                  ∙ sym (drop-drop (length v) used area) ∙ ap (drop (length v)) (w .rest)
+                  ∙ drop-drop (length v) used old
                   ∙ ap (λ (k : ℕ). drop k old) (sym z);
             }
 
-      pub laid-end : left o count at ≡ [] → area ≡ laid (textsOf R (parametersIn o)) old
+      pub laid-end : untaken o count at ≡ [] → area ≡ laid (textsOf R (parametersIn o)) old
       unfolding laid textsOf
       laid-end e =
-          let t : take used area ≡ textsOf R (parametersIn o) = sym (append-nil (take used area)) ∙ ap (λ (ps : List Parameter). take used area ++ textsOf R ps) (sym e) ∙ w .texts in
+          let t : take used area ≡ textsOf R (parametersIn o) =
+          sym (append-nil (take used area))
+          ∙ ap (λ (ps : List Parameter). take used area ++ textsOf R ps) (sym e) ∙ w .texts in
           let u : used ≡ textSize R o = sized-end count at used (w .sized) e in
           sym (take-append-drop used area) ∙ ap₂ _++_ t (w .rest ∙ ap (λ (k : ℕ). drop k old) (u ∙ size-is))
 
   -- ---- the entries taken
-  pub record Filled (count at used : ℕ) (entries : List Entry) : Type 0 where
+  pub record TakenEntries (count at used : ℕ) (entries : List Entry) : Type 0 where
     pub few : count ≤ most
     pub long : length entries ≡ most
     pub used-small : used ≤ at
-    pub front : take count entries ++ entriesOf R used (left o count at) ≡ entriesOf R 0 (parametersIn o)
+    pub front : take count entries ++ entriesOf R used (untaken o count at) ≡ entriesOf R 0 (parametersIn o)
     pub rest : drop count entries ≡ replicate (most - count) noEntry
 
-  pub filled-first : Filled 0 2 0 (replicate most noEntry)
+  pub filled-first : TakenEntries 0 2 0 (replicate most noEntry)
   unfolding parametersIn
-  filled-first = record { few = omega arith; long = length-replicate most noEntry; used-small = omega arith; front = refl; rest = refl }
+  filled-first =
+      record {
+        few = omega arith;
+        long = length-replicate most noEntry;
+        used-small = omega arith;
+        front = refl;
+        rest = refl;
+      }
 
-  module _ (count at used : ℕ) (entries : List Entry) (w : Filled count at used entries) where
-    module _ (h : count < most) (e : Entry) (n place : ℕ) (t : taken.Next e n place ≡ entryAt R o at used) where
+  module _ (count at used : ℕ) (entries : List Entry) (w : TakenEntries count at used entries) where
+    module _ (h : count < most) (e : Entry) (n place : ℕ) (t : taken.Next e n place ≡ takenAt R o at used) where
       entry-is : EntryHere R o (most - count) at (omega arith) used e n place
       entry-is = entry-here R o (most - count) at (omega arith) used e n place t
 
       pub filled-small : used + n ≤ length o
       filled-small = omega (arith, w .used-small, entry-is .behind, entry-is .lies)
 
-      pub filled-more : Filled (count + 1) place (used + n) (set entries count e)
+      pub filled-more : TakenEntries (count + 1) place (used + n) (set entries count e)
       filled-more =
           let f : count < length entries = omega (arith, w .long) in
           record {
@@ -157,24 +175,31 @@ module _ (R : Rules) (o : List ℕ) where
             long = length-set entries count e ∙ w .long;
             used-small = omega (arith, w .used-small, entry-is .behind);
             front =
-                ap (λ (l : List Entry). l ++ entriesOf R (used + n) (left o (count + 1) place)) (ap (λ (k : ℕ). take k (set entries count e)) (add-one count) ∙ take-suc-set entries count e f)
-                ∙ append-assoc (take count entries) (e ∷ []) (entriesOf R (used + n) (left o (count + 1) place))
+                ap (λ (l : List Entry). l ++ entriesOf R (used + n) (untaken o (count + 1) place)) (ap (λ (k : ℕ). take k (set entries count e)) (add-one count) ∙ take-suc-set entries count e f)
+                ∙ append-assoc (take count entries) (e ∷ []) (entriesOf R (used + n) (untaken o (count + 1) place))
                 ∙ ap (λ (l : List Entry). take count entries ++ l) (ap (λ (ps : List Parameter). e ∷ entriesOf R (used + n) ps) (sym (turn o count place)) ∙ sym (entry-is .entries))
                 ∙ w .front;
             rest =
                 drop-set-lt (count + 1) entries count e (omega arith)
                 ∙ sym (drop-drop 1 count entries)
-                ∙ ap (drop 1) (w .rest ∙ (let z : most - count ≡ suc (most - (count + 1)) = omega arith in ap (λ (k : ℕ). replicate k noEntry) z));
+                ∙ ap (drop 1)
+                (w .rest ∙ (let z : most - count ≡ suc (most - (count + 1)) = omega arith in
+                ap (λ (k : ℕ). replicate k noEntry) z));
           }
 
-    pub filled-end : (d : Draft) → d .kind ≡ getD o 0 0 → d .count ≡ count → d .entries ≡ entries → left o count at ≡ [] → d ≡ draftOf R (messageIn o)
+    pub filled-end : (d : Draft) → d .kind ≡ getD o 0 0 → d .count ≡ count → d .entries ≡ entries → untaken o count at ≡ [] → d ≡ draftOf R (messageIn o)
     unfolding draftOf messageIn entriesOf
     filled-end d k c s e =
-        let t : take count entries ≡ entriesOf R 0 (parametersIn o) = sym (append-nil (take count entries)) ∙ ap (λ (ps : List Parameter). take count entries ++ entriesOf R used ps) (sym e) ∙ w .front in
-        let n : count ≡ length (parametersIn o) = sym (length-take-le count entries (omega (arith, w .few, w .long))) ∙ ap length t ∙ entries-length R 0 (parametersIn o) in
+        let t : take count entries ≡ entriesOf R 0 (parametersIn o) =
+        sym (append-nil (take count entries))
+        ∙ ap (λ (ps : List Parameter). take count entries ++ entriesOf R used ps) (sym e) ∙ w .front in
+        let n : count ≡ length (parametersIn o) =
+        sym (length-take-le count entries (omega (arith, w .few, w .long))) ∙ ap length t
+        ∙ entries-length R 0 (parametersIn o) in
         let a : d .count ≡ length (parametersIn o) = c ∙ n in
         let b : d .entries ≡ entriesOf R 0 (parametersIn o) ++ replicate (most - length (parametersIn o)) noEntry =
-        s ∙ sym (take-append-drop count entries) ∙ ap₂ _++_ t (w .rest ∙ ap (λ (m : ℕ). replicate (most - m) noEntry) n) in
+        s ∙ sym (take-append-drop count entries)
+        ∙ ap₂ _++_ t (w .rest ∙ ap (λ (m : ℕ). replicate (most - m) noEntry) n) in
         λ i. record { kind = k i; count = a i; entries = b i }
 
 -- ---- the verdict, then 9, then the texts
@@ -196,13 +221,20 @@ module _ (R : Rules) (o old : List ℕ) (v : Verdict) (e : v ≡ verdictOf R o) 
     unfolding packOf packFrom areaFrom
     packs-short s z h =
         after (packed.Refused (noted 9 s)) old
-        (ap (λ (k : ℕ). packed.Refused (noted 9 k)) z ∙ sym (pick-not (textSize R o ≤? length old) (packed.Texts (textSize R o)) (packed.Refused (noted 9 (textSize R o))) (λ t. omega (arith, le-of _ _ t))) ∙ ap (packFrom R o (length old)) (sym q ∙ e)) refl
+        (ap (λ (k : ℕ). packed.Refused (noted 9 k)) z
+        ∙ sym (pick-not (textSize R o ≤? length old) (packed.Texts (textSize R o))
+        (packed.Refused (noted 9 (textSize R o))) (λ t. omega (arith, le-of _ _ t)))
+        ∙ ap (packFrom R o (length old)) (sym q ∙ e)) refl
 
-    pub packs-whole : (s : ℕ) (area : List ℕ) → s ≡ textSize R o → s ≤ length old → area ≡ laid (textsOf R (parametersIn o)) old → Packs (packed.Texts s) area
+    pub packs-whole : (s : ℕ) (area : List ℕ) → s ≡ textSize R o → s ≤ length old →
+        area ≡ laid (textsOf R (parametersIn o)) old → Packs (packed.Texts s) area
     unfolding packOf packFrom areaFrom
     packs-whole s area z h a =
         after (packed.Texts s) area
-        (ap packed.Texts z ∙ sym (pick-yes (textSize R o ≤? length old) (packed.Texts (textSize R o)) (packed.Refused (noted 9 (textSize R o))) (of-le _ _ (omega arith))) ∙ ap (packFrom R o (length old)) (sym q ∙ e)) a
+        (ap packed.Texts z
+        ∙ sym (pick-yes (textSize R o ≤? length old) (packed.Texts (textSize R o))
+        (packed.Refused (noted 9 (textSize R o))) (of-le _ _ (omega arith)))
+        ∙ ap (packFrom R o (length old)) (sym q ∙ e)) a
 
     pub size-small : (s : ℕ) → s ≡ textSize R o → s ≤ n
     size-small s z = omega (arith, accepted-long R o n (sym q ∙ e), size-within R o)
@@ -213,10 +245,12 @@ module _ (R : Rules) (o : List ℕ) (room : ℕ) (p : Packed) (d : Draft) (e : p
   unfolding readOf
   reads q = let z = q ∙ ap (draftFrom R o) e in λ i. record { answer = e i; draft = z i }
 
-  pub reads-whole : (n : ℕ) → p ≡ packed.Texts n → d ≡ draftOf R (messageIn o) → (record { answer = p; draft = d }) ≡ readOf R o room
+  pub reads-whole : (n : ℕ) → p ≡ packed.Texts n → d ≡ draftOf R (messageIn o) →
+      (record { answer = p; draft = d }) ≡ readOf R o room
   unfolding draftFrom
   reads-whole n q f = reads (f ∙ ap (draftFrom R o) (sym q))
 
-  pub reads-refused : (f : Fault) → p ≡ packed.Refused f → d ≡ emptyOf 0 → (record { answer = p; draft = d }) ≡ readOf R o room
+  pub reads-refused : (f : Fault) → p ≡ packed.Refused f → d ≡ emptyOf 0 →
+      (record { answer = p; draft = d }) ≡ readOf R o room
   unfolding draftFrom
   reads-refused f q g = reads (g ∙ ap (draftFrom R o) (sym q))

@@ -1,7 +1,8 @@
 -- The root of the proofs.
 pub mod Putting
 pub mod Settled
-pub mod Readings
+pub mod Promised
+pub mod One
 pub mod Laying
-pub mod Taking
+pub mod Turns
 pub mod Answered

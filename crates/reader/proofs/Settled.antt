@@ -5,11 +5,13 @@ use Rattle.reader.proofs.pack.Reads as pack
 use Rattle.reader.proofs.entry.Reads as entry
 use Rattle.reader.proofs.read.Reads as read
 
-pub pack-settled : (κs : _) (a : _) (r r' : _) (s s' : _) → pack.Post κs a r s → pack.Post κs a r' s' → (r ≡ r') × (s .1 .1 .0 .now ≡ s' .1 .1 .0 .now)
+pub pack-settled : (κs : _) (a : _) (r r' : _) (s s' : _) → pack.Post κs a r s → pack.Post κs a r' s' →
+    (r ≡ r') × (s .1 .1 .0 .now ≡ s' .1 .1 .0 .now)
 pack-settled κs a r r' s s' p q = (p .0 ∙ sym (q .0), p .1 ∙ sym (q .1))
 
 pub entry-settled : (κs : _) (a : _) (r r' : _) (s s' : _) → entry.Post κs a r s → entry.Post κs a r' s' → r ≡ r'
 entry-settled κs a r r' s s' p q = p ∙ sym q
 
-pub read-settled : (κs : _) (a : _) (r r' : _) (s s' : _) → read.Post κs a r s → read.Post κs a r' s' → (r ≡ r') × (s .1 .1 .0 .now ≡ s' .1 .1 .0 .now)
+pub read-settled : (κs : _) (a : _) (r r' : _) (s s' : _) → read.Post κs a r s → read.Post κs a r' s' →
+    (r ≡ r') × (s .1 .1 .0 .now ≡ s' .1 .1 .0 .now)
 read-settled κs a r r' s s' p q = (p .0 ∙ sym (q .0), p .1 ∙ sym (q .1))

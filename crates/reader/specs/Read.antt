@@ -1,4 +1,5 @@
--- What a read answers, and what the text area then holds (document 01, Drafts; Numbers: 1 to 6, then 8, then 7, then 9; document 02, Q-11: 10).
+-- What a read answers, and what the text area then holds (document 01, Drafts; Numbers: 1 to 6, then 8, then 7, then
+-- 9; document 02, Q-11: 10).
 -- Assumes nothing.
 use Prim.Native.Nat.{ℕ, _+_}
 use mathlib.Core.Bool.{Bool, true, false}
@@ -34,9 +35,11 @@ use Rattle.reader.specs.declared.Text.the-variants as text
 unfoldable pub textSize : Rules → List ℕ → ℕ
 textSize R o = length (textsOf R (parametersIn o))
 
--- an accepted message's texts, if the area has room for them; else 9 with the text octets needed. Other octets are declined as the verdict says
+-- an accepted message's texts, if the area has room for them; else 9 with the text octets needed. Other octets are
+-- declined as the verdict says
 unfoldable pub packFrom : Rules → List ℕ → ℕ → Verdict → Packed
-packFrom R o room (Accepted n) = pick (textSize R o ≤? room) (packed.Texts (textSize R o)) (packed.Refused (noted 9 (textSize R o)))
+packFrom R o room (Accepted n) =
+    pick (textSize R o ≤? room) (packed.Texts (textSize R o)) (packed.Refused (noted 9 (textSize R o)))
 packFrom R o room (Declined f) = packed.Refused f
 
 unfoldable pub packOf : Rules → List ℕ → ℕ → Packed
@@ -64,12 +67,12 @@ abbrev pub standing : List ℕ → ℕ → ℕ → ℕ → Parameter
 standing o k start n = record { kind = k; contents = take n (drop start o) }
 
 -- the entry of the parameter at a place, its text to be packed at another; how long its text is; the place behind the parameter
-unfoldable pub entryFrom : Rules → List ℕ → ℕ → Found → Taken
-entryFrom R o used (found.Parameter k start n) = taken.Next (entryOf R used (standing o k start n)) (length (textOf R (standing o k start n))) (start + n)
-entryFrom R o used found.Nothing = taken.End
+unfoldable pub takenFrom : Rules → List ℕ → ℕ → Found → Taken
+takenFrom R o used (found.Parameter k start n) = taken.Next (entryOf R used (standing o k start n)) (length (textOf R (standing o k start n))) (start + n)
+takenFrom R o used found.Nothing = taken.End
 
-unfoldable pub entryAt : Rules → List ℕ → ℕ → ℕ → Taken
-entryAt R o at used = entryFrom R o used (parameterAt o at)
+unfoldable pub takenAt : Rules → List ℕ → ℕ → ℕ → Taken
+takenAt R o at used = takenFrom R o used (parameterAt o at)
 
 -- where the text of the parameter at a place stands, and the place behind the parameter
 unfoldable pub textFrom : Rules → List ℕ → Found → Text

@@ -17,10 +17,10 @@ ghost use Rattle.rules.specs.Tests.{pick};
 ghost use Rattle.rules.specs.Table.{rulesOf};
 ghost use Rattle.rules.specs.declared.Form.the-variants as form;
 ghost use Rattle.message.specs.Parameters.{parametersIn, messageIn};
-ghost use Rattle.draft.specs.Meaning.{kindOf, numberOf, pairAt, meant};
+ghost use Rattle.draft.specs.Meaning.{kindOf, numberOf, digitsAt, meant};
 ghost use Rattle.rules.specs.Laying.{laid, laidAt};
-ghost use Rattle.draft.specs.Packing.{packed, draftOf, textsOf};
-ghost use Rattle.reader.specs.Read.{hasText, textSize, textAt, entryAt, packOf, areaAfter, readOf};
+ghost use Rattle.draft.specs.Packing.{valueAt, draftOf, textsOf};
+ghost use Rattle.reader.specs.Read.{hasText, textSize, textAt, takenAt, packOf, areaAfter, readOf};
 
 // What becomes of the octets: how many text octets were laid down; or a number from 1 to 10 with its place.
 pub enum Packed {
@@ -63,13 +63,13 @@ fn number_of(a: u8, b: u8) -> u8
 
 fn pair_at(contents: &[u8], i: usize) -> u8
     requires { ⌜ i ≤ 6 ⌝ }
-    ensures { λ r. ⌜ r ≡ pairAt (now (contents .entry)) i ⌝ }
+    ensures { λ r. ⌜ r ≡ digitsAt (now (contents .entry)) i ⌝ }
 {
     number_of(message::octet(contents, i), message::octet(contents, i + 1))
 }
 
 fn date_of(contents: &[u8]) -> Value
-    ensures { λ r. ⌜ r ≡ packed 0 (meant form.DateValue (now (contents .entry))) ⌝ }
+    ensures { λ r. ⌜ r ≡ valueAt 0 (meant form.DateValue (now (contents .entry))) ⌝ }
 {
     let month = pair_at(contents, 0);
     let day = pair_at(contents, 2);
@@ -84,7 +84,7 @@ fn date_of(contents: &[u8]) -> Value
 }
 
 fn state_of(contents: &[u8]) -> Value
-    ensures { λ r. ⌜ r ≡ packed 0 (meant form.StateValue (now (contents .entry))) ⌝ }
+    ensures { λ r. ⌜ r ≡ valueAt 0 (meant form.StateValue (now (contents .entry))) ⌝ }
 {
     let state = message::octet(contents, 0);
     let high = message::octet(contents, 1);
@@ -97,7 +97,7 @@ fn state_of(contents: &[u8]) -> Value
 
 // The value that contents say, its text to be packed at a place.
 fn value_of(kind: Form, contents: &[u8], at: usize) -> Value
-    ensures { λ r. ⌜ r ≡ packed at (meant kind (now (contents .entry))) ⌝ }
+    ensures { λ r. ⌜ r ≡ valueAt at (meant kind (now (contents .entry))) ⌝ }
 {
     match kind {
         Form::DateValue => date_of(contents),
@@ -250,7 +250,7 @@ pub fn pack(book: Book, octets: &[u8], area: &mut [u8]) -> Packed
 
 // The entry of the parameter at a place of a message, its text to be packed at a place of the area.
 pub fn entry(book: Book, octets: &[u8], at: usize, used: usize) -> Taken
-    ensures { λ r. ⌜ r ≡ entryAt (rulesOf book) (now (octets .entry)) at used ⌝ }
+    ensures { λ r. ⌜ r ≡ takenAt (rulesOf book) (now (octets .entry)) at used ⌝ }
 {
     let found = message::parameter(octets, at);
     match found {

@@ -1,4 +1,5 @@
--- Contents at an index, as the code judges them: columns of which only the first is narrow, digits pair by pair; past the last octet any may stand.
+-- Contents at an index, as the code judges them: columns of which only the first is narrow, digits pair by pair; past
+-- the last octet any may stand.
 -- Assumes nothing.
 use mathlib.Core.Path.{_≡_, sym, _∙_}
 use mathlib.Core.Bool.{Bool, true}
@@ -6,11 +7,12 @@ use Prim.Native.Nat.{ℕ, zero, suc, _+_, _*_, _≤_, _<_}
 use mathlib.Core.List.{List, [], _∷_}
 use lib.ListN.{length, drop}
 use native.Mathlib.Omega.{arith}
-use Rattle.rules.specs.Tests.{_=?_, pick, clash}
+use Rattle.rules.specs.Tests.{_=?_, pick}
+use Rattle.rules.proofs.Tests.{clash}
 use Rattle.rules.specs.Contents.{Range, within, inSet}
 use Rattle.rules.specs.Table.{anyOctet}
 use Rattle.rules.specs.ContentJudge.{columnAt, tensFit, onesFit, pairAt}
-use Rattle.rules.specs.Returns.{or-last, and-t, yes-le, no-eq}
+use Rattle.rules.proofs.Returns.{or-last, and-t, yes-le, no-eq}
 
 pub any-in : (x : ℕ) → x < 256 → true ≡ inSet anyOctet x
 unfolding inSet within
@@ -28,7 +30,8 @@ any-columns (suc k) zero x l = any-in x l
 any-columns (suc k) (suc i) x l = any-columns k i x l
 
 -- columns of which only the first is narrow
-pub first-column : (k : ℕ) (w o : Bool) (s : List Range) (i x : ℕ) → x < 256 → o ≡ inSet s x → w ≡ pick (i =? 0) o true → w ≡ columnAt (s ∷ anyColumns k) i x
+pub first-column : (k : ℕ) (w o : Bool) (s : List Range) (i x : ℕ) → x < 256 → o ≡ inSet s x →
+    w ≡ pick (i =? 0) o true → w ≡ columnAt (s ∷ anyColumns k) i x
 unfolding columnAt _=?_ pick
 first-column k w o s zero x l p q = q ∙ p
 first-column k w o s (suc i) x l p q = (rw (no-eq (suc i) 0 (λ e. omega arith)) at q) ∙ any-columns k i x l
@@ -41,7 +44,8 @@ pair-late (r ∷ rs) (suc zero) m x h l = absurd (omega arith)
 pair-late (r ∷ rs) (suc (suc i)) m x h l = pair-late rs i m x (omega arith) l
 
 -- digit j of pair k is judged by its range
-pub pair-within : (rs : List Range) (k i j m x : ℕ) (r : Range) (rest : List Range) → drop k rs ≡ r ∷ rest → 2 * k + j ≡ i → j < 2 → pick (j =? 0) (tensFit r x) (onesFit r m x) ≡ pairAt rs i m x
+pub pair-within : (rs : List Range) (k i j m x : ℕ) (r : Range) (rest : List Range) → drop k rs ≡ r ∷ rest →
+    2 * k + j ≡ i → j < 2 → pick (j =? 0) (tensFit r x) (onesFit r m x) ≡ pairAt rs i m x
 unfolding pairAt pick _=?_
 pair-within [] zero i j m x r rest e l h = clash cc
 pair-within (q ∷ rs) zero zero j m x r rest e l h = let d : q ≡ r = cc in let z : j ≡ 0 = omega arith in rw (d, z)

@@ -1,4 +1,26 @@
--- The root of the proofs: a table as its rule makes it, what lies past the last octet of contents, and that every public promise settles its answer.
+-- The root of the proofs: what the definitions tell, why the machine answers as the written rules say, the tables
+-- of the code, and that every public promise settles its answer.
+pub mod Tests
+pub mod Returns
+pub mod Octets
+pub mod Pairwise
+pub mod Laying
+pub mod Codes
+pub mod Counting
+pub mod Endings
+pub mod ClassLaw
+pub mod BuilderLaw
+pub mod ContentLaw
+pub mod Sizes
+pub mod Remaining
+pub mod Listening
+pub mod Numbers
+pub mod Language
+pub mod Demand3
+pub mod InRange
+pub mod Grammar
+pub mod Unique
+pub mod Steps
 pub mod Table
 pub mod Rivals
 pub mod AtIndex

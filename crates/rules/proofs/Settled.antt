@@ -17,25 +17,32 @@ use Rattle.rules.proofs.content_ok.Reads as content-ok
 use Rattle.rules.proofs.remember.Reads as remember
 use Rattle.rules.proofs.same_octets.Reads as same-octets
 
-pub class-coded-settled : (κs : _) (a : _) (r r' : _) (s s' : _) → class-coded.Post κs a r s → class-coded.Post κs a r' s' → r ≡ r'
+pub class-coded-settled : (κs : _) (a : _) (r r' : _) (s s' : _) → class-coded.Post κs a r s →
+    class-coded.Post κs a r' s' → r ≡ r'
 class-coded-settled κs a r r' s s' p q = p ∙ sym q
 
-pub class-of-settled : (κs : _) (a : _) (r r' : _) (s s' : _) → class-of.Post κs a r s → class-of.Post κs a r' s' → r ≡ r'
+pub class-of-settled : (κs : _) (a : _) (r r' : _) (s s' : _) → class-of.Post κs a r s → class-of.Post κs a r' s' →
+    r ≡ r'
 class-of-settled κs a r r' s s' p q = p ∙ sym q
 
-pub length-fits-settled : (κs : _) (a : _) (r r' : _) (s s' : _) → length-fits.Post κs a r s → length-fits.Post κs a r' s' → r ≡ r'
+pub length-fits-settled : (κs : _) (a : _) (r r' : _) (s s' : _) → length-fits.Post κs a r s →
+    length-fits.Post κs a r' s' → r ≡ r'
 length-fits-settled κs a r r' s s' p q = p ∙ sym q
 
-pub possible-settled : (κs : _) (a : _) (r r' : _) (s s' : _) → possible.Post κs a r s → possible.Post κs a r' s' → r ≡ r'
+pub possible-settled : (κs : _) (a : _) (r r' : _) (s s' : _) → possible.Post κs a r s → possible.Post κs a r' s' →
+    r ≡ r'
 possible-settled κs a r r' s s' p q = p ∙ sym q
 
-pub message-kind-settled : (κs : _) (a : _) (r r' : _) (s s' : _) → message-kind.Post κs a r s → message-kind.Post κs a r' s' → r ≡ r'
+pub message-kind-settled : (κs : _) (a : _) (r r' : _) (s s' : _) → message-kind.Post κs a r s →
+    message-kind.Post κs a r' s' → r ≡ r'
 message-kind-settled κs a r r' s s' p q = p ∙ sym q
 
-pub content-ok-settled : (κs : _) (a : _) (r r' : _) (s s' : _) → content-ok.Post κs a r s → content-ok.Post κs a r' s' → r ≡ r'
+pub content-ok-settled : (κs : _) (a : _) (r r' : _) (s s' : _) → content-ok.Post κs a r s →
+    content-ok.Post κs a r' s' → r ≡ r'
 content-ok-settled κs a r r' s s' p q = p ∙ sym q
 
-pub remember-settled : (κs : _) (a : _) (r r' : _) (s s' : _) → remember.Post κs a r s → remember.Post κs a r' s' → r ≡ r'
+pub remember-settled : (κs : _) (a : _) (r r' : _) (s s' : _) → remember.Post κs a r s → remember.Post κs a r' s' →
+    r ≡ r'
 remember-settled κs a r r' s s' p q = p ∙ sym q
 
 pub code-of-settled : (κs : _) (a : _) (r r' : _) (s s' : _) → code-of.Post κs a r s → code-of.Post κs a r' s' → r ≡ r'
@@ -44,19 +51,24 @@ code-of-settled κs a r r' s s' p q = p ∙ sym q
 pub form-of-settled : (κs : _) (a : _) (r r' : _) (s s' : _) → form-of.Post κs a r s → form-of.Post κs a r' s' → r ≡ r'
 form-of-settled κs a r r' s s' p q = p ∙ sym q
 
-pub is-listed-settled : (κs : _) (a : _) (r r' : _) (s s' : _) → is-listed.Post κs a r s → is-listed.Post κs a r' s' → r ≡ r'
+pub is-listed-settled : (κs : _) (a : _) (r r' : _) (s s' : _) → is-listed.Post κs a r s →
+    is-listed.Post κs a r' s' → r ≡ r'
 is-listed-settled κs a r r' s s' p q = p ∙ sym q
 
-pub rival-of-settled : (κs : _) (a : _) (r r' : _) (s s' : _) → rival-of.Post κs a r s → rival-of.Post κs a r' s' → r ≡ r'
+pub rival-of-settled : (κs : _) (a : _) (r r' : _) (s s' : _) → rival-of.Post κs a r s → rival-of.Post κs a r' s' →
+    r ≡ r'
 rival-of-settled κs a r r' s s' p q = p ∙ sym q
 
-pub same-octets-settled : (κs : _) (a : _) (r r' : _) (s s' : _) → same-octets.Post κs a r s → same-octets.Post κs a r' s' → r ≡ r'
+pub same-octets-settled : (κs : _) (a : _) (r r' : _) (s s' : _) → same-octets.Post κs a r s →
+    same-octets.Post κs a r' s' → r ≡ r'
 same-octets-settled κs a r r' s s' p q = p ∙ sym q
 
-pub is-strict-settled : (κs : _) (a : _) (r r' : _) (s s' : _) → is-strict.Post κs a r s → is-strict.Post κs a r' s' → r ≡ r'
+pub is-strict-settled : (κs : _) (a : _) (r r' : _) (s s' : _) → is-strict.Post κs a r s →
+    is-strict.Post κs a r' s' → r ≡ r'
 is-strict-settled κs a r r' s s' p q = p ∙ sym q
 
-pub class-fault-settled : (κs : _) (a : _) (r r' : _) (s s' : _) → class-fault.Post κs a r s → class-fault.Post κs a r' s' → r ≡ r'
+pub class-fault-settled : (κs : _) (a : _) (r r' : _) (s s' : _) → class-fault.Post κs a r s →
+    class-fault.Post κs a r' s' → r ≡ r'
 class-fault-settled κs a r r' s s' p q = p ∙ sym q
 
 pub noted-settled : (κs : _) (a : _) (r r' : _) (s s' : _) → noted.Post κs a r s → noted.Post κs a r' s' → r ≡ r'

@@ -1,8 +1,7 @@
--- What the code holds of a class: a number for each, in the table of types and in the record of a listener; and its lengths.
+-- What the code holds of a class: a number for each, in the table of types and in the record of a listener; and its
+-- lengths.
 -- Assumes nothing.
-use Prim.Native.Nat.{ℕ, zero, suc, _≤_}
-use mathlib.Core.Path.{_≡_, refl}
-use native.Mathlib.Omega.{arith}
+use Prim.Native.Nat.{ℕ}
 use mathlib.Core.List.{List, [], _∷_}
 use Rattle.rules.specs.Tests.{_=?_, pick}
 use Rattle.rules.specs.Contents.{Range, only}
@@ -37,7 +36,9 @@ strictClass c = pick (classCode c =? 0) Unlisted c
 
 -- the class of a code from 11 on
 unfoldable pub laterClass : ℕ → Class
-laterClass k = pick (k =? 11) OldNumber (pick (k =? 12) ShortText (pick (k =? 13) OldForwarded (pick (k =? 14) OldUser (pick (k =? 15) Unlisted Carried))))
+laterClass k =
+    pick (k =? 11) OldNumber (pick (k =? 12) ShortText
+    (pick (k =? 13) OldForwarded (pick (k =? 14) OldUser (pick (k =? 15) Unlisted Carried))))
 
 -- the class of a code; a code of none is read as carried
 unfoldable pub classCoded : ℕ → Class
@@ -52,46 +53,6 @@ classCoded k =
     (pick (k =? 8) Waiting
     (pick (k =? 9) Forwarded
     (pick (k =? 10) User (laterClass k))))))))))
-
-pub coded-code : (c : Class) → classCoded (classCode c) ≡ c
-unfolding classCoded laterClass classCode pick _=?_
-coded-code Date = refl
-coded-code Number = refl
-coded-code Absent = refl
-coded-code Name = refl
-coded-code Lamp = refl
-coded-code Identity = refl
-coded-code CallType = refl
-coded-code Waiting = refl
-coded-code Forwarded = refl
-coded-code User = refl
-coded-code Carried = refl
-coded-code OldNumber = refl
-coded-code ShortText = refl
-coded-code OldForwarded = refl
-coded-code OldUser = refl
-coded-code Unlisted = refl
-
--- the codes are 0 to 15
-pub code-coded : (k : ℕ) → k ≤ 15 → classCode (classCoded k) ≡ k
-unfolding classCoded laterClass classCode pick _=?_
-code-coded zero h = refl
-code-coded (suc zero) h = refl
-code-coded (suc (suc zero)) h = refl
-code-coded (suc (suc (suc zero))) h = refl
-code-coded (suc (suc (suc (suc zero)))) h = refl
-code-coded (suc (suc (suc (suc (suc zero))))) h = refl
-code-coded (suc (suc (suc (suc (suc (suc zero)))))) h = refl
-code-coded (suc (suc (suc (suc (suc (suc (suc zero))))))) h = refl
-code-coded (suc (suc (suc (suc (suc (suc (suc (suc zero)))))))) h = refl
-code-coded (suc (suc (suc (suc (suc (suc (suc (suc (suc zero))))))))) h = refl
-code-coded (suc (suc (suc (suc (suc (suc (suc (suc (suc (suc zero)))))))))) h = refl
-code-coded (suc (suc (suc (suc (suc (suc (suc (suc (suc (suc (suc zero))))))))))) h = refl
-code-coded (suc (suc (suc (suc (suc (suc (suc (suc (suc (suc (suc (suc zero)))))))))))) h = refl
-code-coded (suc (suc (suc (suc (suc (suc (suc (suc (suc (suc (suc (suc (suc zero))))))))))))) h = refl
-code-coded (suc (suc (suc (suc (suc (suc (suc (suc (suc (suc (suc (suc (suc (suc zero)))))))))))))) h = refl
-code-coded (suc (suc (suc (suc (suc (suc (suc (suc (suc (suc (suc (suc (suc (suc (suc zero))))))))))))))) h = refl
-code-coded (suc (suc (suc (suc (suc (suc (suc (suc (suc (suc (suc (suc (suc (suc (suc (suc k)))))))))))))))) h = absurd (omega arith)
 
 -- ---- the lengths of a class as the code has them
 -- the lengths from the least to the most, and one other (0 where there is none)

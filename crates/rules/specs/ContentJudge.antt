@@ -1,5 +1,6 @@
--- The judge of single content octets: whether octet x may stand at index i of n where m is remembered, and what is remembered then; one for each class.
--- What is remembered is a code, the tens digit of a pair, and never an octet for its own sake.
+-- The judge of single content octets: whether octet x may stand at index i of n where m is remembered, and what is
+-- remembered then; one for each class. What is remembered is a code, the tens digit of a pair, and never an octet for
+-- its own sake.
 -- Assumes nothing.
 use Prim.Native.Nat.{ℕ, zero, suc, _+_, _*_, _-_}
 use mathlib.Core.Bool.{Bool, true}

@@ -1,5 +1,5 @@
--- What the contents of a parameter may be (document 01, The message). A class of contents is the lengths that they have and a rule over whole contents;
--- three builders make such classes.
+-- What the contents of a parameter may be (document 01, The message). A class of contents is the lengths that they
+-- have and a rule over whole contents; three builders make such classes.
 -- Assumes nothing.
 use Rattle.rules.specs.Tests.{_≤?_, _and_, _or_}
 use Prim.Native.Nat.{ℕ, _+_, _*_, _-_}

@@ -1,19 +1,15 @@
 -- Demand 3 over the written rules alone, for any language: what its machine's answer says of the octets heard.
--- `Demand3 L` is the page to read; `demand3` proves it with no hypothesis but octets below 256.
+-- `Demand3 L` is the page to read; `demand3` of proofs/ proves it with no hypothesis but octets below 256.
 -- Assumes nothing.
 use Prim.Native.Nat.{ℕ, _≤_, _<_}
-use mathlib.Core.Path.{_≡_, refl, sym, _∙_, ap, subst}
-use mathlib.Core.Logic.{_≢_, _↔_}
-use mathlib.Core.List.{List, [], _∷_, _++_}
-use native.Mathlib.Omega.{arith}
-use lib.ListN.{length, length-append, take, getD}
+use mathlib.Core.Path.{_≡_}
+use mathlib.Core.Logic.{_↔_}
+use mathlib.Core.List.{List, _++_}
+use lib.ListN.{length, take}
 use Rattle.rules.specs.Octets.{Octets}
-use Rattle.rules.specs.Roles.{Role, roleAt}
-use Rattle.rules.specs.Endings.{Ending, Spoilt, Numbered, ending-to, spoilt-to}
-use Rattle.rules.specs.Machine.{Machine, run, answer, Waits}
-use Rattle.rules.specs.Listening.{waits-iff, message-iff, refused-iff, message-stays, refused-stays, run-append}
-use Rattle.rules.specs.Numbers.{number}
-use Rattle.rules.specs.Language.{Language, Spoken}
+use Rattle.rules.specs.Endings.{Ending, Spoilt, Numbered}
+use Rattle.rules.specs.Machine.{run, answer, Waits}
+use Rattle.rules.specs.Language.{Language}
 use Rattle.rules.specs.declared.State.{State}
 use Rattle.rules.specs.declared.State.the-variants.{Message, Refused}
 use Rattle.rules.specs.declared.Fault.{Fault}
@@ -23,66 +19,17 @@ pub record Demand3 (L : Language) : Type 0 where
   -- it waits exactly when some ending would still complete a message
   pub waits : (h : List ℕ) → Octets h → Waits (answer (L .machine) h) ↔ Ending (L .Accepts) h
   -- it has a message of size n exactly when the first n octets are accepted
-  pub has-message : (h : List ℕ) → Octets h → (n : ℕ) → (answer (L .machine) h ≡ Message n) ↔ ((n ≤ length h) × L .Accepts (take n h))
+  pub has-message : (h : List ℕ) → Octets h → (n : ℕ) →
+      (answer (L .machine) h ≡ Message n) ↔ ((n ≤ length h) × L .Accepts (take n h))
   -- it refuses exactly at the octet that spoils the message, with the number of that octet's role
-  pub refuses : (h : List ℕ) → Octets h → (f : Fault) → (answer (L .machine) h ≡ Refused f) ↔ (Spoilt (L .Accepts) h (f .place) × Numbered (L .Accepts) (L .roles) h (f .place) (f .number))
+  pub refuses : (h : List ℕ) → Octets h → (f : Fault) →
+      (answer (L .machine) h ≡ Refused f) ↔
+      (Spoilt (L .Accepts) h (f .place) × Numbered (L .Accepts) (L .roles) h (f .place) (f .number))
   -- an answer stays, whatever follows
   pub message-stays : (n : ℕ) (h : List ℕ) → run (L .machine) (Message n) h ≡ Message n
   pub refusal-stays : (f : Fault) (h : List ℕ) → run (L .machine) (Refused f) h ≡ Refused f
   -- any cutting ends as one run does
-  pub cut-anywhere : (w : State) (a b : List ℕ) → run (L .machine) w (a ++ b) ≡ run (L .machine) (run (L .machine) w a) b
+  pub cut-anywhere : (w : State) (a b : List ℕ) →
+      run (L .machine) w (a ++ b) ≡ run (L .machine) (run (L .machine) w a) b
   -- it has its answer after 258 octets at the latest
   pub answers-by-258 : (h : List ℕ) → Octets h → Waits (answer (L .machine) h) → length h < 258
-
-module _ {L : Language} (S : Spoken L) where
-  abbrev M : Machine
-  M = L .machine
-
-  module _ (h : List ℕ) (o : Octets h) where
-    waits : Waits (answer M h) ↔ Ending (L .Accepts) h
-    waits = let d = waits-iff M (S .grammar) h o in (λ w. ending-to (S .accepts) h (d .0 w), λ e. d .1 (ending-to (S .words) h e))
-
-    has-message : (n : ℕ) → (answer M h ≡ Message n) ↔ ((n ≤ length h) × L .Accepts (take n h))
-    has-message n =
-        let d = message-iff M (S .grammar) h o n in
-        (λ e. let a = d .0 e in (a .0, S .accepts _ (a .1)), λ e. d .1 (e .0, S .words _ (e .1)))
-
-    numbered : (f : Fault) → answer M h ≡ Refused f → Numbered (L .Accepts) (L .roles) h (f .place) (f .number)
-    numbered f q e a =
-        let w = S .words _ a in
-        ap (λ (ρ : List Role). roleAt ρ (f .place) (getD h (f .place) 0)) (sym (S .traced _ a)) ∙ number M (S .grammar) h o f q (w .0) (w .1) e (w .2)
-
-    -- the place is that of a refusal, whose number is the same
-    refused : (f : Fault) → Spoilt (L .Accepts) h (f .place) → Numbered (L .Accepts) (L .roles) h (f .place) (f .number) → answer M h ≡ Refused f
-    refused f s n =
-        let d = refused-iff M (S .grammar) h o (f .place) .1 (spoilt-to (S .words) (S .accepts) h (f .place) s) in
-        let z = subst (λ (p : ℕ). Numbered (L .Accepts) (L .roles) h p (d .0 .number)) (d .2) (numbered (d .0) (d .1)) in
-        let k : d .0 .number ≡ f .number = sym (z (s .before .e) (s .before .accepted)) ∙ n (s .before .e) (s .before .accepted) in
-        d .1 ∙ (λ i. Refused (record { number = k i; place = d .2 i }))
-
-    refuses : (f : Fault) → (answer M h ≡ Refused f) ↔ (Spoilt (L .Accepts) h (f .place) × Numbered (L .Accepts) (L .roles) h (f .place) (f .number))
-    refuses f = (
-      λ e. (spoilt-to (S .accepts) (S .words) h (f .place) (refused-iff M (S .grammar) h o (f .place) .0 (f, e, refl)), numbered f e),
-      λ d. refused f (d .0) (d .1),
-    )
-
-    answers : Waits (answer M h) → length h < 258
-    answers w = go (waits .0 w)
-      where
-        by : (e : List ℕ) → e ≢ [] → length (h ++ e) ≤ 258 → length h < 258
-        by [] n l = absurd (n refl)
-        by (x ∷ e) n l = omega (arith, length-append h (x ∷ e))
-
-        go : Ending (L .Accepts) h → length h < 258
-        go e = by (e .e) (e .some) (S .size _ (e .accepted) .1)
-
-  pub demand3 : Demand3 L
-  demand3 = record {
-    waits = waits;
-    has-message = has-message;
-    refuses = refuses;
-    message-stays = message-stays M;
-    refusal-stays = refused-stays M;
-    cut-anywhere = λ w a b. sym (run-append M w a b);
-    answers-by-258 = answers;
-  }

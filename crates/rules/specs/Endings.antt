@@ -1,5 +1,5 @@
--- The words of demand 3 (document 01, Listening), over any rule that accepts whole messages and gives each of their octets a role: what completes octets, which
--- octet spoils them, and the number that it gets.
+-- The words of demand 3 (document 01, Listening), over any rule that accepts whole messages and gives each of their
+-- octets a role: what completes octets, which octet spoils them, and the number that it gets.
 -- Assumes nothing.
 use Prim.Native.Nat.{ℕ, suc, _<_}
 use mathlib.Core.Path.{_≡_}
@@ -26,17 +26,5 @@ module _ (Accepts : List ℕ → Type 0) where
 
   -- k is the number of octet p in the role that its place has, whichever accepted message the octets before it begin
   abbrev pub Numbered : ((o : List ℕ) → Accepts o → List Role) → List ℕ → ℕ → ℕ → Type 0
-  Numbered roles h p k = (e : List ℕ) (a : Accepts (take p h ++ e)) → roleAt (roles (take p h ++ e) a) p (getD h p 0) ≡ k
-
--- rules that accept the same leave the same endings, and are spoilt by the same octet
-module _ {A B : List ℕ → Type 0} (to : (o : List ℕ) → A o → B o) where
-  pub ending-to : (h : List ℕ) → Ending A h → Ending B h
-  ending-to h d = record { e = d .e; some = d .some; octets = d .octets; accepted = to _ (d .accepted) }
-
-  pub spoilt-to : (of : (o : List ℕ) → B o → A o) (h : List ℕ) (p : ℕ) → Spoilt A h p → Spoilt B h p
-  spoilt-to of h p d = record {
-    place = d .place;
-    before = ending-to _ (d .before);
-    none = λ u. d .none (of _ u);
-    hopeless = λ u. d .hopeless (record { e = u .e; some = u .some; octets = u .octets; accepted = of _ (u .accepted) });
-  }
+  Numbered roles h p k =
+      (e : List ℕ) (a : Accepts (take p h ++ e)) → roleAt (roles (take p h ++ e) a) p (getD h p 0) ≡ k

@@ -1,4 +1,5 @@
--- The machine of call messages and notices (document 01, The message and Numbers), under any rules; and when a state is in range.
+-- The machine of call messages and notices (document 01, The message and Numbers), under any rules; and when a state
+-- is in range.
 -- Assumes nothing.
 use Prim.Native.Nat.{ℕ, suc, _+_, _-_}
 use mathlib.Core.Bool.{Bool, false}
@@ -73,8 +74,8 @@ machine R = record { first = Kind; final = final; fits = fits R; after = after R
 unfoldable pub given : Rules → ℕ → Bool
 given R k = within (1, 6) k or (k =? 10 and classFault (R .others) =? 10)
 
--- The arithmetic on a state is exact: place and octets still to come make a message of 6 to 258 octets, the index is within the length,
--- a size is one that a message has, a number one that is given.
+-- The arithmetic on a state is exact: place and octets still to come make a message of 6 to 258 octets, the index is
+-- within the length, a size is one that a message has, a number one that is given.
 unfoldable pub inRange : Rules → State → Bool
 inRange R (Waiting Kind q) = q .place =? 0
 inRange R (Waiting Size q) = q .place =? 1

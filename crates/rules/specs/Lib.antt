@@ -1,4 +1,5 @@
--- The root of the rules: first what messages are, then the machine that judges octets, then the laws between the two.
+-- The root of the rules: what messages are and what counts in them, the machine that judges octets, and what is
+-- said of the two.
 pub mod Tests
 pub mod Octets
 pub mod Contents
@@ -12,20 +13,9 @@ pub mod Codes
 pub mod Refusals
 pub mod Machine
 pub mod Judge
-pub mod ClassLaw
-pub mod BuilderLaw
-pub mod ContentLaw
-pub mod Remaining
-pub mod Listening
-pub mod Numbers
 pub mod Language
 pub mod Demand3
-pub mod Calls
 pub mod Unique
-pub mod Sizes
-pub mod InRange
 pub mod Rows
-pub mod Returns
 pub mod Pairwise
 pub mod Laying
-pub mod Steps

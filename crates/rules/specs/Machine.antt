@@ -52,3 +52,9 @@ abbrev pub Waits : State → Type 0
 Waits (Waiting s q) = Unit {0}
 Waits (Message n) = ⊥
 Waits (Refused f) = ⊥
+
+-- how many octets led to a state
+abbrev pub place : State → ℕ
+place (Waiting s q) = q .place
+place (Message n) = n
+place (Refused f) = suc (f .place)

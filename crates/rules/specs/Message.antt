@@ -1,4 +1,5 @@
--- Messages, their octets, and which octets are accepted: the written rule over whole messages (document 01, The message).
+-- Messages, their octets, and which octets are accepted: the written rule over whole messages (document 01, The
+-- message).
 -- Assumes nothing.
 use Rattle.rules.specs.Tests.{_=?_, _or_}
 use Prim.Native.Nat.{ℕ, _≤_, _<_}

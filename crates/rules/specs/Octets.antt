@@ -1,10 +1,7 @@
--- Octets: numbers below 256, in lists; and their sum.
+-- Octets: numbers below 256, in lists; their sum, and what two of them say.
 -- Assumes nothing.
-use Prim.Native.Nat.{ℕ, zero, suc, _+_, _-_, _%_, _<_}
-use mathlib.Core.Path.{_≡_}
-use mathlib.Core.List.{List, [], _∷_, _++_}
-use native.Mathlib.Omega.{arith}
-use lib.ListN.{take, drop, getD}
+use Prim.Native.Nat.{ℕ, _+_, _*_, _-_, _%_, _<_}
+use mathlib.Core.List.{List, [], _∷_}
 
 -- each is below 256
 abbrev pub Octets : List ℕ → Type 0
@@ -19,43 +16,6 @@ total (x ∷ l) = x + total l
 unfoldable pub checksum : ℕ → ℕ
 checksum n = (256 - n % 256) % 256
 
-pub checksum-octet : (n : ℕ) → checksum n < 256
-unfolding checksum
-checksum-octet n = omega arith
-
-pub checksum-closes : (n : ℕ) → (n + checksum n) % 256 ≡ 0
-unfolding checksum
-checksum-closes n = omega arith
-
-pub total-append : (a b : List ℕ) → total (a ++ b) ≡ total a + total b
-unfolding total
-total-append [] b = omega arith
-total-append (x ∷ a) b = omega (arith, total-append a b)
-
-pub octets-append : (a b : List ℕ) → Octets a → Octets b → Octets (a ++ b)
-octets-append [] b p q = q
-octets-append (x ∷ a) b p q = (p .0, octets-append a b (p .1) q)
-
-pub octets-right : (a b : List ℕ) → Octets (a ++ b) → Octets b
-octets-right [] b p = p
-octets-right (x ∷ a) b p = octets-right a b (p .1)
-
-pub octets-take : (n : ℕ) (h : List ℕ) → Octets h → Octets (take n h)
-octets-take zero h o = tt
-octets-take (suc n) [] o = tt
-octets-take (suc n) (x ∷ h) o = (o .0, octets-take n h (o .1))
-
--- what a slice says of each of its octets
-pub octets-at : (h : List ℕ) → ((i : ℕ) → getD h i 0 < 256) → Octets h
-octets-at [] f = tt
-octets-at (x ∷ h) f = (f 0, octets-at h (λ i. f (suc i)))
-
-pub octets-drop : (n : ℕ) (h : List ℕ) → Octets h → Octets (drop n h)
-octets-drop zero h o = o
-octets-drop (suc n) [] o = tt
-octets-drop (suc n) (x ∷ h) o = octets-drop n h (o .1)
-
-pub octet-at : (h : List ℕ) → Octets h → (i : ℕ) → getD h i 0 < 256
-octet-at [] o i = omega arith
-octet-at (x ∷ h) o zero = o .0
-octet-at (x ∷ h) o (suc i) = octet-at h (o .1) i
+-- the reference that two octets of 0DH say, the high one first
+abbrev pub referenceOf : ℕ → ℕ → ℕ
+referenceOf high low = 256 * high + low

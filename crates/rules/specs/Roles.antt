@@ -1,4 +1,5 @@
--- The role of each octet of a message: the number that a wrong octet in its place gets (document 01, Numbers given when the work is declined).
+-- The role of each octet of a message: the number that a wrong octet in its place gets (document 01, Numbers given
+-- when the work is declined).
 -- Assumes nothing.
 use Prim.Native.Nat.{ℕ, zero, suc}
 use mathlib.Core.List.{List, [], _∷_, _++_}

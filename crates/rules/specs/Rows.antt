@@ -1,4 +1,5 @@
--- Document 01's rows (Octets on each side of the line): what the written rules and the machine say of them, computed, as one claim.
+-- Document 01's rows (Octets on each side of the line): what the written rules and the machine say of them, computed,
+-- as one claim.
 -- Assumes nothing.
 use Prim.Native.Nat.{ℕ}
 use mathlib.Core.Path.{_≡_, refl}
@@ -20,25 +21,25 @@ use Rattle.rules.specs.declared.State.the-variants.{Waiting, Message, Re
 
 infix 20 refused_at_
 -- an answer in the words of the table
-pub data Said : Type 0 where
-  waits : Said
-  size : ℕ → Said
-  refused_at_ : ℕ → ℕ → Said
+pub data RowAnswer : Type 0 where
+  waits : RowAnswer
+  size : ℕ → RowAnswer
+  refused_at_ : ℕ → ℕ → RowAnswer
 
-unfoldable pub said : State → Said
-said (Waiting s q) = waits
-said (Message n) = size n
-said (Refused f) = refused (f .number) at (f .place)
+unfoldable pub rowAnswer : State → RowAnswer
+rowAnswer (Waiting s q) = waits
+rowAnswer (Message n) = size n
+rowAnswer (Refused f) = refused (f .number) at (f .place)
 
 abbrev pub Row : Type 0
-Row = List ℕ × Said
+Row = List ℕ × RowAnswer
 
 -- every row is answered as it says
-unfoldable pub answers : Rules → List Row → List Said
+unfoldable pub answers : Rules → List Row → List RowAnswer
 answers R [] = []
-answers R (r ∷ rs) = said (answer (machine R) (r .0)) ∷ answers R rs
+answers R (r ∷ rs) = rowAnswer (answer (machine R) (r .0)) ∷ answers R rs
 
-unfoldable pub expected : List Row → List Said
+unfoldable pub expected : List Row → List RowAnswer
 expected [] = []
 expected (r ∷ rs) = r .1 ∷ expected rs
 
@@ -79,7 +80,8 @@ strictRows =
     (0x82 ∷ 0x03 ∷ 0x13 ∷ 0x01 ∷ 0x02 ∷ 0x65 ∷ [], size 6) ∷
     []
 
--- In the old edition: 19 digits, a sign that is no digit, a name of 21, a forwarding, a calling user; 08H of five octets is carried.
+-- In the old edition: 19 digits, a sign that is no digit, a name of 21, a forwarding, a calling user; 08H of five
+-- octets is carried.
 abbrev pub oldRows : List Row
 oldRows =
     (0x80 ∷ 0x14 ∷ 0x02 ∷ 0x12 ∷ [], waits) ∷
@@ -110,8 +112,8 @@ notice ps = record { kind = 0x82; parameters = ps }
 abbrev parameter : ℕ → List ℕ → Parameter
 parameter t v = record { kind = t; contents = v }
 
--- what counts: the first waiting number; the caller's absence and no caller; of 02H 04H 02H the first 02H; carried ones are numbered and never count;
--- in the old edition 08H shuts out no name, and 13H does not count
+-- what counts: the first waiting number; the caller's absence and no caller; of 02H 04H 02H the first 02H; carried
+-- ones are numbered and never count; in the old edition 08H shuts out no name, and 13H does not count
 pub record Claim : Type 0 where
   pub heard : answers (rulesOf PresentLenient) listenerRows ≡ expected listenerRows
   pub strict : answers (rulesOf PresentStrict) strictRows ≡ expected strictRows
@@ -119,21 +121,32 @@ pub record Claim : Type 0 where
   pub old-strict : answers (rulesOf OldStrict) oldStrictRows ≡ expected oldStrictRows
   pub lamp-octets : octets (notice (parameter 0x0B (0xFF ∷ []) ∷ [])) ≡ 0x82 ∷ 0x03 ∷ 0x0B ∷ 0x01 ∷ 0xFF ∷ 0x70 ∷ []
   pub lamp-on : counted (rulesOf PresentLenient) (notice (parameter 0x0B (0xFF ∷ []) ∷ [])) 0x0B ≡ some (0xFF ∷ [])
-  pub waiting-octets : octets (notice (parameter 0x13 (2 ∷ []) ∷ parameter 0x13 (5 ∷ []) ∷ [])) ≡ 0x82 ∷ 0x06 ∷ 0x13 ∷ 0x01 ∷ 0x02 ∷ 0x13 ∷ 0x01 ∷ 0x05 ∷ 0x49 ∷ []
-  pub waiting-two : counted (rulesOf PresentLenient) (notice (parameter 0x13 (2 ∷ []) ∷ parameter 0x13 (5 ∷ []) ∷ [])) 0x13 ≡ some (2 ∷ [])
-  pub absent-octets : octets (call (parameter 0x04 (0x50 ∷ []) ∷ parameter 0x02 (0x37 ∷ []) ∷ [])) ≡ 0x80 ∷ 0x06 ∷ 0x04 ∷ 0x01 ∷ 0x50 ∷ 0x02 ∷ 0x01 ∷ 0x37 ∷ 0xEB ∷ []
-  pub absent-counts : counted (rulesOf PresentLenient) (call (parameter 0x04 (0x50 ∷ []) ∷ parameter 0x02 (0x37 ∷ []) ∷ [])) 0x04 ≡ some (0x50 ∷ [])
-  pub no-caller : counted (rulesOf PresentLenient) (call (parameter 0x04 (0x50 ∷ []) ∷ parameter 0x02 (0x37 ∷ []) ∷ [])) 0x02 ≡ none
-  pub first-caller : counted (rulesOf PresentLenient) (call (parameter 0x02 (0x31 ∷ []) ∷ parameter 0x04 (0x50 ∷ []) ∷ parameter 0x02 (0x37 ∷ []) ∷ [])) 0x02 ≡ some (0x31 ∷ [])
-  pub no-absence : counted (rulesOf PresentLenient) (call (parameter 0x02 (0x31 ∷ []) ∷ parameter 0x04 (0x50 ∷ []) ∷ parameter 0x02 (0x37 ∷ []) ∷ [])) 0x04 ≡ none
-  pub name-shut-out : counted (rulesOf PresentLenient) (call (parameter 0x08 (0x4F ∷ []) ∷ parameter 0x07 (0x41 ∷ []) ∷ [])) 0x07 ≡ none
-  pub carried-twice : carriedIn (rulesOf PresentLenient) (parameter 0x05 (1 ∷ []) ∷ parameter 0x13 (5 ∷ []) ∷ parameter 0x05 (2 ∷ []) ∷ []) ≡ 2
-  pub old-name : counted (rulesOf OldLenient) (call (parameter 0x08 (0x4F ∷ []) ∷ parameter 0x07 (0x41 ∷ []) ∷ [])) 0x07 ≡ some (0x41 ∷ [])
+  pub waiting-octets : octets (notice (parameter 0x13 (2 ∷ []) ∷ parameter 0x13 (5 ∷ []) ∷ [])) ≡
+      0x82 ∷ 0x06 ∷ 0x13 ∷ 0x01 ∷ 0x02 ∷ 0x13 ∷ 0x01 ∷ 0x05 ∷ 0x49 ∷ []
+  pub waiting-two : counted (rulesOf PresentLenient)
+      (notice (parameter 0x13 (2 ∷ []) ∷ parameter 0x13 (5 ∷ []) ∷ [])) 0x13 ≡ some (2 ∷ [])
+  pub absent-octets : octets (call (parameter 0x04 (0x50 ∷ []) ∷ parameter 0x02 (0x37 ∷ []) ∷ [])) ≡
+      0x80 ∷ 0x06 ∷ 0x04 ∷ 0x01 ∷ 0x50 ∷ 0x02 ∷ 0x01 ∷ 0x37 ∷ 0xEB ∷ []
+  pub absent-counts : counted (rulesOf PresentLenient)
+      (call (parameter 0x04 (0x50 ∷ []) ∷ parameter 0x02 (0x37 ∷ []) ∷ [])) 0x04 ≡ some (0x50 ∷ [])
+  pub no-caller : counted (rulesOf PresentLenient)
+      (call (parameter 0x04 (0x50 ∷ []) ∷ parameter 0x02 (0x37 ∷ []) ∷ [])) 0x02 ≡ none
+  pub first-caller : counted (rulesOf PresentLenient)
+      (call (parameter 0x02 (0x31 ∷ []) ∷ parameter 0x04 (0x50 ∷ []) ∷ parameter 0x02 (0x37 ∷ []) ∷ [])) 0x02 ≡
+      some (0x31 ∷ [])
+  pub no-absence : counted (rulesOf PresentLenient)
+      (call (parameter 0x02 (0x31 ∷ []) ∷ parameter 0x04 (0x50 ∷ []) ∷ parameter 0x02 (0x37 ∷ []) ∷ [])) 0x04 ≡ none
+  pub name-shut-out : counted (rulesOf PresentLenient)
+      (call (parameter 0x08 (0x4F ∷ []) ∷ parameter 0x07 (0x41 ∷ []) ∷ [])) 0x07 ≡ none
+  pub carried-twice : carriedIn (rulesOf PresentLenient)
+      (parameter 0x05 (1 ∷ []) ∷ parameter 0x13 (5 ∷ []) ∷ parameter 0x05 (2 ∷ []) ∷ []) ≡ 2
+  pub old-name : counted (rulesOf OldLenient) (call (parameter 0x08 (0x4F ∷ []) ∷ parameter 0x07 (0x41 ∷ []) ∷ []))
+      0x07 ≡ some (0x41 ∷ [])
   pub old-waiting : counted (rulesOf OldLenient) (notice (parameter 0x13 (2 ∷ []) ∷ [])) 0x13 ≡ none
   pub carried-never : counted (rulesOf PresentLenient) (call (parameter 0x05 (1 ∷ []) ∷ [])) 0x05 ≡ none
 
 pub rows : Claim
-unfolding _≤?_ _=?_ _and_ _or_ pick total checksum within inSet whole digit rowIn rowOf listedIn listed classOf rivalOf typeFault classFault someLength rulesOf body octets messageKind firstOf counted carriedIn opens tensFit onesFit pairAt columnAt judgeOf step run roomFits rangePossible somePossible possible final fits contents after fault machine said answers expected
+unfolding _≤?_ _=?_ _and_ _or_ pick total checksum within inSet whole digit rowIn rowOf listedIn listed classOf rivalOf typeFault classFault someLength rulesOf body octets messageKind firstOf counted carriedIn opens tensFit onesFit pairAt columnAt judgeOf step run roomFits rangePossible somePossible possible final fits contents after fault machine rowAnswer answers expected
 rows = record {
   heard = refl;
   strict = refl;

@@ -1,5 +1,5 @@
--- The tables of the present edition (document 01, The message) and of the old one (document 02, Q-5; source 001): for each parameter type its class of
--- contents, the other type of its pair and its key in a listing;
+-- The tables of the present edition (document 01, The message) and of the old one (document 02, Q-5; source 001): for
+-- each parameter type its class of contents, the other type of its pair and its key in a listing;
 -- for each class its contents, its kind of value in a draft and its style in a listing. A set of rules is such a table.
 -- Assumes nothing.
 use Rattle.rules.specs.Tests.{_=?_, _or_, pick}
@@ -21,7 +21,8 @@ unfoldable pub ascii : String → List ℕ
 ascii nil = []
 ascii (c then s) = char.code c ∷ ascii s
 
--- a parameter type; its class; the type that shuts it out where it stands earlier (itself, if it is no half of a pair); its key
+-- a parameter type; its class; the type that shuts it out where it stands earlier (itself, if it is no half of a
+-- pair); its key
 pub record Row : Type 0 where
   pub kind : ℕ
   pub class : Class
@@ -127,7 +128,8 @@ classOf R t = rowOf R t .class
 unfoldable pub rivalOf : Rules → ℕ → ℕ
 rivalOf R t = rowOf R t .rival
 
--- the number given to a type that cannot stand in its room: 3, and 10 where its class has no length at all (document 02, Q-11)
+-- the number given to a type that cannot stand in its room: 3, and 10 where its class has no length at all (document
+-- 02, Q-11)
 unfoldable pub classFault : Class → ℕ
 classFault c = pick (someLength (whole c .lengths)) 3 10
 
@@ -138,17 +140,17 @@ typeFault R t = classFault (classOf R t)
 abbrev pub row : ℕ → Class → String → Row
 row t c k = record { kind = t; class = c; rival = t; key = ascii k }
 
-abbrev pub half : ℕ → Class → ℕ → String → Row
-half t c u k = record { kind = t; class = c; rival = u; key = ascii k }
+abbrev pub pairRow : ℕ → Class → ℕ → String → Row
+pairRow t c u k = record { kind = t; class = c; rival = u; key = ascii k }
 
 abbrev pub rows01 : List Row
 rows01 =
     row 0x01 Date "time" ∷
-    half 0x02 Number 0x04 "caller" ∷
+    pairRow 0x02 Number 0x04 "caller" ∷
     row 0x03 Number "called" ∷
-    half 0x04 Absent 0x02 "caller-absent" ∷
-    half 0x07 Name 0x08 "name" ∷
-    half 0x08 Absent 0x07 "name-absent" ∷
+    pairRow 0x04 Absent 0x02 "caller-absent" ∷
+    pairRow 0x07 Name 0x08 "name" ∷
+    pairRow 0x08 Absent 0x07 "name-absent" ∷
     row 0x0B Lamp "lamp" ∷
     row 0x0D Identity "message" ∷
     row 0x0E Number "depositor" ∷
@@ -159,7 +161,8 @@ rows01 =
     row 0x16 User "user" ∷
     []
 
--- ---- what a draft holds of a class (Drafts): the numbers of a date, a code, a state with a reference, a text, a carried text
+-- ---- what a draft holds of a class (Drafts): the numbers of a date, a code, a state with a reference, a text, a
+-- carried text
 unfoldable pub formOf : Class → Form
 formOf Date = DateValue
 formOf Number = TextValue
@@ -178,8 +181,8 @@ formOf OldForwarded = CodeValue
 formOf OldUser = CodeValue
 formOf Unlisted = CarriedValue
 
--- ---- how a listing prints a class (What showmsg prints): MM-DD HH:MM; the octets as they are; off or on; a state and its reference; a number in decimal;
--- two hex digits; not at all, but numbered
+-- ---- how a listing prints a class (What showmsg prints): MM-DD HH:MM; the octets as they are; off or on; a state
+-- and its reference; a number in decimal; two hex digits; not at all, but numbered
 pub data Style : Type 0 where
   clock : Style
   verbatim : Style
@@ -211,8 +214,8 @@ styleOf Unlisted = numbered
 abbrev pub rowsOld : List Row
 rowsOld =
     row 0x01 Date "time" ∷
-    half 0x02 OldNumber 0x04 "caller" ∷
-    half 0x04 Absent 0x02 "caller-absent" ∷
+    pairRow 0x02 OldNumber 0x04 "caller" ∷
+    pairRow 0x04 Absent 0x02 "caller-absent" ∷
     row 0x07 ShortText "name" ∷
     row 0x0B Lamp "lamp" ∷
     row 0x12 OldNumber "first-called" ∷

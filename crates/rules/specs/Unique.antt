@@ -1,27 +1,16 @@
--- What holds of all messages: their octets tell them apart, no accepted octets begin other accepted octets, and all octets sum to 0 modulo 256.
+-- What holds of all messages: their octets tell them apart, no accepted octets begin other accepted octets, and all
+-- octets sum to 0 modulo 256.
 -- Assumes nothing.
 use Prim.Native.Nat.{ℕ, _%_, _≤_}
-use mathlib.Core.Path.{_≡_, refl, sym, _∙_, ap}
-use mathlib.Core.List.{List, [], _∷_, _++_}
-use native.Mathlib.Omega.{arith}
-use lib.ListN.{length, length-append}
-use lib.Seq.{take-length}
-use Rattle.rules.specs.Octets.{Octets, total, checksum, checksum-closes, total-append}
-use Rattle.rules.specs.Table.{Rules, rulesOf}
-use Rattle.rules.specs.ContentLaw.{SoundRules, sound-rules}
+use mathlib.Core.Path.{_≡_}
+use mathlib.Core.List.{List, [], _++_}
+use lib.ListN.{length}
+use Rattle.rules.specs.Octets.{Octets, total}
+use Rattle.rules.specs.Table.{Rules}
 use Rattle.rules.specs.Message as message
-use Rattle.rules.specs.declared.Book.{Book}
-use Rattle.rules.specs.Message.{Parameter, body, front, octets, Accepts}
-use Rattle.rules.specs.Machine.{run, start, answer}
-use Rattle.rules.specs.Judge.{machine}
-use Rattle.rules.specs.Remaining.{empty}
-use Rattle.rules.specs.Listening.{accepted-octets, message-stays, run-append}
-use Rattle.rules.specs.Calls.{spoken, accepted-size}
-use Rattle.rules.specs.Demand3.{demand3}
-use Rattle.rules.specs.declared.State.{State}
-use Rattle.rules.specs.declared.State.the-variants.{Message}
+use Rattle.rules.specs.Message.{octets, Accepts}
 
-pub record Told (R : Rules) : Type 0 where
+pub record Unique (R : Rules) : Type 0 where
   -- octets tell the message
   pub message : (m n : message.Message) → octets m ≡ octets n → m ≡ n
   -- no accepted message begins another
@@ -31,55 +20,3 @@ pub record Told (R : Rules) : Type 0 where
   -- octets that are accepted are octets, 6 to 258 of them
   pub octets : (o : List ℕ) → Accepts R o → Octets o
   pub size : (o : List ℕ) → Accepts R o → (6 ≤ length o) × (length o ≤ 258)
-
--- lists of one length that begin equal lists are equal, and so are the rests
-split : (a b c d : List ℕ) → length a ≡ length b → a ++ c ≡ b ++ d → (a ≡ b) × (c ≡ d)
-split [] [] c d l e = (refl, e)
-split [] (y ∷ b) c d l e = absurd (omega arith)
-split (x ∷ a) [] c d l e = absurd (omega arith)
-split (x ∷ a) (y ∷ b) c d l e = let r = split a b c d (omega arith) (cc) in (cc, r .1)
-
-pub body-told : (ps qs : List Parameter) → body ps ≡ body qs → ps ≡ qs
-unfolding body
-body-told [] [] e = refl
-body-told [] (q ∷ qs) e = cc
-body-told (p ∷ ps) [] e = cc
-body-told (p ∷ ps) (q ∷ qs) e =
-    let r = split (p .contents) (q .contents) (body ps) (body qs) (cc) (cc) in
-    let k : p .kind ≡ q .kind = cc in
-    let t = body-told ps qs (r .1) in
-    λ i. (record { kind = k i; contents = r .0 i }) ∷ t i
-
-told : (m n : message.Message) → octets m ≡ octets n → m ≡ n
-unfolding octets
-told m n e =
-    let l = ap length e in
-    let f = split (front m) (front n) _ _ (omega (arith, length-append (front m) (checksum (total (front m)) ∷ []), length-append (front n) (checksum (total (front n)) ∷ []))) e in
-    let k : m .kind ≡ n .kind = cc in
-    let b : body (m .parameters) ≡ body (n .parameters) = cc in
-    let t = body-told (m .parameters) (n .parameters) b in
-    λ i. record { kind = k i; parameters = t i }
-
-sums : (m : message.Message) → total (octets m) % 256 ≡ 0
-unfolding octets total
-sums m = omega (arith, total-append (front m) (checksum (total (front m)) ∷ []), checksum-closes (total (front m)))
-
-module _ (R : Rules) (S : SoundRules R) where
-  accepts-octets : (o : List ℕ) → Accepts R o → Octets o
-  accepts-octets o d = accepted-octets (machine R) (spoken R S .grammar) o (spoken R S .words o d)
-
-  -- an accepted message is done at its end
-  pub accepted-done : (o : List ℕ) → Accepts R o → answer (machine R) o ≡ Message (length o)
-  accepted-done o d = demand3 (spoken R S) .has-message o (accepts-octets o d) (length o) .1 (omega arith, rw take-length d)
-
-  no-prefix : (o e : List ℕ) → Accepts R o → Accepts R (o ++ e) → e ≡ []
-  no-prefix o e d u =
-      let q : run (machine R) (answer (machine R) o) e ≡ Message (length o) = ap (λ (w : State). run (machine R) w e) (accepted-done o d) ∙ message-stays (machine R) (length o) e in
-      let l : length (o ++ e) ≡ length o = cc (run-append (machine R) (start (machine R)) o e, accepted-done (o ++ e) u) in
-      empty R S e (omega (arith, length-append o e))
-
-  pub told-of : Told R
-  told-of = record { message = told; whole = no-prefix; sum = λ o d. ap (λ (l : List ℕ). total l % 256) (sym (d .2)) ∙ sums (d .0); octets = accepts-octets; size = accepted-size R }
-
-pub told-in : (b : Book) → Told (rulesOf b)
-told-in b = told-of (rulesOf b) (sound-rules b)

@@ -5,25 +5,25 @@ use mathlib.Core.Path.{_≡_, refl, sym, _∙_, ap}
 use mathlib.Core.List.{List, [], _∷_, _++_}
 use native.Mathlib.Omega.{arith}
 use lib.ListN.{length, length-append, take, drop}
-use Rattle.rules.specs.Tests.{picked-by, eq-of, clash}
+use Rattle.rules.proofs.Tests.{picked-by, eq-of, clash}
 use Rattle.rules.specs.Message as message
 use Rattle.rules.specs.Message.{body}
-use Rattle.message.specs.Searching.{Stand, at-end, found-is, contents-are, on}
+use Rattle.message.proofs.Searching.{Stand, at-end, found-is, contents-are, on}
 use Rattle.walker.specs.declared.Step.{Step}
 use Rattle.walker.specs.declared.Step.the-variants.{Parameter, NoMore}
 use Rattle.walker.specs.Walks.{Begins}
-use Rattle.walker.specs.Steps.{walkFrom, after}
-use Rattle.walker.proofs.Walking.{none-here, stands, here, onward}
+use Rattle.walker.specs.Steps.{walkFrom, nextPlace}
+use Rattle.walker.proofs.Steps.{none-here, stands, here, onward}
 
 -- the step that gives a parameter: its type, its contents behind type and length, and the place behind them
 abbrev pub giving : ℕ → message.Parameter → Step
 giving at p = Parameter (p .kind) (at + 2) (length (p .contents)) (at + 2 + length (p .contents))
 
 -- the place of the parameter that so many come before; behind the last one, that of the checksum
-unfoldable pub placeOf : ℕ → List message.Parameter → ℕ → ℕ
-placeOf first ps zero = first
-placeOf first [] (suc k) = first
-placeOf first (p ∷ ps) (suc k) = placeOf (first + 2 + length (p .contents)) ps k
+unfoldable pub beginAt : ℕ → List message.Parameter → ℕ → ℕ
+beginAt first ps zero = first
+beginAt first [] (suc k) = first
+beginAt first (p ∷ ps) (suc k) = beginAt (first + 2 + length (p .contents)) ps k
 
 first-begins : (first : ℕ) (p : message.Parameter) (ps : List message.Parameter) (at : ℕ) → first ≡ at → Begins first (p ∷ ps) at
 unfolding body
@@ -72,14 +72,14 @@ begins-apart first ps at behind b d h =
 not-given : (k s n next : ℕ) → NoMore ≡ Parameter k s n next → ⊥
 not-given k s n next e = clash cc
 
-place-far : (first : ℕ) (ps : List message.Parameter) (k : ℕ) → first ≤ placeOf first ps k
-unfolding placeOf
+place-far : (first : ℕ) (ps : List message.Parameter) (k : ℕ) → first ≤ beginAt first ps k
+unfolding beginAt
 place-far first ps zero = omega arith
 place-far first [] (suc k) = omega arith
 place-far first (p ∷ ps) (suc k) = omega (arith, place-far (first + 2 + length (p .contents)) ps k)
 
-pub place-behind : (first : ℕ) (b : List message.Parameter) (p : message.Parameter) (a : List message.Parameter) → placeOf first (b ++ p ∷ a) (length b) ≡ first + length (body b)
-unfolding placeOf body
+pub place-behind : (first : ℕ) (b : List message.Parameter) (p : message.Parameter) (a : List message.Parameter) → beginAt first (b ++ p ∷ a) (length b) ≡ first + length (body b)
+unfolding beginAt body
 place-behind first [] p a = omega arith
 place-behind first (q ∷ b) p a = omega (arith, place-behind (first + 2 + length (q .contents)) b p a, length-append (q .contents) (body b))
 
@@ -130,19 +130,19 @@ module _ (o : List ℕ) (c : ℕ) where
       ∙ walk-none (turns - 1) at (place + 2 + length (p .contents)) ps (on o c place p ps e) (omega arith) (λ b. away (later-begins place p ps at b))
 
   -- from the place of a parameter a call leads to that of the next; behind the last it stays
-  pub walk-on : (turns place : ℕ) (ps : List message.Parameter) (k : ℕ) → Stand o c place ps → length ps ≤ turns → after (placeOf place ps k) (walkFrom turns o (placeOf place ps k) place) ≡ placeOf place ps (suc k)
-  unfolding placeOf after
-  walk-on turns place [] zero e h = ap (after place) (at-last turns place place e)
-  walk-on turns place [] (suc k) e h = ap (after place) (at-last turns place place e)
-  walk-on turns place (p ∷ ps) zero e h = ap (after place) (here turns o place place (omega arith) _ _ _ (found-is o c place p ps e) refl)
+  pub walk-on : (turns place : ℕ) (ps : List message.Parameter) (k : ℕ) → Stand o c place ps → length ps ≤ turns → nextPlace (beginAt place ps k) (walkFrom turns o (beginAt place ps k) place) ≡ beginAt place ps (suc k)
+  unfolding beginAt nextPlace
+  walk-on turns place [] zero e h = ap (nextPlace place) (at-last turns place place e)
+  walk-on turns place [] (suc k) e h = ap (nextPlace place) (at-last turns place place e)
+  walk-on turns place (p ∷ ps) zero e h = ap (nextPlace place) (here turns o place place (omega arith) _ _ _ (found-is o c place p ps e) refl)
   walk-on turns place (p ∷ ps) (suc k) e h =
       let f = place-far (place + 2 + length (p .contents)) ps k in
-      ap (after (placeOf (place + 2 + length (p .contents)) ps k)) (onward turns o _ place (omega arith) _ _ _ (found-is o c place p ps e) (λ z. omega arith))
+      ap (nextPlace (beginAt (place + 2 + length (p .contents)) ps k)) (onward turns o _ place (omega arith) _ _ _ (found-is o c place p ps e) (λ z. omega arith))
       ∙ walk-on (turns - 1) (place + 2 + length (p .contents)) ps k (on o c place p ps e) (omega arith)
 
-  pub walk-ended : (turns place : ℕ) (ps : List message.Parameter) (k : ℕ) → Stand o c place ps → length ps ≤ turns → length ps ≤ k → walkFrom turns o (placeOf place ps k) place ≡ NoMore
-  unfolding placeOf
-  walk-ended turns place [] k e h l = at-last turns (placeOf place [] k) place e
+  pub walk-ended : (turns place : ℕ) (ps : List message.Parameter) (k : ℕ) → Stand o c place ps → length ps ≤ turns → length ps ≤ k → walkFrom turns o (beginAt place ps k) place ≡ NoMore
+  unfolding beginAt
+  walk-ended turns place [] k e h l = at-last turns (beginAt place [] k) place e
   walk-ended turns place (p ∷ ps) zero e h l = absurd (omega arith)
   walk-ended turns place (p ∷ ps) (suc k) e h l =
       let f = place-far (place + 2 + length (p .contents)) ps k in

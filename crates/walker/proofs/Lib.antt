@@ -1,8 +1,8 @@
 -- The root of the proofs.
 pub mod Clauses
 pub mod Settled
-pub mod Stepping
-pub mod Walked
-pub mod Walking
+pub mod Promised
+pub mod One
+pub mod Steps
 pub mod Begins
 pub mod Walks

@@ -8,28 +8,29 @@ use mathlib.Core.List.{List, [], _∷_, _++_}
 use native.Mathlib.Omega.{arith}
 use lib.ListN.{length, length-append, take, drop}
 use lib.Dec.{T}
-use Rattle.rules.specs.Tests.{clash}
+use Rattle.rules.proofs.Tests.{clash}
 use Rattle.rules.specs.Octets.{Octets, total, checksum}
 use Rattle.rules.specs.Table.{Rules}
-use Rattle.rules.specs.Unique.{told-of}
-use Rattle.rules.specs.ContentLaw.{SoundRules}
+use Rattle.rules.proofs.Unique.{told-of}
+use Rattle.rules.proofs.ContentLaw.{SoundRules}
 use Rattle.rules.specs.Message as message
 use Rattle.rules.specs.Message.{Message, body, front, octets, LegalMessage, most}
 use Rattle.rules.specs.declared.Fault.{Fault}
 use Rattle.message.specs.declared.Verdict.{Verdict}
 use Rattle.message.specs.declared.Verdict.the-variants.{Accepted, Declined}
 use Rattle.message.specs.Verdict.{verdictOf}
-use Rattle.message.specs.Judges.{Judges, judges-calls, told-small, verdictNumber}
-use Rattle.message.specs.Searching.{Stand}
-use Rattle.rules.specs.Sizes.{few}
+use Rattle.message.specs.Judges.{Judges, verdictNumber}
+use Rattle.message.proofs.Judges.{judges-calls, told-small}
+use Rattle.message.proofs.Searching.{Stand}
+use Rattle.rules.proofs.Sizes.{few}
 use Rattle.rules.specs.Language.{calls}
-use Rattle.rules.specs.Calls.{spoken}
+use Rattle.rules.proofs.Grammar.{spoken}
 use Rattle.walker.specs.declared.Step.{Step}
 use Rattle.walker.specs.declared.Step.the-variants.{Parameter, NoMore, Refused}
-use Rattle.walker.specs.Steps.{walkFrom, stepUnder, stepOf, told, after, placeAt}
-use Rattle.walker.proofs.Walking.{walk-plain, under-inside}
-use Rattle.walker.proofs.Begins.{giving, placeOf, place-behind, begins-before, begins-apart, walk-begins, walk-begun, walk-none, walk-on, walk-ended, contents-stand}
-use Rattle.walker.specs.Walks.{Begins, Gives, Stands, Walks}
+use Rattle.walker.specs.Steps.{walkFrom, stepUnder, stepOf, told, nextPlace, placeAt}
+use Rattle.walker.proofs.Steps.{walk-plain, under-inside}
+use Rattle.walker.proofs.Begins.{giving, beginAt, place-behind, begins-before, begins-apart, walk-begins, walk-begun, walk-none, walk-on, walk-ended, contents-stand}
+use Rattle.walker.specs.Walks.{Begins, Gives, StepAt, Walks}
 
 -- ---- the step and the verdict
 module _ (o : List ℕ) (at : ℕ) where
@@ -52,9 +53,9 @@ module _ (o : List ℕ) (at : ℕ) where
   numbers-of R (Accepted n) h = inl (walk-plain o most at 2 .0)
   numbers-of R (Declined f) h = inr (h f refl)
 
-refusal-of : (at : ℕ) (r : Step) (f : Fault) → r ≡ Refused f → (told r .number ≡ f .number) × (told r .place ≡ f .place) × (told r .more ≡ 0) × (after at r ≡ at)
-unfolding told after
-refusal-of at r f e = (ap (λ (s : Step). told s .number) e, ap (λ (s : Step). told s .place) e, ap (λ (s : Step). told s .more) e, ap (after at) e)
+refusal-of : (at : ℕ) (r : Step) (f : Fault) → r ≡ Refused f → (told r .number ≡ f .number) × (told r .place ≡ f .place) × (told r .more ≡ 0) × (nextPlace at r ≡ at)
+unfolding told nextPlace
+refusal-of at r f e = (ap (λ (s : Step). told s .number) e, ap (λ (s : Step). told s .place) e, ap (λ (s : Step). told s .more) e, ap (nextPlace at) e)
 
 -- ---- the step in a message
 given-is : (r : Step) → told r .more ≡ 1 → (k s n next : ℕ) × (r ≡ Parameter k s n next)
@@ -64,7 +65,7 @@ given-is NoMore e = absurd (omega arith)
 given-is (Refused f) e = absurd (omega arith)
 
 giving-gives : (o : List ℕ) (at : ℕ) (p : message.Parameter) → take (length (p .contents)) (drop (at + 2) o) ≡ p .contents → Gives o at p (giving at p)
-unfolding told after
+unfolding told nextPlace
 giving-gives o at p e = record { number = refl; place = refl; more = refl; kind = refl; start = refl; size = refl; octets = e; next = refl }
 
 module _ (R : Rules) (S : SoundRules R) where
@@ -95,7 +96,7 @@ module _ (R : Rules) (S : SoundRules R) where
     unfolding octets
     long-is = omega (arith, length-append (body (m .parameters)) (c ∷ []))
 
-    step-stands : (at : ℕ) → Stands m at (stepOf R o at)
+    step-stands : (at : ℕ) → StepAt m at (stepOf R o at)
     step-stands at = record {
       parameter = step-gives at;
       begins = λ e. let g = given-is _ e in walk-begun o c most at 2 (m .parameters) stand (few R S m l) _ _ _ _ (sym (legal-step at) ∙ g .4);
@@ -106,11 +107,11 @@ module _ (R : Rules) (S : SoundRules R) where
     }
 
     -- ---- one call after the other
-    place-is : (calls : ℕ) → placeAt R o calls ≡ placeOf 2 (m .parameters) calls
-    unfolding placeAt placeOf
+    place-is : (calls : ℕ) → placeAt R o calls ≡ beginAt 2 (m .parameters) calls
+    unfolding placeAt beginAt
     place-is zero = refl
     place-is (suc calls) =
-        ap₂ after (place-is calls) (ap (stepOf R o) (place-is calls) ∙ legal-step _)
+        ap₂ nextPlace (place-is calls) (ap (stepOf R o) (place-is calls) ∙ legal-step _)
         ∙ walk-on o c most 2 (m .parameters) calls stand (few R S m l)
 
     -- the call that as many went before as the parameter p has before it gives p
@@ -120,7 +121,7 @@ module _ (R : Rules) (S : SoundRules R) where
       p = p;
       behind = a;
       is = e;
-      place = place-is (length b) ∙ ap (λ (ps : List message.Parameter). placeOf 2 ps (length b)) e ∙ place-behind 2 b p a;
+      place = place-is (length b) ∙ ap (λ (ps : List message.Parameter). beginAt 2 ps (length b)) e ∙ place-behind 2 b p a;
     })
 
     -- and after as many as there are parameters there are no more, for ever
@@ -150,5 +151,5 @@ module _ (R : Rules) (S : SoundRules R) where
       refusal = refusal-of at _;
       numbers = numbers-of o at R v (J .numbers);
       inside = under-inside o v at;
-      stands = λ m l e. subst (λ (x : List ℕ). Stands m at (stepOf R x at)) e (step-stands m l at);
+      stands = λ m l e. subst (λ (x : List ℕ). StepAt m at (stepOf R x at)) e (step-stands m l at);
     }

@@ -8,7 +8,7 @@ use Rattle.rules.specs.Table.{rulesOf}
 use Rattle.rules.specs.declared.Book.the-variants.{PresentLenient}
 use Rattle.walker.specs.declared.Walker.{Walker}
 use Rattle.walker.specs.declared.Step.{Step}
-use Rattle.walker.specs.Steps.{stepOf, after, placeAt}
+use Rattle.walker.specs.Steps.{stepOf, nextPlace, placeAt}
 
 -- a new walker holds the message lent and the place of its first parameter
 abbrev pub begun : RefT (List ℕ) → Walker
@@ -19,8 +19,8 @@ abbrev pub seen : Walker → Step
 seen w = stepOf (rulesOf PresentLenient) (now (w .message)) (w .place)
 
 -- a walker moved on holds the same message and the place of the next call
-abbrev pub moved : Walker → Walker
-moved w = record { message = w .message; place = after (w .place) (seen w) }
+abbrev pub advanced : Walker → Walker
+advanced w = record { message = w .message; place = nextPlace (w .place) (seen w) }
 
 -- the promises of `new`, `look` and `next`
 abbrev pub Begun : RefT (List ℕ) → Walker → Type 0
@@ -30,7 +30,7 @@ abbrev pub Seen : Walker → Step → Type 0
 Seen w r = r ≡ seen w
 
 abbrev pub Moved : Walker → Walker → Type 0
-Moved w r = r ≡ moved w
+Moved w r = r ≡ advanced w
 
 -- a walker on the message s that so many calls have moved on
 unfoldable pub Reached : RefT (List ℕ) → ℕ → Walker → Type 0
@@ -41,4 +41,4 @@ Reached s (suc calls) w = (v : Walker) × Reached s calls v × Moved v w
 pub reached : (s : RefT (List ℕ)) (calls : ℕ) (w : Walker) → Reached s calls w → w ≡ record { message = s; place = placeAt (rulesOf PresentLenient) (now s) calls }
 unfolding Reached placeAt
 reached s zero w e = e
-reached s (suc calls) w e = e .2 ∙ ap moved (reached s calls (e .0) (e .1))
+reached s (suc calls) w e = e .2 ∙ ap advanced (reached s calls (e .0) (e .1))

@@ -44,7 +44,7 @@ pub record Claim : Type 0 where
   pub too-short : stepOf (rulesOf PresentLenient) [] 2 ≡ Refused (noted 8 0)
 
 pub rows : Claim
-unfolding _≤?_ _=?_ _and_ _or_ pick checksum within inSet whole digit ascii rowIn rowOf listedIn listed classOf rivalOf typeFault rulesOf classFault someLength messageKind opens tensFit onesFit pairAt columnAt judgeOf step run roomFits rangePossible somePossible possible final fits contents after fault machine judged verdictOf parameterAt met walkFrom stepUnder stepOf steps.after placeAt
+unfolding _≤?_ _=?_ _and_ _or_ pick checksum within inSet whole digit ascii rowIn rowOf listedIn listed classOf rivalOf typeFault rulesOf classFault someLength messageKind opens tensFit onesFit pairAt columnAt judgeOf step run roomFits rangePossible somePossible possible final fits contents after fault machine judged verdictOf parameterAt met walkFrom stepUnder stepOf steps.nextPlace placeAt
 rows = record {
   first = refl;
   second = refl;

@@ -33,7 +33,8 @@ stepUnder (Declined f) o at = Refused f
 unfoldable pub stepOf : Rules → List ℕ → ℕ → Step
 stepOf R o at = stepUnder (verdictOf R o) o at
 
--- this paper's number and place, and the type and the part (its start and size) of a parameter
+-- ---- what an answer tells (document 01, The forms we expect: a definition provides number and values for each case)
+-- the number and place of a refusal, the type of a parameter and the part of its contents; 0 where there is none
 pub record Told : Type 0 where
   pub number : ℕ
   pub place : ℕ
@@ -43,19 +44,18 @@ pub record Told : Type 0 where
   pub start : ℕ
   pub size : ℕ
 
--- they are, for each case, 0 where there is none
 unfoldable pub told : Step → Told
 told (Parameter k start n next) = record { number = 0; place = 0; more = 1; kind = k; start = start; size = n }
 told NoMore = record { number = 0; place = 0; more = 0; kind = 0; start = 0; size = 0 }
 told (Refused f) = record { number = f .number; place = f .place; more = 0; kind = 0; start = 0; size = 0 }
 
 -- the place of the next call: behind the parameter given, the same place where none is given
-unfoldable pub after : ℕ → Step → ℕ
-after at (Parameter k start n next) = next
-after at NoMore = at
-after at (Refused f) = at
+unfoldable pub nextPlace : ℕ → Step → ℕ
+nextPlace at (Parameter k start n next) = next
+nextPlace at NoMore = at
+nextPlace at (Refused f) = at
 
 -- the place of the call that so many calls went before: the first is 2
 unfoldable pub placeAt : Rules → List ℕ → ℕ → ℕ
 placeAt R o zero = 2
-placeAt R o (suc calls) = after (placeAt R o calls) (stepOf R o (placeAt R o calls))
+placeAt R o (suc calls) = nextPlace (placeAt R o calls) (stepOf R o (placeAt R o calls))

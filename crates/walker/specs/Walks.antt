@@ -17,7 +17,7 @@ use Rattle.message.specs.declared.Verdict.the-variants.{Declined}
 use Rattle.message.specs.Judges.{Judges, verdictNumber}
 use Rattle.walker.specs.declared.Step.{Step}
 use Rattle.walker.specs.declared.Step.the-variants.{Parameter, NoMore, Refused}
-use Rattle.walker.specs.Steps.{told, after}
+use Rattle.walker.specs.Steps.{told, nextPlace}
 
 -- of the parameters ps, of which the first begins at `first`, one begins at `at`: behind those before it
 pub record Begins (first : ℕ) (ps : List message.Parameter) (at : ℕ) : Type 0 where
@@ -36,10 +36,10 @@ pub record Gives (o : List ℕ) (at : ℕ) (p : message.Parameter) (r : Step) : 
   pub start : told r .start ≡ at + 2
   pub size : told r .size ≡ length (p .contents)
   pub octets : take (told r .size) (drop (told r .start) o) ≡ p .contents
-  pub next : after at r ≡ at + 2 + length (p .contents)
+  pub next : nextPlace at r ≡ at + 2 + length (p .contents)
 
 -- in a legal message m, r stands at a place
-pub record Stands (m : Message) (at : ℕ) (r : Step) : Type 0 where
+pub record StepAt (m : Message) (at : ℕ) (r : Step) : Type 0 where
   -- where a parameter begins, that one
   pub parameter : (b : Begins 2 (m .parameters) at) → Gives (octets m) at (b .p) r
   -- one is given nowhere else
@@ -59,9 +59,9 @@ pub record Walks (R : Rules) (o : List ℕ) (at : ℕ) (r : Step) : Type 0 where
   pub verdict : Verdict
   pub judged : Judges (calls R) o verdict
   pub refused : (f : Fault) → (r ≡ Refused f) ↔ (verdict ≡ Declined f)
-  pub refusal : (f : Fault) → r ≡ Refused f → (told r .number ≡ f .number) × (told r .place ≡ f .place) × (told r .more ≡ 0) × (after at r ≡ at)
+  pub refusal : (f : Fault) → r ≡ Refused f → (told r .number ≡ f .number) × (told r .place ≡ f .place) × (told r .more ≡ 0) × (nextPlace at r ≡ at)
   -- no number but 1 to 8, and 10
   pub numbers : (told r .number ≡ 0) ⊎ T (verdictNumber (calls R) (told r .number))
   -- the part lies inside the octets
   pub inside : told r .start + told r .size ≤ length o
-  pub stands : (m : Message) → LegalMessage R m → octets m ≡ o → Stands m at r
+  pub stands : (m : Message) → LegalMessage R m → octets m ≡ o → StepAt m at r

@@ -8,7 +8,7 @@ ghost use mathlib.Core.Path.{_≡_};
 ghost use Rattle.rules.specs.Table.{rulesOf};
 ghost use Rattle.rules.specs.declared.Book.the-variants as book;
 ghost use Rattle.rules.specs.Message.{most};
-ghost use Rattle.walker.specs.Steps.{walkFrom, stepOf, after};
+ghost use Rattle.walker.specs.Steps.{walkFrom, stepOf, nextPlace};
 ghost use Rattle.walker.specs.Moves.{Begun, Seen, Moved};
 
 // A parameter: its type, where its contents start, how long they are, and the place behind them; or none; or number and place of a refusal.
@@ -77,7 +77,7 @@ fn step_here(message: &[u8], at: usize) -> Step
 
 // The place of the next call: behind the parameter that begins at a place, the same place where none does.
 fn place_after(message: &[u8], at: usize) -> usize
-    ensures { λ r. ⌜ r ≡ after at (stepOf (rulesOf book.PresentLenient) (now (message .entry)) at) ⌝ }
+    ensures { λ r. ⌜ r ≡ nextPlace at (stepOf (rulesOf book.PresentLenient) (now (message .entry)) at) ⌝ }
 {
     let step = step_here(message, at);
     match step {

@@ -28,26 +28,37 @@ use Rattle.writer.specs.declared.Measure.{Measure}
 pub used-count : (d : Draft) → length (d .entries) ≡ most → d .count ≤ most → length (used d) ≡ d .count
 used-count d l h = length-take-le (d .count) (d .entries) (omega arith)
 
-pub entries-went : (R : Rules) (d : Draft) (texts : List ℕ) (room : ℕ) (m : Measure) → length (d .entries) ≡ most → d .count ≤ most → m ≡ measureFrom R texts 0 0 (used d) → {x : Measure} → m ≡ x → {r : Written} → r ≡ onMeasure x room → r ≡ measuredOf R d texts room
-entries-went R d texts room m l h e q g = g ∙ ap (λ (m : Measure). onMeasure m room) (sym q ∙ e) ∙ measured-is R d texts room (used-count d l h)
+pub entries-went : (R : Rules) (d : Draft) (texts : List ℕ) (room : ℕ) (m : Measure) → length (d .entries) ≡ most →
+    d .count ≤ most → m ≡ measureFrom R texts 0 0 (used d) → {x : Measure} → m ≡ x → {r : Written} →
+    r ≡ onMeasure x room → r ≡ measuredOf R d texts room
+entries-went R d texts room m l h e q g =
+    g ∙ ap (λ (m : Measure). onMeasure m room) (sym q ∙ e) ∙ measured-is R d texts room (used-count d l h)
 
 -- ---- an entry, by the class of its type and its value laid flat
-module _ (R : Rules) (texts : List ℕ) (e : Entry) (o : e .kind < 256) (c : Class) (f : Flat) (k : ℕ) (p : c ≡ classOf R (e .kind)) (q : f ≡ flatOf (e .value)) (s : k ≡ formNumber (formOf c)) where
+module _ (R : Rules) (texts : List ℕ) (e : Entry) (o : e .kind < 256) (c : Class) (f : Flat) (k : ℕ)
+    (p : c ≡ classOf R (e .kind)) (q : f ≡ flatOf (e .value)) (s : k ≡ formNumber (formOf c)) where
   same-form : f .form ≡ k → flatOf (e .value) .form ≡ formNumber (formOf (classOf R (e .kind)))
   same-form h = ap (λ (f : Flat). f .form) (sym q) ∙ h ∙ s ∙ ap (λ (c : Class). formNumber (formOf c)) p
 
   pub entry-none : (f .form ≡ k → ⊥) → 0 ≡ takesOf R texts e
-  entry-none n = takes-none R texts e o (λ h. n (ap (λ (f : Flat). f .form) q ∙ h ∙ ap (λ (c : Class). formNumber (formOf c)) (sym p) ∙ sym s))
+  entry-none n =
+      takes-none R texts e o
+      (λ h. n (ap (λ (f : Flat). f .form) q ∙ h ∙ ap (λ (c : Class). formNumber (formOf c)) (sym p) ∙ sym s))
 
   pub entry-number : (r : ℕ) → f .form ≡ k → f .form < 3 → r ≡ fitting c (small (e .value)) → r ≡ takesOf R texts e
-  entry-number r h l g = g ∙ ap (λ (c : Class). fitting c (small (e .value))) p ∙ takes-number R texts e o (same-form h) (rw q at l)
+  entry-number r h l g =
+      g ∙ ap (λ (c : Class). fitting c (small (e .value))) p ∙ takes-number R texts e o (same-form h) (rw q at l)
 
-  pub entry-text : (r : ℕ) → f .form ≡ k → 3 ≤ f .form → r ≡ pick (f .start + f .length ≤? length texts) (fitting c (take (f .length) (drop (f .start) texts))) 0 → r ≡ takesOf R texts e
+  pub entry-text : (r : ℕ) → f .form ≡ k → 3 ≤ f .form →
+      r ≡ pick (f .start + f .length ≤? length texts) (fitting c (take (f .length) (drop (f .start) texts))) 0 →
+      r ≡ takesOf R texts e
   entry-text r h l g =
-      g ∙ ap₂ (λ (c : Class) (f : Flat). pick (f .start + f .length ≤? length texts) (fitting c (take (f .length) (drop (f .start) texts))) 0) p q ∙ takes-text R texts e o (same-form h) (rw q at l)
+      g ∙ ap₂ (λ (c : Class) (f : Flat). pick (f .start + f .length ≤? length texts)
+      (fitting c (take (f .length) (drop (f .start) texts))) 0) p q ∙ takes-text R texts e o (same-form h) (rw q at l)
 
 -- ---- an answer that is a message: what is asked before it is laid down
-pub layable : (R : Rules) (d : Draft) (texts : List ℕ) (room n : ℕ) (w : Written) → w ≡ writeOf R d texts room → w ≡ Message n → Layable d texts room (n - 3) × ((3 ≤ n) × (n ≤ 258))
+pub layable : (R : Rules) (d : Draft) (texts : List ℕ) (room n : ℕ) (w : Written) → w ≡ writeOf R d texts room →
+    w ≡ Message n → Layable d texts room (n - 3) × ((3 ≤ n) × (n ≤ 258))
 layable R d texts room n w e q =
     let r = written R d texts room n (sym e ∙ q) in
     let f = r .0 in

@@ -8,9 +8,10 @@ use mathlib.Core.List.{List, [], _∷_}
 use native.Mathlib.Omega.{arith}
 use lib.ListN.{length, take, drop, length-append}
 use lib.Dec.{T}
-use Rattle.rules.specs.Tests.{_≤?_, _and_, pick, decide, both, le-of, of-le, eq-of, of-eq, pick-yes, pick-not}
+use Rattle.rules.specs.Tests.{_≤?_, _and_, pick}
+use Rattle.rules.proofs.Tests.{decide, both, le-of, of-le, eq-of, of-eq, pick-yes, pick-not}
 use Rattle.rules.specs.Table.{Rules, classOf, formOf}
-use Rattle.rules.specs.ContentLaw.{lawful}
+use Rattle.rules.proofs.ContentLaw.{lawful}
 use Rattle.rules.specs.Message.{body}
 use Rattle.draft.specs.Meaning.{formNumber, kindOf, formIs, spelled}
 use Rattle.draft.specs.Draft.{meaningOf, inside, parameterOf, parametersOf, used}
@@ -59,7 +60,7 @@ small-short (Carried s n) = omega arith
 
 -- without a text, they are the octets spelled
 pub small-contents : (texts : List ℕ) (v : Value) → flatOf v .form < 3 → (small v ≡ spelled (meaningOf texts v)) × (inside texts v ≡ true)
-unfolding small spellingOf spelled meaningOf flatOf inside
+unfolding small spellingOf spelled meaningOf flatOf inside formNumber
 small-contents texts (Date m d h n) l = (refl, refl)
 small-contents texts (Code x) l = (refl, refl)
 small-contents texts (State s r) l = (refl, refl)
@@ -68,7 +69,7 @@ small-contents texts (Carried s n) l = absurd (omega arith)
 
 -- with one, they are the text
 pub text-contents : (texts : List ℕ) (v : Value) → 3 ≤ flatOf v .form → take (flatOf v .length) (drop (flatOf v .start) texts) ≡ spelled (meaningOf texts v)
-unfolding spelled meaningOf flatOf
+unfolding spelled meaningOf flatOf formNumber
 text-contents texts (Date m d h n) l = absurd (omega arith)
 text-contents texts (Code x) l = absurd (omega arith)
 text-contents texts (State s r) l = absurd (omega arith)
@@ -80,32 +81,42 @@ module _ (R : Rules) where
   module _ (texts : List ℕ) (e : Entry) (o : e .kind < 256) where
     -- its kind of value is its type's: the rest decides
     module _ (f : flatOf (e .value) .form ≡ formNumber (formOf (classOf R (e .kind)))) where
-      chosen : (a b : Bool) (n : ℕ) → T a → T b → (i k : Bool) → pick i (pick k n 0) 0 ≡ pick (a and (b and (i and k))) n 0
+      chosen : (a b : Bool) (n : ℕ) → T a → T b → (i k : Bool) →
+          pick i (pick k n 0) 0 ≡ pick (a and (b and (i and k))) n 0
       unfolding pick _and_
       chosen true true n s t true k = refl
       chosen true true n s t false k = refl
       chosen true false n s t i k = absurd t
       chosen false b n s t i k = absurd s
 
-      takes-is : pick (inside texts (e .value)) (fitting (classOf R (e .kind)) (contentsOf texts e)) 0 ≡ takesOf R texts e
+      takes-is : pick (inside texts (e .value)) (fitting (classOf R (e .kind)) (contentsOf texts e)) 0 ≡
+          takesOf R texts e
       unfolding takesOf legalEntry fitting kindOf
-      takes-is = chosen _ _ _ (of-le _ _ (omega arith)) (of-eq _ _ (form-flat texts (e .value) ∙ f)) (inside texts (e .value)) _
+      takes-is =
+          chosen _ _ _ (of-le _ _ (omega arith)) (of-eq _ _ (form-flat texts (e .value) ∙ f))
+          (inside texts (e .value)) _
 
-      pub takes-number : flatOf (e .value) .form < 3 → fitting (classOf R (e .kind)) (small (e .value)) ≡ takesOf R texts e
+      pub takes-number : flatOf (e .value) .form < 3 →
+          fitting (classOf R (e .kind)) (small (e .value)) ≡ takesOf R texts e
       takes-number l =
           let s = small-contents texts (e .value) l in
           ap (fitting (classOf R (e .kind))) (s .0)
-          ∙ sym (pick-yes (inside texts (e .value)) (fitting (classOf R (e .kind)) (contentsOf texts e)) 0 (rw (s .1) tt)) ∙ takes-is
+          ∙ sym (pick-yes (inside texts (e .value)) (fitting (classOf R (e .kind)) (contentsOf texts e)) 0
+          (rw (s .1) tt)) ∙ takes-is
 
       pub takes-text :
           3 ≤ flatOf (e .value) .form →
-          pick (flatOf (e .value) .start + flatOf (e .value) .length ≤? length texts) (fitting (classOf R (e .kind)) (take (flatOf (e .value) .length) (drop (flatOf (e .value) .start) texts))) 0 ≡ takesOf R texts e
+          pick (flatOf (e .value) .start + flatOf (e .value) .length ≤? length texts)
+          (fitting (classOf R (e .kind)) (take (flatOf (e .value) .length)
+          (drop (flatOf (e .value) .start) texts))) 0 ≡ takesOf R texts e
       takes-text l =
-          ap₂ (λ (b : Bool) (v : List ℕ). pick b (fitting (classOf R (e .kind)) v) 0) (sym (inside-flat texts (e .value))) (text-contents texts (e .value) l) ∙ takes-is
+          ap₂ (λ (b : Bool) (v : List ℕ). pick b (fitting (classOf R (e .kind)) v) 0)
+          (sym (inside-flat texts (e .value))) (text-contents texts (e .value) l) ∙ takes-is
 
     pub takes-none : (flatOf (e .value) .form ≡ formNumber (formOf (classOf R (e .kind))) → ⊥) → 0 ≡ takesOf R texts e
     unfolding takesOf legalEntry kindOf
-    takes-none n = sym (pick-not _ _ _ (λ t. n (sym (form-flat texts (e .value)) ∙ eq-of _ _ (both _ _ (both _ _ t .1) .0))))
+    takes-none n =
+        sym (pick-not _ _ _ (λ t. n (sym (form-flat texts (e .value)) ∙ eq-of _ _ (both _ _ (both _ _ t .1) .0))))
 
   -- ---- legal entries have contents
   pub legal-some : (texts : List ℕ) (e : Entry) → T (legalEntry R texts e) → 1 ≤ length (contentsOf texts e)
@@ -117,41 +128,51 @@ module _ (R : Rules) where
   module _ (texts : List ℕ) (e : Entry) (r : ℕ) (q : r ≡ takesOf R texts e) where
     pub takes-bad : r ≡ 0 → T (legalEntry R texts e) → ⊥
     unfolding takesOf
-    takes-bad z t = let n = legal-some texts e t in omega (arith, pick-yes (legalEntry R texts e) (length (contentsOf texts e)) 0 t)
+    takes-bad z t =
+        let n = legal-some texts e t in
+        omega (arith, pick-yes (legalEntry R texts e) (length (contentsOf texts e)) 0 t)
 
     pub takes-good : (r ≡ 0 → ⊥) → T (legalEntry R texts e) × (r ≡ length (contentsOf texts e))
     unfolding takesOf
     takes-good n = go (decide (legalEntry R texts e))
       where
-        go : T (legalEntry R texts e) ⊎ (T (legalEntry R texts e) → ⊥) → T (legalEntry R texts e) × (r ≡ length (contentsOf texts e))
+        go : T (legalEntry R texts e) ⊎ (T (legalEntry R texts e) → ⊥) →
+            T (legalEntry R texts e) × (r ≡ length (contentsOf texts e))
         go (inl t) = (t, q ∙ pick-yes _ _ _ t)
         go (inr f) = absurd (n (q ∙ pick-not _ _ _ f))
 
   -- ---- all entries
   module _ (texts : List ℕ) where
-    measure-bad : (es : List Entry) (i size : ℕ) → legalBefore R texts es < length es → measureFrom R texts i size es ≡ Bad (i + legalBefore R texts es)
+    measure-bad : (es : List Entry) (i size : ℕ) → legalBefore R texts es < length es →
+        measureFrom R texts i size es ≡ Bad (i + legalBefore R texts es)
     unfolding measureFrom legalBefore
     measure-bad [] i size l = absurd (omega arith)
-    measure-bad (e ∷ es) i size l = go (measure-bad es (i + 1) (size + (2 + length (contentsOf texts e)))) (decide (legalEntry R texts e))
+    measure-bad (e ∷ es) i size l =
+        go (measure-bad es (i + 1) (size + (2 + length (contentsOf texts e)))) (decide (legalEntry R texts e))
       where
         n : ℕ
         n = legalBefore R texts es
 
-        go : (n < length es → measureFrom R texts (i + 1) (size + (2 + length (contentsOf texts e))) es ≡ Bad (i + 1 + n)) →
+        go : (n < length es →
+            measureFrom R texts (i + 1) (size + (2 + length (contentsOf texts e))) es ≡ Bad (i + 1 + n)) →
             T (legalEntry R texts e) ⊎ (T (legalEntry R texts e) → ⊥) →
-            pick (legalEntry R texts e) (measureFrom R texts (i + 1) (size + (2 + length (contentsOf texts e))) es) (Bad i) ≡ Bad (i + pick (legalEntry R texts e) (suc n) 0)
+            pick (legalEntry R texts e) (measureFrom R texts (i + 1) (size + (2 + length (contentsOf texts e))) es)
+            (Bad i) ≡ Bad (i + pick (legalEntry R texts e) (suc n) 0)
         go f (inl t) =
             let k = pick-yes (legalEntry R texts e) (suc n) 0 t in
             let j : i + 1 + n ≡ i + suc n = omega arith in
             pick-yes _ _ _ t ∙ f (omega (arith, k)) ∙ ap Bad j ∙ ap (λ (x : ℕ). Bad (i + x)) (sym k)
         go f (inr x) =
             let j : i ≡ i + 0 = omega arith in
-            pick-not _ _ _ x ∙ ap Bad j ∙ ap (λ (x : ℕ). Bad (i + x)) (sym (pick-not (legalEntry R texts e) (suc n) 0 x))
+            pick-not _ _ _ x ∙ ap Bad j ∙ ap (λ (x : ℕ). Bad (i + x))
+            (sym (pick-not (legalEntry R texts e) (suc n) 0 x))
 
-    measure-all : (es : List Entry) (i size : ℕ) → length es ≤ legalBefore R texts es → measureFrom R texts i size es ≡ Size (size + length (body (parametersOf texts es)))
+    measure-all : (es : List Entry) (i size : ℕ) → length es ≤ legalBefore R texts es →
+        measureFrom R texts i size es ≡ Size (size + length (body (parametersOf texts es)))
     unfolding measureFrom legalBefore parametersOf parameterOf body
     measure-all [] i size l = let j : size ≡ size + 0 = omega arith in ap Size j
-    measure-all (e ∷ es) i size l = go (measure-all es (i + 1) (size + (2 + length (contentsOf texts e)))) (decide (legalEntry R texts e))
+    measure-all (e ∷ es) i size l =
+        go (measure-all es (i + 1) (size + (2 + length (contentsOf texts e)))) (decide (legalEntry R texts e))
       where
         n : ℕ
         n = legalBefore R texts es
@@ -159,12 +180,20 @@ module _ (R : Rules) where
         b : ℕ
         b = length (body (parametersOf texts es))
 
-        go : (length es ≤ n → measureFrom R texts (i + 1) (size + (2 + length (contentsOf texts e))) es ≡ Size (size + (2 + length (contentsOf texts e)) + b)) →
+        go : (length es ≤ n →
+            measureFrom R texts (i + 1) (size + (2 + length (contentsOf texts e))) es ≡
+            Size (size + (2 + length (contentsOf texts e)) + b)) →
             T (legalEntry R texts e) ⊎ (T (legalEntry R texts e) → ⊥) →
-            pick (legalEntry R texts e) (measureFrom R texts (i + 1) (size + (2 + length (contentsOf texts e))) es) (Bad i) ≡ Size (size + length (body (parametersOf texts (e ∷ es))))
+            pick (legalEntry R texts e) (measureFrom R texts (i + 1) (size + (2 + length (contentsOf texts e))) es)
+            (Bad i) ≡ Size (size + length (body (parametersOf texts (e ∷ es))))
         go f (inl t) =
             let k = pick-yes (legalEntry R texts e) (suc n) 0 t in
-            let j : size + (2 + length (contentsOf texts e)) + b ≡ size + length (body (parametersOf texts (e ∷ es))) = omega (arith, length-append (contentsOf texts e) (body (parametersOf texts es))) in
+            let j : size + (2 + length (contentsOf texts e)) + b ≡ size + length
+            (body (parametersOf texts (e ∷ es))) = omega (
+              arith,
+              length-append (contentsOf texts e)
+                  (body (parametersOf texts es)),
+            ) in
             pick-yes _ _ _ t ∙ f (omega (arith, k)) ∙ ap Size j
         go f (inr x) = let k = pick-not (legalEntry R texts e) (suc n) 0 x in absurd (omega (arith, k))
 
@@ -174,14 +203,21 @@ onMeasure (Bad i) room = declined 12 i
 onMeasure (Size l) room = sized l room
 
 module _ (R : Rules) (d : Draft) (texts : List ℕ) (room : ℕ) (e : length (used d) ≡ d .count) where
-  went : T (suc (legalBefore R texts (used d)) ≤? d .count) ⊎ (T (suc (legalBefore R texts (used d)) ≤? d .count) → ⊥) → onMeasure (measureFrom R texts 0 0 (used d)) room ≡ measuredOf R d texts room
+  went : T (suc (legalBefore R texts (used d)) ≤? d .count)
+      ⊎ (T (suc (legalBefore R texts (used d)) ≤? d .count) → ⊥) →
+      onMeasure (measureFrom R texts 0 0 (used d)) room ≡ measuredOf R d texts room
   unfolding onMeasure measuredOf
   went (inl t) =
       let z : 0 + legalBefore R texts (used d) ≡ legalBefore R texts (used d) = omega arith in
-      ap (λ (m : Measure). onMeasure m room) (measure-bad R texts (used d) 0 0 (omega (arith, le-of _ _ t)) ∙ ap Bad z) ∙ sym (pick-yes _ _ _ t)
+      ap (λ (m : Measure). onMeasure m room)
+      (measure-bad R texts (used d) 0 0 (omega (arith, le-of _ _ t)) ∙ ap Bad z) ∙ sym (pick-yes _ _ _ t)
   went (inr f) =
-      let z : 0 + length (body (parametersOf texts (used d))) ≡ length (body (parametersOf texts (used d))) = omega arith in
-      ap (λ (m : Measure). onMeasure m room) (measure-all R texts (used d) 0 0 (subst (λ (k : ℕ). k ≤ legalBefore R texts (used d)) (sym e) (at-most _ _ f)) ∙ ap Size z) ∙ sym (pick-not _ _ _ f)
+      let z : 0 + length (body (parametersOf texts (used d))) ≡ length (body (parametersOf texts (used d))) =
+      omega arith in
+      ap (λ (m : Measure). onMeasure m room)
+      (measure-all R texts (used d) 0 0
+      (subst (λ (k : ℕ). k ≤ legalBefore R texts (used d)) (sym e) (at-most _ _ f)) ∙ ap Size z)
+      ∙ sym (pick-not _ _ _ f)
 
   pub measured-is : onMeasure (measureFrom R texts 0 0 (used d)) room ≡ measuredOf R d texts room
   measured-is = went (decide (suc (legalBefore R texts (used d)) ≤? d .count))

@@ -8,10 +8,11 @@ use native.Mathlib.Nat.{min-le-left}
 use native.Mathlib.Omega.{arith}
 use lib.ListN.{length, length-take}
 use lib.Dec.{T}
-use Rattle.rules.specs.Tests.{_≤?_, _and_, pick, every, decide, both, join, le-of, of-le, eq-of, of-eq, pick-yes, pick-not, picked-by, clash, not-zero}
+use Rattle.rules.specs.Tests.{_≤?_, _and_, pick, every}
+use Rattle.rules.proofs.Tests.{decide, both, join, le-of, of-le, eq-of, of-eq, pick-yes, pick-not, picked-by, clash, not-zero}
 use Rattle.rules.specs.Table.{Rules}
-use Rattle.rules.specs.ContentLaw.{SoundRules}
-use Rattle.rules.specs.Sizes.{three-each}
+use Rattle.rules.proofs.ContentLaw.{SoundRules}
+use Rattle.rules.proofs.Sizes.{three-each}
 use Rattle.rules.specs.Message.{messageKind, AllLegal, LegalMessage, most}
 use Rattle.draft.specs.Meaning.{formNumber}
 use Rattle.draft.proofs.Meaning.{same-form}
@@ -40,7 +41,8 @@ module _ (R : Rules) (texts : List ℕ) where
           lies = c .0;
           legal = record { octet = let h = le-of _ _ (a .0) in omega arith; fits = c .1 };
         },
-    λ m. join _ _ (of-le _ _ (let h = m .legal .octet in omega arith)) (join _ _ (of-eq _ _ (ap formNumber (m .kind))) (join _ _ (m .lies) (m .legal .fits))),
+    λ m. join _ _ (of-le _ _ (let h = m .legal .octet in omega arith))
+        (join _ _ (of-eq _ _ (ap formNumber (m .kind))) (join _ _ (m .lies) (m .legal .fits))),
   )
 
   -- ---- all entries
@@ -49,7 +51,9 @@ module _ (R : Rules) (texts : List ℕ) where
   before-all [] l = tt
   before-all (e ∷ es) l = go (before-all es) (decide (legalEntry R texts e))
     where
-      go : (length es ≤ legalBefore R texts es → T (every (legalEntry R texts) es)) → T (legalEntry R texts e) ⊎ (T (legalEntry R texts e) → ⊥) → T (legalEntry R texts e and every (legalEntry R texts) es)
+      go : (length es ≤ legalBefore R texts es → T (every (legalEntry R texts) es)) →
+          T (legalEntry R texts e) ⊎ (T (legalEntry R texts e) → ⊥) →
+          T (legalEntry R texts e and every (legalEntry R texts) es)
       go f (inl t) = join _ _ t (f (omega (arith, pick-yes (legalEntry R texts e) (suc (legalBefore R texts es)) 0 t)))
       go f (inr n) = absurd (omega (arith, pick-not (legalEntry R texts e) (suc (legalBefore R texts es)) 0 n))
 
@@ -63,7 +67,8 @@ module _ (R : Rules) (texts : List ℕ) where
   before-most [] = omega arith
   before-most (e ∷ es) = go (before-most es) (decide (legalEntry R texts e))
     where
-      go : legalBefore R texts es ≤ length es → T (legalEntry R texts e) ⊎ (T (legalEntry R texts e) → ⊥) → pick (legalEntry R texts e) (suc (legalBefore R texts es)) 0 ≤ suc (length es)
+      go : legalBefore R texts es ≤ length es → T (legalEntry R texts e) ⊎ (T (legalEntry R texts e) → ⊥) →
+          pick (legalEntry R texts e) (suc (legalBefore R texts es)) 0 ≤ suc (length es)
       go f (inl t) = omega (arith, pick-yes (legalEntry R texts e) (suc (legalBefore R texts es)) 0 t)
       go f (inr n) = omega (arith, pick-not (legalEntry R texts e) (suc (legalBefore R texts es)) 0 n)
 
@@ -120,7 +125,14 @@ module _ (R : Rules) (d : Draft) (texts : List ℕ) (room : ℕ) where
       (λ h e.
       picked-by _ _ _ _ _ e (λ _ e. clash cc)
       (λ r e. (
-        record { kind = k; some = not-zero _ s; few = at-most _ _ f; legal = at-most _ _ l; short = at-most _ _ h; fits = at-most _ _ r },
+        record {
+          kind = k;
+          some = not-zero _ s;
+          few = at-most _ _ f;
+          legal = at-most _ _ l;
+          short = at-most _ _ h;
+          fits = at-most _ _ r;
+        },
         cc,
       )))))))
       (λ _ e. clash cc)
@@ -128,7 +140,15 @@ module _ (R : Rules) (d : Draft) (texts : List ℕ) (room : ℕ) where
   module _ (w : Writable R d texts room) where
     -- every entry counted is there
     pub used-all : length (used d) ≡ d .count
-    used-all = omega (arith, w .legal, before-most R texts (used d), length-take (d .count) (d .entries), min-le-left (d .count) (length (d .entries)))
+    used-all =
+        omega (
+          arith,
+          w .legal,
+          before-most R texts (used d),
+          length-take (d .count) (d .entries),
+          min-le-left
+              (d .count) (length (d .entries)),
+        )
 
     pub all-made : T (every (legalEntry R texts) (used d))
     all-made = before-all R texts (used d) (omega (arith, used-all, w .legal))
@@ -140,6 +160,13 @@ module _ (R : Rules) (d : Draft) (texts : List ℕ) (room : ℕ) where
         record {
           kind = w .kind;
           parameters = p;
-          long = omega (arith, three-each R S (parametersOf texts (used d)) p, parameters-length texts (used d), used-all, w .some);
+          long =
+              omega (
+                arith,
+                three-each R S (parametersOf texts (used d)) p,
+                parameters-length texts (used d),
+                used-all,
+                w .some,
+              );
           short = omega (arith, w .short);
         }

@@ -1,10 +1,11 @@
 -- The root of the proofs.
-pub mod Fitting
-pub mod Measuring
+pub mod Contents
+pub mod Entries
 pub mod Calls
-pub mod Putting
+pub mod Laying
 pub mod Settled
-pub mod Writing
+pub mod Promised
+pub mod One
 pub mod Legal
 pub mod Reasons
 pub mod Judging

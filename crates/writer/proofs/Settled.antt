@@ -1,4 +1,5 @@
--- The promise of `write` settles its outcome: two that it allows are equal, the answer and what the output holds afterwards.
+-- The promise of `write` settles its outcome: two that it allows are equal, the answer and what the output holds
+-- afterwards.
 -- Assumes nothing.
 use mathlib.Core.Path.{_≡_, sym, _∙_, ap}
 use Rattle.rules.specs.Message.{octets}
@@ -7,7 +8,12 @@ use Rattle.writer.specs.Writing.{outputAfter}
 use Rattle.writer.specs.declared.Written.{Written}
 use Rattle.writer.proofs.write.Reads as write
 
-pub write-settled : (κs : _) (a : _) (r r' : _) (s s' : _) → write.Post κs a r s → write.Post κs a r' s' → (r ≡ r') × (s .1 .1 .1 .0 .now ≡ s' .1 .1 .1 .0 .now)
+pub write-settled : (κs : _) (a : _) (r r' : _) (s s' : _) → write.Post κs a r s → write.Post κs a r' s' →
+    (r ≡ r') × (s .1 .1 .1 .0 .now ≡ s' .1 .1 .1 .0 .now)
 write-settled κs a r r' s s' p q =
-    let e = p .0 ∙ sym (q .0) in
-    (e, p .1 ∙ ap (λ (w : Written). outputAfter w (octets (messageOf (a .1 .0) (a .1 .1 .0 .now))) (a .1 .1 .1 .0 .now)) e ∙ sym (q .1))
+    let e = p .0 ∙ sym (q .0) in (
+      e,
+      p .1
+          ∙ ap (λ (w : Written). outputAfter w (octets (messageOf (a .1 .0) (a .1 .1 .0 .now))) (a .1 .1 .1 .0 .now)) e
+          ∙ sym (q .1),
+    )

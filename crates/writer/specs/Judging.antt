@@ -17,7 +17,8 @@ use Rattle.writer.specs.declared.Measure.the-variants.{Bad, Size}
 
 -- the contents of a value without a text, in eight octets; of a text, none
 unfoldable pub spellingOf : Value → Spelling
-spellingOf (Date m d h n) = record { octets = tens m ∷ ones m ∷ tens d ∷ ones d ∷ tens h ∷ ones h ∷ tens n ∷ ones n ∷ []; length = 8 }
+spellingOf (Date m d h n) =
+    record { octets = tens m ∷ ones m ∷ tens d ∷ ones d ∷ tens h ∷ ones h ∷ tens n ∷ ones n ∷ []; length = 8 }
 spellingOf (Code x) = record { octets = x ∷ 0 ∷ 0 ∷ 0 ∷ 0 ∷ 0 ∷ 0 ∷ 0 ∷ []; length = 1 }
 spellingOf (State s r) = record { octets = s ∷ r / 256 ∷ r % 256 ∷ 0 ∷ 0 ∷ 0 ∷ 0 ∷ 0 ∷ []; length = 3 }
 spellingOf (Text s n) = record { octets = 0 ∷ 0 ∷ 0 ∷ 0 ∷ 0 ∷ 0 ∷ 0 ∷ 0 ∷ []; length = 0 }
@@ -38,4 +39,5 @@ takesOf R texts e = pick (legalEntry R texts e) (length (contentsOf texts e)) 0
 -- from entry i on, where those before it take `size` octets
 unfoldable pub measureFrom : Rules → List ℕ → ℕ → ℕ → List Entry → Measure
 measureFrom R texts i size [] = Size size
-measureFrom R texts i size (e ∷ es) = pick (legalEntry R texts e) (measureFrom R texts (i + 1) (size + (2 + length (contentsOf texts e))) es) (Bad i)
+measureFrom R texts i size (e ∷ es) =
+    pick (legalEntry R texts e) (measureFrom R texts (i + 1) (size + (2 + length (contentsOf texts e))) es) (Bad i)

@@ -15,13 +15,15 @@ use Rattle.writer.specs.Writing.{contentsOf}
 unfoldable pub parameterOctets : List ℕ → Entry → List ℕ
 parameterOctets texts e = e .kind ∷ length (contentsOf texts e) ∷ contentsOf texts e
 
--- what is asked before an entry's parameter is laid down: there is room for it, its length is an octet, its text lies inside
+-- what is asked before an entry's parameter is laid down: there is room for it, its length is an octet, its text lies
+-- inside
 pub record Puttable (e : Entry) (texts : List ℕ) (room : ℕ) : Type 0 where
   pub fits : length (parameterOctets texts e) ≤ room
   pub short : length (contentsOf texts e) < 256
   pub lies : T (inside texts (e .value))
 
--- what is asked before anything is laid down: up to 85 entries, all texts inside, L octets of parameters, and room for L + 3
+-- what is asked before anything is laid down: up to 85 entries, all texts inside, L octets of parameters, and room
+-- for L + 3
 pub record Layable (d : Draft) (texts : List ℕ) (room l : ℕ) : Type 0 where
   pub few : d .count ≤ most
   pub lie : T (allInside texts (used d))

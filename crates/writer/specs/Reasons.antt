@@ -1,22 +1,25 @@
--- Why the writer answers what it answers (document 01, Numbers): for each number exactly when it is given, over the rules' own legal parameters.
+-- Why the writer answers what it answers (document 01, Numbers): for each number exactly when it is given, over the
+-- rules' own legal parameters; and what the output then holds.
 -- Assumes nothing.
-use Prim.Native.Nat.{ℕ, _+_, _≤_, _<_}
+use Prim.Native.Nat.{ℕ, suc, _+_, _≤_, _<_}
 use mathlib.Core.Path.{_≡_}
 use mathlib.Core.Logic.{_⊎_, _↔_}
 use mathlib.Core.List.{List}
-use lib.ListN.{length, getD}
+use lib.ListN.{length, getD, take, drop}
 use lib.Dec.{T}
 use Rattle.rules.specs.Table.{Rules}
-use Rattle.rules.specs.Message.{body, messageKind, LegalParameter, most}
+use Rattle.rules.specs.Message.{body, octets, messageKind, LegalParameter, Accepts, most}
+use Rattle.rules.specs.declared.Fault.{Fault}
 use Rattle.draft.specs.Meaning.{formIs, kindOf}
-use Rattle.draft.specs.Draft.{noEntry, meaningOf, inside, parameterOf, parametersOf, used}
+use Rattle.draft.specs.Draft.{noEntry, meaningOf, inside, parameterOf, parametersOf, used, messageOf}
 use Rattle.draft.specs.declared.Entry.{Entry}
 use Rattle.draft.specs.declared.Draft.{Draft}
-use Rattle.writer.specs.Writing.{Answer, answerOf, declined}
+use Rattle.writer.specs.Writing.{Told, told, declined}
 use Rattle.writer.specs.declared.Written.{Written}
-use Rattle.writer.specs.declared.Written.the-variants.{Message}
+use Rattle.writer.specs.declared.Written.the-variants.{Message, Declined}
 
--- an entry makes a legal parameter: its kind of value is its type's, its text lies inside the area, and the parameter it stands for is legal
+-- an entry makes a legal parameter: its kind of value is its type's, its text lies inside the area, and the parameter
+-- it stands for is legal
 pub record Makes (R : Rules) (texts : List ℕ) (e : Entry) : Type 0 where
   pub kind : formIs (meaningOf texts (e .value)) ≡ kindOf R (e .kind)
   pub lies : T (inside texts (e .value))
@@ -50,34 +53,53 @@ pub record Asked (d : Draft) : Type 0 where
 pub data Went (R : Rules) (d : Draft) (texts : List ℕ) (room : ℕ) : Written → Type 0 where
   kind-is-none : (T (messageKind (d .kind)) → ⊥) → Went R d texts room (declined 11 0)
   no-entries : T (messageKind (d .kind)) → d .count ≡ 0 → Went R d texts room (declined 14 0)
-  many-entries : T (messageKind (d .kind)) → 86 ≤ d .count → Went R d texts room (declined 13 0)
+  many-entries : T (messageKind (d .kind)) → suc most ≤ d .count → Went R d texts room (declined 13 0)
   bad-entry : (i : ℕ) → Asked d → FirstBad R d texts i → Went R d texts room (declined 12 i)
   too-long : Asked d → AllMake R d texts → 256 ≤ lengthOf d texts → Went R d texts room (declined 13 0)
-  too-tight : Asked d → AllMake R d texts → lengthOf d texts ≤ 255 → room < lengthOf d texts + 3 → Went R d texts room (declined 15 (lengthOf d texts + 3))
-  fits : Asked d → AllMake R d texts → lengthOf d texts ≤ 255 → lengthOf d texts + 3 ≤ room → Went R d texts room (Message (lengthOf d texts + 3))
+  too-tight : Asked d → AllMake R d texts → lengthOf d texts ≤ 255 → room < lengthOf d texts + 3 →
+      Went R d texts room (declined 15 (lengthOf d texts + 3))
+  fits : Asked d → AllMake R d texts → lengthOf d texts ≤ 255 → lengthOf d texts + 3 ≤ room →
+      Went R d texts room (Message (lengthOf d texts + 3))
 
 -- ---- number by number
 -- the answer of a refusal with number k at p
-abbrev pub refusal : ℕ → ℕ → Answer
+abbrev pub refusal : ℕ → ℕ → Told
 refusal k p = record { number = k; place = p; size = 0 }
 
 -- the answer of a message of n octets
-abbrev pub success : ℕ → Answer
+abbrev pub success : ℕ → Told
 success n = record { number = 0; place = 0; size = n }
 
 -- w is what the writer answers to a draft with its text area, where the output has so many octets
 pub record Answers (R : Rules) (d : Draft) (texts : List ℕ) (room : ℕ) (w : Written) : Type 0 where
   -- 11 exactly where the message type is neither 80H nor 82H
-  pub eleven : (p : ℕ) → (answerOf w ≡ refusal 11 p) ↔ ((p ≡ 0) × (T (messageKind (d .kind)) → ⊥))
+  pub eleven : (p : ℕ) → (told w ≡ refusal 11 p) ↔ ((p ≡ 0) × (T (messageKind (d .kind)) → ⊥))
   -- then 14 exactly where there are no entries
-  pub fourteen : (p : ℕ) → (answerOf w ≡ refusal 14 p) ↔ ((p ≡ 0) × (T (messageKind (d .kind)) × (d .count ≡ 0)))
+  pub fourteen : (p : ℕ) → (told w ≡ refusal 14 p) ↔ ((p ≡ 0) × (T (messageKind (d .kind)) × (d .count ≡ 0)))
   -- with 1 to 85 entries, 12 exactly at the first that makes no legal parameter
-  pub twelve : (i : ℕ) → Asked d → (answerOf w ≡ refusal 12 i) ↔ FirstBad R d texts i
+  pub twelve : (i : ℕ) → Asked d → (told w ≡ refusal 12 i) ↔ FirstBad R d texts i
   -- 13 for more than 85 entries, before any is looked at, and for more than 255 octets, when all make legal parameters
-  pub thirteen : (p : ℕ) → (answerOf w ≡ refusal 13 p) ↔ ((p ≡ 0) × ((T (messageKind (d .kind)) × (86 ≤ d .count)) ⊎ (Asked d × (AllMake R d texts × (256 ≤ lengthOf d texts)))))
+  pub thirteen : (p : ℕ) → (told w ≡ refusal 13 p) ↔ ((p ≡ 0) × ((T (messageKind (d .kind)) × (suc most ≤ d .count)) ⊎ (Asked d × (AllMake R d texts × (256 ≤ lengthOf d texts)))))
   -- 15 at L + 3 exactly where only the output is too short
-  pub fifteen : (p : ℕ) → (answerOf w ≡ refusal 15 p) ↔ ((p ≡ lengthOf d texts + 3) × (Asked d × (AllMake R d texts × ((lengthOf d texts ≤ 255) × (room < lengthOf d texts + 3)))))
+  pub fifteen : (p : ℕ) → (told w ≡ refusal 15 p) ↔ ((p ≡ lengthOf d texts + 3) × (Asked d × (AllMake R d texts × ((lengthOf d texts ≤ 255) × (room < lengthOf d texts + 3)))))
   -- a legal draft with room is always written, and no other
-  pub message : (n : ℕ) → (answerOf w ≡ success n) ↔ ((n ≡ lengthOf d texts + 3) × (Asked d × (AllMake R d texts × ((lengthOf d texts ≤ 255) × (lengthOf d texts + 3 ≤ room)))))
+  pub message : (n : ℕ) → (told w ≡ success n) ↔ ((n ≡ lengthOf d texts + 3) × (Asked d × (AllMake R d texts × ((lengthOf d texts ≤ 255) × (lengthOf d texts + 3 ≤ room)))))
   -- and no other number
-  pub numbers : 1 ≤ answerOf w .number → (11 ≤ answerOf w .number) × (answerOf w .number ≤ 15)
+  pub numbers : 1 ≤ told w .number → (11 ≤ told w .number) × (told w .number ≤ 15)
+
+-- ---- and what is written
+-- what a message of n octets in the output is
+pub record LaidMessage (R : Rules) (d : Draft) (texts old new : List ℕ) (n : ℕ) : Type 0 where
+  -- the first n octets are those of the message that the draft stands for
+  pub begins : take n new ≡ octets (messageOf d texts)
+  -- they are accepted
+  pub accepted : Accepts R (take n new)
+  -- the octets after them stay
+  pub stays : drop n new ≡ drop n old
+
+-- a draft with its text area and an output that held `old` went in, w came back, and the output then holds `new`
+pub record Writes (R : Rules) (d : Draft) (texts old : List ℕ) (w : Written) (new : List ℕ) : Type 0 where
+  pub answers : Answers R d texts (length old) w
+  -- a message lies at the output's beginning, and a refusal leaves the output
+  pub lays : (n : ℕ) → w ≡ Message n → LaidMessage R d texts old new n
+  pub keeps : (f : Fault) → w ≡ Declined f → new ≡ old

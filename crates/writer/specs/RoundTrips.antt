@@ -1,5 +1,5 @@
--- Round trips: the draft of a legal message is written as exactly its octets; the draft of the message that a draft was written as is equal to it; and
--- equal drafts get the same answer.
+-- Round trips: the draft of a legal message is written as exactly its octets; the draft of the message that a draft
+-- was written as is equal to it; and equal drafts get the same answer.
 -- Assumes nothing.
 use Prim.Native.Nat.{ℕ, _≤_}
 use mathlib.Core.Path.{_≡_}
@@ -16,11 +16,15 @@ use Rattle.writer.specs.declared.Written.the-variants.{Message}
 
 -- the trips under some rules
 pub record RoundTrips (R : Rules) : Type 0 where
-  -- the draft of a legal message, over an area that begins with its texts, is written where there is room, and stands for exactly that message
-  pub message-written : (m : message.Message) (rest : List ℕ) → LegalMessage R m → (room : ℕ) → length (octets m) ≤ room →
-      (writeOf R (draftOf R m) (textsOf R (m .parameters) ++ rest) room ≡ Message (length (octets m))) × (messageOf (draftOf R m) (textsOf R (m .parameters) ++ rest) ≡ m)
+  -- the draft of a legal message, over an area that begins with its texts, is written where there is room, and stands
+  -- for exactly that message
+  pub message-written : (m : message.Message) (rest : List ℕ) → LegalMessage R m → (room : ℕ) →
+      length (octets m) ≤ room →
+      (writeOf R (draftOf R m) (textsOf R (m .parameters) ++ rest) room ≡ Message (length (octets m)))
+      × (messageOf (draftOf R m) (textsOf R (m .parameters) ++ rest) ≡ m)
   -- a draft that is written is equal to the draft of its message, over an area that begins with the message's texts
   pub draft-again : (d : Draft) (texts : List ℕ) (room n : ℕ) → writeOf R d texts room ≡ Message n → (rest : List ℕ) →
       Equal d texts (draftOf R (messageOf d texts)) (textsOf R (messageOf d texts .parameters) ++ rest)
   -- equal drafts get the same answer
-  pub equal-answer : (a : Draft) (s : List ℕ) (b : Draft) (t : List ℕ) (room : ℕ) → Equal a s b t → writeOf R a s room ≡ writeOf R b t room
+  pub equal-answer : (a : Draft) (s : List ℕ) (b : Draft) (t : List ℕ) (room : ℕ) → Equal a s b t →
+      writeOf R a s room ≡ writeOf R b t room

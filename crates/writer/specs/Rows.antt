@@ -1,6 +1,7 @@
--- Rows of the writer, computed, as one claim: document 01's own messages written from their drafts, and both sides of the limits at which it refuses.
+-- Rows of the writer, computed, as one claim: document 01's own messages written from their drafts, and both sides of
+-- the limits at which it refuses.
 -- Assumes nothing.
-use Prim.Native.Nat.{ℕ, _-_}
+use Prim.Native.Nat.{ℕ, suc, _-_}
 use mathlib.Core.Path.{_≡_, refl}
 use mathlib.Core.List.{List, [], _∷_, _++_}
 use lib.ListN.{length, replicate}
@@ -16,7 +17,7 @@ use Rattle.draft.specs.declared.Value.{Value}
 use Rattle.draft.specs.declared.Value.the-variants.{Date, Code, State, Text, Carried}
 use Rattle.draft.specs.declared.Entry.{Entry}
 use Rattle.draft.specs.declared.Draft.{Draft}
-use Rattle.writer.specs.Writing.{Answer, answerOf, legalEntry, legalBefore, sized, measuredOf, writeOf}
+use Rattle.writer.specs.Writing.{Told, told, legalEntry, legalBefore, sized, measuredOf, writeOf}
 use Rattle.writer.specs.Reasons.{refusal, success}
 
 -- an entry
@@ -32,19 +33,19 @@ pub record Row : Type 0 where
   pub draft : Draft
   pub texts : List ℕ
   pub room : ℕ
-  pub answer : Answer
+  pub answer : Told
 
 -- the same, written in a line
-abbrev pub row : Draft → List ℕ → ℕ → Answer → Row
+abbrev pub row : Draft → List ℕ → ℕ → Told → Row
 row d t n a = record { draft = d; texts = t; room = n; answer = a }
 
 -- what the writer answers in each row
-unfoldable pub answered : List Row → List Answer
-answered [] = []
-answered (r ∷ rs) = answerOf (writeOf (rulesOf PresentLenient) (r .draft) (r .texts) (r .room)) ∷ answered rs
+unfoldable pub rowsTold : List Row → List Told
+rowsTold [] = []
+rowsTold (r ∷ rs) = told (writeOf (rulesOf PresentLenient) (r .draft) (r .texts) (r .room)) ∷ rowsTold rs
 
 -- what each row says
-unfoldable pub expected : List Row → List Answer
+unfoldable pub expected : List Row → List Told
 expected [] = []
 expected (r ∷ rs) = r .answer ∷ expected rs
 
@@ -97,8 +98,8 @@ abbrev pub Claim : Type 0
 Claim =
     (octets (messageOf lamp []) ≡ 0x82 ∷ 0x03 ∷ 0x0B ∷ 0x01 ∷ 0xFF ∷ 0x70 ∷ [])
     × ((octets (messageOf (caller 0 5) area) ≡ 0x80 ∷ 0x11 ∷ 0x01 ∷ 0x08 ∷ 0x30 ∷ 0x36 ∷ 0x31 ∷ 0x35 ∷ 0x31 ∷ 0x34 ∷ 0x33 ∷ 0x30 ∷ 0x02 ∷ 0x05 ∷ 0x34 ∷ 0x30 ∷ 0x39 ∷ 0x31 ∷ 0x32 ∷ 0xCB ∷ [])
-    × (answered writerRows ≡ expected writerRows))
+    × (rowsTold writerRows ≡ expected writerRows))
 
 pub writer-rows : Claim
-unfolding answered expected answerOf writeOf measuredOf sized legalBefore legalEntry body octets messageOf parametersOf parameterOf spelled meaningOf inside formIs formNumber kindOf formOf classOf rowOf rowIn rulesOf whole pairsFit columnsFit allIn pairFits digit inSet within messageKind tens ones total checksum pick _and_ _or_ _≤?_ _=?_
+unfolding rowsTold expected told writeOf measuredOf sized legalBefore legalEntry body octets messageOf parametersOf parameterOf spelled meaningOf inside formIs formNumber kindOf formOf classOf rowOf rowIn rulesOf whole pairsFit columnsFit allIn pairFits digit inSet within messageKind tens ones total checksum pick _and_ _or_ _≤?_ _=?_
 writer-rows = (refl, (refl, refl))

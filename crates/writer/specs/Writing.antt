@@ -6,7 +6,7 @@ use mathlib.Core.List.{List, [], _∷_}
 use lib.ListN.{length}
 use Rattle.rules.specs.Tests.{_≤?_, _=?_, _and_, pick}
 use Rattle.rules.specs.Table.{Rules, contentsFit, classOf}
-use Rattle.rules.specs.Message.{body, messageKind}
+use Rattle.rules.specs.Message.{body, messageKind, most}
 use Rattle.draft.specs.Meaning.{formNumber, kindOf, formIs, spelled}
 use Rattle.draft.specs.Draft.{meaningOf, inside, parametersOf, used}
 use Rattle.rules.specs.Laying.{laid}
@@ -16,16 +16,16 @@ use Rattle.draft.specs.declared.Draft.{Draft}
 use Rattle.writer.specs.declared.Written.{Written}
 use Rattle.writer.specs.declared.Written.the-variants.{Message, Declined}
 
--- ---- an answer in document 01's words: the number and place of a refusal, the size of a message
-pub record Answer : Type 0 where
+-- ---- what an answer tells (document 01, The forms we expect: a definition provides number and values for each case)
+-- the number and place of a refusal, the size of a message; 0 where there is none
+pub record Told : Type 0 where
   pub number : ℕ
   pub place : ℕ
   pub size : ℕ
 
--- the number, place and size of each answer, 0 where it has none
-unfoldable pub answerOf : Written → Answer
-answerOf (Message n) = record { number = 0; place = 0; size = n }
-answerOf (Declined f) = record { number = f .number; place = f .place; size = 0 }
+unfoldable pub told : Written → Told
+told (Message n) = record { number = 0; place = 0; size = n }
+told (Declined f) = record { number = f .number; place = f .place; size = 0 }
 
 -- a refusal with a number at a place
 abbrev pub declined : ℕ → ℕ → Written
@@ -36,7 +36,8 @@ declined k p = Declined (noted k p)
 abbrev pub contentsOf : List ℕ → Entry → List ℕ
 contentsOf texts e = spelled (meaningOf texts (e .value))
 
--- an entry makes a legal parameter: its type is an octet, its kind of value is its type's, its text lies inside the area, its contents fit
+-- an entry makes a legal parameter: its type is an octet, its kind of value is its type's, its text lies inside the
+-- area, its contents fit
 unfoldable pub legalEntry : Rules → List ℕ → Entry → Bool
 legalEntry R texts e =
     e .kind ≤? 255
@@ -64,7 +65,7 @@ measuredOf R d texts room =
 unfoldable pub writeOf : Rules → Draft → List ℕ → ℕ → Written
 writeOf R d texts room =
     pick (messageKind (d .kind))
-    (pick (d .count =? 0) (declined 14 0) (pick (86 ≤? d .count) (declined 13 0) (measuredOf R d texts room)))
+    (pick (d .count =? 0) (declined 14 0) (pick (suc most ≤? d .count) (declined 13 0) (measuredOf R d texts room)))
     (declined 11 0)
 
 -- ---- the output: the message's octets over its beginning, or as it was

@@ -3,7 +3,7 @@
 use mathlib.Core.Path.{refl, sym, _∙_}
 use native.Mathlib.Omega.{arith}
 use Rattle.caption.specs.Caption.{byCaller}
-use Rattle.message.specs.Places.{counted-inside}
+use Rattle.message.proofs.Places.{counted-inside}
 use borrow.Author.Needs.{needs}
 use Rattle.caption.proofs.by_caller.Statement.{statement}
 use Rattle.caption.proofs.by_caller.Tie as tie

@@ -4,16 +4,16 @@ use Prim.Native.Nat.{_-_}
 use mathlib.Core.Path.{_≡_, refl, sym, _∙_}
 use native.Mathlib.Omega.{arith}
 use lib.ListN.{length, drop}
-use Rattle.rules.specs.Returns.{pick-t, pick-f}
+use Rattle.rules.proofs.Returns.{pick-t, pick-f}
 use Rattle.caption.specs.Lines.{linesOf}
-use Rattle.caption.specs.Caption.{entryFrom, entryOf}
+use Rattle.caption.specs.Caption.{lookupFrom, lookup}
 use Rattle.caption.proofs.Cutting.{entry-end}
 use borrow.Author.Needs.{needs}
 use Rattle.caption.proofs.entry_for.Statement.{statement}
 use Rattle.caption.proofs.entry_for.Tie as tie
 
 abbrev Inv-loop : tie.InvT-loop
-Inv-loop caller directory at₀ at = entryFrom caller at (linesOf (drop at directory)) ≡ entryOf caller directory
+Inv-loop caller directory at₀ at = lookupFrom caller at (linesOf (drop at directory)) ≡ lookup caller directory
 
 abbrev μ-loop : tie.MeasureT-loop
 μ-loop caller directory at₀ at = length directory - at

@@ -3,7 +3,7 @@
 use mathlib.Core.Path.{refl, sym}
 use native.Mathlib.Omega.{arith}
 use lib.Seq.{length-take-le}
-use Rattle.rules.specs.Returns.{and-t, and-f, yes-le, no-le}
+use Rattle.rules.proofs.Returns.{and-t, and-f, yes-le, no-le}
 use Rattle.caption.specs.Lines.{before, names}
 use borrow.Author.Needs.{needs}
 use Rattle.caption.proofs.is_for.Statement.{statement}

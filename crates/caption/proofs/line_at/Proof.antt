@@ -2,7 +2,7 @@
 -- Assumes nothing.
 use mathlib.Core.Path.{sym}
 use lib.Seq.{length-take-le}
-use Rattle.rules.specs.Laying.{rest-whole}
+use Rattle.rules.proofs.Laying.{rest-whole}
 use Rattle.caption.proofs.Cutting.{index-most, cuts}
 use borrow.Author.Needs.{needs}
 use Rattle.caption.proofs.line_at.Statement.{statement}
@@ -28,8 +28,10 @@ is-for-requires c κs = search needs
 
 returns : tie.Need-returns
 returns c =
-    let a = c .before .before .before .before .before .before .args in
-    cuts _ (a .directory .now) (a .at) (c .before .before .before .before .before .before .pre) _ (rest-whole (a .at) (a .directory .now)) _ (c .before .before .index-of .ensures) (c .is-for .ensures)
+    let start = c .before .before .before .before .before .before in
+    let a = start .args in
+    cuts _ (a .directory .now) (a .at) (start .pre) _ (rest-whole (a .at) (a .directory .now)) _
+    (c .before .before .index-of .ensures) (c .is-for .ensures)
 
 pub line-at-spec : {M : Type 1} → statement M
 line-at-spec =

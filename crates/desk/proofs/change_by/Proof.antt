@@ -1,8 +1,8 @@
 -- `desk::change_by` meets its contract: by the state's octet.
 -- Assumes nothing.
 use mathlib.Core.Path.{refl}
-use Rattle.rules.specs.Returns.{pick-t, pick-f, yes-eq, no-eq}
-use Rattle.desk.specs.Open.{changeBy}
+use Rattle.rules.proofs.Returns.{pick-t, pick-f, yes-eq, no-eq}
+use Rattle.desk.specs.References.{changeBy}
 use borrow.Author.Needs.{needs}
 use Rattle.desk.proofs.change_by.Statement.{statement}
 use Rattle.desk.proofs.change_by.Tie as tie

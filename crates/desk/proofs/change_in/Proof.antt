@@ -1,7 +1,7 @@
 -- `desk::change_in` meets its contract: by the three octets.
 -- Assumes nothing.
 use mathlib.Core.Path.{_∙_}
-use Rattle.desk.specs.Open.{changeBy}
+use Rattle.desk.specs.References.{changeBy}
 use Rattle.desk.specs.Settle.{changeIn}
 use borrow.Author.Needs.{needs}
 use Rattle.desk.proofs.change_in.Statement.{statement}

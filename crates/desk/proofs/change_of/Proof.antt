@@ -2,7 +2,7 @@
 -- Assumes nothing.
 use mathlib.Core.Path.{refl, sym, _∙_}
 use native.Mathlib.Omega.{arith}
-use Rattle.message.specs.Places.{counted-inside}
+use Rattle.message.proofs.Places.{counted-inside}
 use Rattle.desk.specs.Settle.{changeOf}
 use Rattle.desk.proofs.Counted.{counts-none, counts-slice}
 use borrow.Author.Needs.{needs}

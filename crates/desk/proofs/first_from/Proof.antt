@@ -5,14 +5,14 @@ use mathlib.Core.Path.{_≡_, refl, sym, _∙_}
 use Prim.Native.Nat.{_+_, _-_, _≤_}
 use native.Mathlib.Omega.{arith}
 use lib.ListN.{length, drop}
-use Rattle.desk.specs.Open.{placeCount, firstOf}
+use Rattle.desk.specs.References.{placeCount, placeWith}
 use Rattle.desk.proofs.Holding.{first-here, first-next, first-end}
 use borrow.Author.Needs.{needs}
 use Rattle.desk.proofs.first_from.Statement.{statement}
 use Rattle.desk.proofs.first_from.Tie as tie
 
 abbrev Inv-loop : tie.InvT-loop
-Inv-loop from sought places i₀ i = (i ≤ placeCount) × (i + firstOf sought (drop i places) ≡ from + firstOf sought (drop from places))
+Inv-loop from sought places i₀ i = (i ≤ placeCount) × (i + placeWith sought (drop i places) ≡ from + placeWith sought (drop from places))
 
 abbrev μ-loop : tie.MeasureT-loop
 μ-loop from sought places i₀ i = placeCount - i

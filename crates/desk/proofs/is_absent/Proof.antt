@@ -6,7 +6,7 @@ use native.Mathlib.Omega.{arith}
 use lib.ListN.{length}
 use lib.Dec.{eqb}
 use Rattle.desk.proofs.Holding.{absent-from}
-use Rattle.desk.specs.Open.{placeCount}
+use Rattle.desk.specs.References.{placeCount}
 use borrow.Author.Needs.{needs}
 use Rattle.desk.proofs.is_absent.Statement.{statement}
 use Rattle.desk.proofs.is_absent.Tie as tie

@@ -2,8 +2,8 @@
 -- Assumes nothing.
 use mathlib.Core.Path.{refl, ap, _∙_}
 use Prim.Native.Nat.{ℕ}
-use Rattle.rules.specs.Returns.{and-t, and-f, via}
-use Rattle.desk.specs.Open.{absent, isFull}
+use Rattle.rules.proofs.Returns.{and-t, and-f, via}
+use Rattle.desk.specs.References.{absent, isFull}
 use borrow.Author.Needs.{needs}
 use Rattle.desk.proofs.is_full.Statement.{statement}
 use Rattle.desk.proofs.is_full.Tie as tie
@@ -33,14 +33,20 @@ returns c = rw (c .enum-told .given .1) refl
 returns-2 : tie.Need-returns-2
 unfolding isFull
 returns-2 c =
-    rw (c .before .before .before .before .before .change .given .1)
-    (and-t _ _ _ (via _ _ _ (c .before .before .is-absent .ensures ∙ ap (λ (p : ℕ). absent p (c .before .before .before .before .before .before .before .args .places)) (c .before .before .before .held .ensures)) (c .before .if1 .taken)) (c .is-absent2 .ensures))
+    let after-change = c .before .before .before .before .before in
+    let start = after-change .before .before in
+    rw (after-change .change .given .1)
+    (and-t _ _ _ (via _ _ _ (c .before .before .is-absent .ensures ∙ ap (λ (p : ℕ). absent p (start .args .places))
+    (c .before .before .before .held .ensures)) (c .before .if1 .taken)) (c .is-absent2 .ensures))
 
 returns-3 : tie.Need-returns-3
 unfolding isFull
 returns-3 c =
-    rw (c .before .before .before .before .change .given .1)
-    (and-f _ _ _ (via _ _ _ (c .before .is-absent .ensures ∙ ap (λ (p : ℕ). absent p (c .before .before .before .before .before .before .args .places)) (c .before .before .held .ensures)) (c .if1 .left)) refl)
+    let after-change = c .before .before .before .before in
+    let start = after-change .before .before in
+    rw (after-change .change .given .1)
+    (and-f _ _ _ (via _ _ _ (c .before .is-absent .ensures ∙ ap (λ (p : ℕ). absent p (start .args .places))
+    (c .before .before .held .ensures)) (c .if1 .left)) refl)
 
 returns-4 : tie.Need-returns-4
 unfolding isFull

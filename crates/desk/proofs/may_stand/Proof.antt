@@ -5,8 +5,8 @@ use Prim.Native.Nat.{ℕ}
 use native.Mathlib.Omega.{arith}
 use lib.ListN.{length}
 use lib.Dec.{eqb}
-use Rattle.rules.specs.Returns.{pick-t, pick-f, and-t, and-f, yes-eq, no-eq, yes-le, no-le}
-use Rattle.desk.specs.Open.{placeCount, mayStand}
+use Rattle.rules.proofs.Returns.{pick-t, pick-f, and-t, and-f, yes-eq, no-eq, yes-le, no-le}
+use Rattle.desk.specs.References.{placeCount, mayStand}
 use Rattle.desk.proofs.Holding.{absent-behind}
 use borrow.Author.Needs.{needs}
 use Rattle.desk.proofs.may_stand.Statement.{statement}

@@ -4,8 +4,8 @@ use mathlib.Core.Path.{refl, ap, _∙_}
 use Prim.Native.Nat.{ℕ}
 use native.Mathlib.Nat.{zero-add}
 use lib.ListN.{set}
-use Rattle.rules.specs.Returns.{pick-t, pick-f, via}
-use Rattle.desk.specs.Open.{absent, free, firstOf, placesAfter}
+use Rattle.rules.proofs.Returns.{pick-t, pick-f, via}
+use Rattle.desk.specs.References.{absent, free, placeWith, placesAfter}
 use borrow.Author.Needs.{needs}
 use Rattle.desk.proofs.places_after.Statement.{statement}
 use Rattle.desk.proofs.places_after.Tie as tie
@@ -47,24 +47,34 @@ returns c = rw (c .enum-told .given .1) refl
 returns-2 : tie.Need-returns-2
 unfolding placesAfter
 returns-2 c =
-    let places = c .before .before .before .before .before .before .before .before .args .places in
-    let is-held = c .before .before .before .before .held .ensures in
-    rw (c .before .before .before .before .before .before .change .given .1)
-    (pick-t _ _ _ _ (via _ _ _ (c .before .before .before .is-absent .ensures ∙ ap (λ (p : ℕ). absent p places) is-held) (c .before .before .if1 .taken))
-    (c .put .ensures ∙ (λ i. set places ((c .before .first-from .ensures ∙ zero-add (firstOf free places)) i) (is-held i))))
+    let after-held = c .before .before .before .before in
+    let start = after-held .before .before .before .before in
+    let places = start .args .places in
+    let is-held = after-held .held .ensures in
+    rw (after-held .before .before .change .given .1)
+    (pick-t _ _ _ _ (via _ _ _ (c .before .before .before .is-absent .ensures ∙ ap (λ (p : ℕ). absent p places)
+    is-held) (c .before .before .if1 .taken))
+    (c .put .ensures ∙ (λ i. set places ((c .before .first-from .ensures ∙ zero-add (placeWith free places)) i)
+    (is-held i))))
 
 returns-3 : tie.Need-returns-3
 unfolding placesAfter
 returns-3 c =
-    rw (c .before .before .before .before .change .given .1)
-    (pick-f _ _ _ _ (via _ _ _ (c .before .is-absent .ensures ∙ ap (λ (p : ℕ). absent p (c .before .before .before .before .before .before .args .places)) (c .before .before .held .ensures)) (c .if1 .left)) refl)
+    let after-change = c .before .before .before .before in
+    let start = after-change .before .before in
+    rw (after-change .change .given .1)
+    (pick-f _ _ _ _ (via _ _ _ (c .before .is-absent .ensures ∙ ap (λ (p : ℕ). absent p (start .args .places))
+    (c .before .before .held .ensures)) (c .if1 .left)) refl)
 
 returns-4 : tie.Need-returns-4
 unfolding placesAfter
 returns-4 c =
-    let places = c .before .before .before .before .before .before .args .places in
-    rw (c .before .before .before .before .change2 .given .1)
-    (c .put2 .ensures ∙ (λ i. set places ((c .before .first-from2 .ensures ∙ zero-add (firstOf _ places) ∙ ap (λ (p : ℕ). firstOf p places) (c .before .before .held2 .ensures)) i) free))
+    let after-change2 = c .before .before .before .before in
+    let start = after-change2 .before .before in
+    let places = start .args .places in
+    rw (after-change2 .change2 .given .1)
+    (c .put2 .ensures ∙ (λ i. set places ((c .before .first-from2 .ensures ∙ zero-add (placeWith _ places)
+    ∙ ap (λ (p : ℕ). placeWith p places) (c .before .before .held2 .ensures)) i) free))
 
 pub places-after-spec : {M : Type 1} → statement M
 places-after-spec =

@@ -4,8 +4,8 @@ use mathlib.Core.Path.{_≡_, refl}
 use Prim.Native.Nat.{_-_, _≤_}
 use native.Mathlib.Omega.{arith}
 use lib.ListN.{length, drop}
-use Rattle.rules.specs.Returns.{via}
-use Rattle.desk.specs.Open.{placeCount, placesFit}
+use Rattle.rules.proofs.Returns.{via}
+use Rattle.desk.specs.References.{placeCount, placesFit}
 use Rattle.desk.proofs.Holding.{fit-more, fit-fails, fit-all}
 use borrow.Author.Needs.{needs}
 use Rattle.desk.proofs.places_fit.Statement.{statement}

@@ -4,7 +4,7 @@ use mathlib.Core.Path.{_≡_, sym}
 use native.Mathlib.Omega.{arith}
 use lib.ListN.{length}
 use lib.Seq.{set-out}
-use Rattle.desk.specs.Open.{placeCount}
+use Rattle.desk.specs.References.{placeCount}
 use borrow.Author.Needs.{needs}
 use Rattle.desk.proofs.put.Statement.{statement}
 use Rattle.desk.proofs.put.Tie as tie

@@ -2,9 +2,9 @@
 -- Assumes nothing.
 use mathlib.Core.Path.{refl, sym, _∙_}
 use native.Mathlib.Omega.{arith}
-use Rattle.rules.specs.Octets.{octets-at}
-use Rattle.rules.specs.Returns.{pick-t, pick-f, via}
-use Rattle.message.specs.Judges.{judges-of}
+use Rattle.rules.proofs.Octets.{octets-at}
+use Rattle.rules.proofs.Returns.{pick-t, pick-f, via}
+use Rattle.message.proofs.Judges.{judges-of}
 use Rattle.desk.specs.Settle.{settledUnder, settleOf}
 use borrow.Author.Needs.{needs}
 use Rattle.desk.proofs.settle.Statement.{statement}
@@ -21,8 +21,11 @@ enum-known-verdict c = search needs
 
 settle-message-requires : tie.Need-settle-message-requires
 settle-message-requires c κs =
-    let o = octets-at (c .before .before .before .before .before .before .before .before .args .octets .now) (λ i. omega (arith, c .before .before .before .before .before .before .before .shared-slice-known .given i)) in
-    judges-of (c .before .before .before .before .before .before .before .before .args .book) _ o .accepted _ .0 (sym (c .before .before .before .judge .ensures) ∙ c .before .verdict .given .1) .1
+    let read = c .before .before .before .before .before .before .before in
+    let start = read .before in
+    let o = octets-at (start .args .octets .now) (λ i. omega (arith, read .shared-slice-known .given i)) in
+    judges-of (start .args .book) _ o .accepted _ .0
+    (sym (c .before .before .before .judge .ensures) ∙ c .before .verdict .given .1) .1
 
 enum-known-verdict-2 : tie.Need-enum-known-verdict-2
 enum-known-verdict-2 c = search needs
@@ -33,13 +36,15 @@ refused-with-requires c κs = search needs
 returns : tie.Need-returns
 unfolding settleOf settledUnder
 returns c =
-    pick-t _ _ _ _ (via _ _ _ (c .before .before .before .before .before .before .places-fit .ensures) (c .before .before .before .before .before .if1 .taken))
-    (rw (sym (c .before .before .before .before .judge .ensures) ∙ c .before .before .verdict .given .1) (c .settle-message .ensures))
+    let after-judge = c .before .before .before .before in
+    pick-t _ _ _ _ (via _ _ _ (after-judge .before .before .places-fit .ensures) (after-judge .before .if1 .taken))
+    (rw (sym (after-judge .judge .ensures) ∙ c .before .before .verdict .given .1) (c .settle-message .ensures))
 
 returns-2 : tie.Need-returns-2
 unfolding settleOf settledUnder
 returns-2 c =
-    pick-t _ _ _ _ (via _ _ _ (c .before .before .before .before .before .places-fit .ensures) (c .before .before .before .before .if1 .taken))
+    let branch = c .before .before .before .before in
+    pick-t _ _ _ _ (via _ _ _ (branch .before .places-fit .ensures) (branch .if1 .taken))
     (rw (sym (c .before .before .before .judge .ensures) ∙ c .before .verdict2 .given .1) refl)
 
 returns-3 : tie.Need-returns-3

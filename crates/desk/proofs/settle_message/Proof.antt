@@ -2,8 +2,8 @@
 -- Assumes nothing.
 use mathlib.Core.Path.{refl}
 use native.Mathlib.Omega.{arith}
-use Rattle.rules.specs.Calls.{accepted-size}
-use Rattle.rules.specs.Returns.{pick-t, pick-f, yes-eq, no-eq}
+use Rattle.rules.proofs.Grammar.{accepted-size}
+use Rattle.rules.proofs.Returns.{pick-t, pick-f, yes-eq, no-eq}
 use Rattle.desk.specs.Settle.{settledMessage}
 use borrow.Author.Needs.{needs}
 use Rattle.desk.proofs.settle_message.Statement.{statement}

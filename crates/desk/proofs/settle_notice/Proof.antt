@@ -3,13 +3,13 @@
 use mathlib.Core.Path.{_≡_, ap, _∙_}
 use Prim.Native.Nat.{ℕ}
 use mathlib.Core.List.{List}
-use Rattle.rules.specs.Returns.{pick-t, pick-f, via}
+use Rattle.rules.proofs.Returns.{pick-t, pick-f, via}
 use Rattle.desk.specs.declared.Waiting.{Waiting}
 use Rattle.desk.specs.declared.Lamp.{Lamp}
 use Rattle.desk.specs.declared.Change.{Change}
 use Rattle.desk.specs.declared.Answer.the-variants.{Done}
 use Rattle.desk.specs.declared.Outcome.{Outcome}
-use Rattle.desk.specs.Open.{isFull, placesAfter}
+use Rattle.desk.specs.References.{isFull, placesAfter}
 use Rattle.desk.specs.Settle.{noticed, settledNotice}
 use borrow.Author.Needs.{needs}
 use Rattle.desk.proofs.settle_notice.Statement.{statement}
@@ -38,14 +38,22 @@ places-after-requires c κs = search needs
 
 returns : tie.Need-returns
 unfolding settledNotice
-returns c = pick-t _ _ _ _ (via _ _ _ (c .before .before .is-full .ensures ∙ ap (λ (k : Change). isFull k (c .before .before .before .before .before .before .args .desk .places)) (c .before .before .before .change-of .ensures)) (c .before .if1 .taken)) (c .refused-with .ensures)
+returns c =
+    let start = c .before .before .before .before .before .before in
+    pick-t _ _ _ _ (via _ _ _ (c .before .before .is-full .ensures
+    ∙ ap (λ (k : Change). isFull k (start .args .desk .places)) (c .before .before .before .change-of .ensures))
+    (c .before .if1 .taken)) (c .refused-with .ensures)
 
 returns-2 : tie.Need-returns-2
 unfolding settledNotice noticed
 returns-2 c =
-    let places = c .before .before .before .before .before .before .before .before .args .desk .places in
-    pick-f _ _ _ _ (via _ _ _ (c .before .before .before .before .is-full .ensures ∙ ap (λ (k : Change). isFull k places) (c .before .before .before .before .before .change-of .ensures)) (c .before .before .before .if1 .left))
-    (set-all _ _ _ _ _ _ (c .before .before .waiting-after .ensures) (c .before .lamp-after .ensures) (c .places-after .ensures ∙ ap (λ (k : Change). placesAfter k places) (c .before .before .before .before .before .change-of .ensures)))
+    let after-is-full = c .before .before .before .before in
+    let start = after-is-full .before .before .before .before in
+    let places = start .args .desk .places in
+    pick-f _ _ _ _ (via _ _ _ (after-is-full .is-full .ensures ∙ ap (λ (k : Change). isFull k places)
+    (after-is-full .before .change-of .ensures)) (c .before .before .before .if1 .left))
+    (set-all _ _ _ _ _ _ (c .before .before .waiting-after .ensures) (c .before .lamp-after .ensures)
+    (c .places-after .ensures ∙ ap (λ (k : Change). placesAfter k places) (after-is-full .before .change-of .ensures)))
 
 pub settle-notice-spec : {M : Type 1} → statement M
 settle-notice-spec =

@@ -15,7 +15,10 @@ enum-known-part : tie.Need-enum-known-part
 enum-known-part c = search needs
 
 shared-slice-read-number : tie.Need-shared-slice-read-number
-shared-slice-read-number c = start-inside _ _ (c .before .before .before .before .before .before .pre) _ _ _ (sym (c .before .before .before .before .counted .ensures) ∙ c .before .before .part .given .1)
+shared-slice-read-number c =
+    let after-counted = c .before .before .before .before in
+    let entry = after-counted .before .before in
+    start-inside _ _ (entry .pre) _ _ _ (sym (after-counted .counted .ensures) ∙ c .before .before .part .given .1)
 
 enum-told : tie.Need-enum-told
 enum-told c = search needs
@@ -23,9 +26,11 @@ enum-told c = search needs
 returns : tie.Need-returns
 unfolding waitingAfter
 returns c =
-    let f = c .before .before .before .before .counted .ensures in
+    let after-counted = c .before .before .before .before in
+    let entry = after-counted .before .before in
+    let f = after-counted .counted .ensures in
     let e = c .before .before .part .given .1 in
-    rw (counts-some _ _ _ _ f _ _ e) (ap Number (sym (first-octet _ _ (c .before .before .before .before .before .before .pre) _ _ _ (sym f ∙ e))))
+    rw (counts-some _ _ _ _ f _ _ e) (ap Number (sym (first-octet _ _ (entry .pre) _ _ _ (sym f ∙ e))))
 
 returns-2 : tie.Need-returns-2
 unfolding waitingAfter

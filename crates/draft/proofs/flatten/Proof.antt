@@ -5,6 +5,7 @@ use Rattle.draft.specs.Same.{flatOf}
 use borrow.Author.Needs.{needs}
 use Rattle.draft.proofs.flatten.Statement.{statement}
 use Rattle.draft.proofs.flatten.Tie as tie
+use Rattle.draft.specs.Meaning.{formNumber}
 
 enum-known-v : tie.Need-enum-known-v
 enum-known-v c = search needs
@@ -46,23 +47,23 @@ text-at-requires-2 : tie.Need-text-at-requires-2
 text-at-requires-2 c κs = search needs
 
 returns : tie.Need-returns
-unfolding flatOf
+unfolding flatOf formNumber
 returns c = rw (c .before .v .given .1)
 
 returns-2 : tie.Need-returns-2
-unfolding flatOf
+unfolding flatOf formNumber
 returns-2 c = rw (c .before .v2 .given .1)
 
 returns-3 : tie.Need-returns-3
-unfolding flatOf
+unfolding flatOf formNumber
 returns-3 c = rw (c .before .v3 .given .1)
 
 returns-4 : tie.Need-returns-4
-unfolding flatOf
+unfolding flatOf formNumber
 returns-4 c = c .text-at .ensures ∙ rw (c .before .before .v4 .given .1)
 
 returns-5 : tie.Need-returns-5
-unfolding flatOf
+unfolding flatOf formNumber
 returns-5 c = c .text-at2 .ensures ∙ rw (c .before .before .v5 .given .1)
 
 pub flatten-spec : {M : Type 1} → statement M

@@ -2,7 +2,7 @@
 -- Assumes nothing.
 use mathlib.Core.Path.{sym}
 use native.Mathlib.Omega.{arith}
-use Rattle.rules.specs.Returns.{no-le}
+use Rattle.rules.proofs.Returns.{no-le}
 use Rattle.draft.proofs.Comparing.{lies-is}
 use Rattle.draft.proofs.lies.Statement.{statement}
 use Rattle.draft.proofs.lies.Tie as tie

@@ -3,7 +3,7 @@
 use mathlib.Core.Path.{refl, _∙_, ap}
 use Prim.Native.Nat.{ℕ}
 use lib.ListN.{take}
-use Rattle.rules.specs.Returns.{and-t, and-f, yes-eq, no-eq, yes-le, no-le}
+use Rattle.rules.proofs.Returns.{and-t, and-f, yes-eq, no-eq, yes-le, no-le}
 use Rattle.draft.specs.Same.{sameEntries, sameDraft}
 use borrow.Author.Needs.{needs}
 use Rattle.draft.proofs.same.Statement.{statement}
@@ -15,16 +15,25 @@ same-entries-requires c κs = search needs
 returns : tie.Need-returns
 unfolding sameDraft
 returns c =
-    let start = c .before .before .before .before .before .before .before .before .before .before .before in
-    and-t _ _ _ (yes-eq _ _ (c .before .before .before .before .before .before .if1 .taken)) (and-t _ _ _ (yes-eq _ _ (c .before .before .before .if2 .taken)) (and-t _ _ _ (yes-le _ _ (c .before .if3 .taken)) (c .same-entries .ensures ∙ ap (λ (n : ℕ). sameEntries (start .args .s .now) (take (start .args .a .count) (start .args .a .entries)) (start .args .t .now) (take n (start .args .b .entries))) (c .before .before .before .if2 .taken))))
+    let branch = c .before .before .before .before .before .before in
+    let start = branch .before .before .before .before .before in
+    and-t _ _ _ (yes-eq _ _ (branch .if1 .taken))
+    (and-t _ _ _ (yes-eq _ _ (c .before .before .before .if2 .taken))
+    (and-t _ _ _ (yes-le _ _ (c .before .if3 .taken))
+    (c .same-entries .ensures ∙ ap (λ (n : ℕ). sameEntries (start .args .s .now)
+    (take (start .args .a .count) (start .args .a .entries)) (start .args .t .now)
+    (take n (start .args .b .entries))) (c .before .before .before .if2 .taken))))
 
 returns-2 : tie.Need-returns-2
 unfolding sameDraft
-returns-2 c = and-t _ _ _ (yes-eq _ _ (c .before .before .before .before .before .if1 .taken)) (and-t _ _ _ (yes-eq _ _ (c .before .before .if2 .taken)) (and-f _ _ _ (no-le _ _ (c .if3 .left)) refl))
+returns-2 c =
+    and-t _ _ _ (yes-eq _ _ (c .before .before .before .before .before .if1 .taken))
+    (and-t _ _ _ (yes-eq _ _ (c .before .before .if2 .taken)) (and-f _ _ _ (no-le _ _ (c .if3 .left)) refl))
 
 returns-3 : tie.Need-returns-3
 unfolding sameDraft
-returns-3 c = and-t _ _ _ (yes-eq _ _ (c .before .before .before .if1 .taken)) (and-f _ _ _ (no-eq _ _ (c .if2 .left)) refl)
+returns-3 c =
+    and-t _ _ _ (yes-eq _ _ (c .before .before .before .if1 .taken)) (and-f _ _ _ (no-eq _ _ (c .if2 .left)) refl)
 
 returns-4 : tie.Need-returns-4
 unfolding sameDraft

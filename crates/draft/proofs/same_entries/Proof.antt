@@ -1,4 +1,5 @@
--- `draft::same_entries` meets its contract. The loop's invariant: the entries before i agree, so those from i on decide. The measure is what is left.
+-- `draft::same_entries` meets its contract. The loop's invariant: the entries before i agree, so those from i on
+-- decide. The measure is what is left.
 -- Assumes nothing.
 use mathlib.Core.Path.{_≡_, refl}
 use Prim.Native.Nat.{_≤_, _-_}
@@ -41,23 +42,32 @@ loop-less c = search needs
 
 loop-again : tie.Need-loop-again Inv-loop μ-loop
 loop-again c =
-    let start = c .before .before .before .before .before .before .before .before .before .before in
+    let turn = c .before .before .before .before in
+    let start = turn .before .before .before .before .before .before in
     let l : length (start .args .a .entries) ≡ most = simp length-map at (start .good .0 .1 .1 .1 .1 .0 .1 .0 .1) in
-    let m : length (start .args .b .entries) ≡ most = simp length-map at (start .good .1 .1 .0 .1 .1 .1 .1 .0 .1 .0 .1) in
-    (search needs, entry-agrees _ _ _ _ _ (start .pre) l m _ (c .before .before .before .before .before .loop .inv .1) _ _ (c .before .before .before .before .loop-test .taken) (c .before .same-entry .ensures) (c .if1 .taken))
+    let m : length (start .args .b .entries) ≡ most = simp length-map
+    at (start .good .1 .1 .0 .1 .1 .1 .1 .0 .1 .0 .1) in (
+      search needs,
+      entry-agrees _ _ _ _ _ (start .pre) l m _ (turn .before .loop .inv .1) _ _
+          (turn .loop-test .taken) (c .before .same-entry .ensures) (c .if1 .taken),
+    )
 
 returns : tie.Need-returns Inv-loop μ-loop
 returns c =
-    let start = c .before .before .before .before .before .before .before .before .before .before in
+    let turn = c .before .before .before .before in
+    let start = turn .before .before .before .before .before .before in
     let l : length (start .args .a .entries) ≡ most = simp length-map at (start .good .0 .1 .1 .1 .1 .0 .1 .0 .1) in
-    let m : length (start .args .b .entries) ≡ most = simp length-map at (start .good .1 .1 .0 .1 .1 .1 .1 .0 .1 .0 .1) in
-    entry-differs _ _ _ _ _ (start .pre) l m _ (c .before .before .before .before .before .loop .inv .1) _ _ (c .before .before .before .before .loop-test .taken) (c .before .same-entry .ensures) (c .if1 .left)
+    let m : length (start .args .b .entries) ≡ most = simp length-map
+    at (start .good .1 .1 .0 .1 .1 .1 .1 .0 .1 .0 .1) in
+    entry-differs _ _ _ _ _ (start .pre) l m _ (turn .before .loop .inv .1) _ _ (turn .loop-test .taken)
+    (c .before .same-entry .ensures) (c .if1 .left)
 
 returns-2 : tie.Need-returns-2 Inv-loop μ-loop
 returns-2 c =
     let start = c .before .before .before .before .before .before in
     let l : length (start .args .a .entries) ≡ most = simp length-map at (start .good .0 .1 .1 .1 .1 .0 .1 .0 .1) in
-    let m : length (start .args .b .entries) ≡ most = simp length-map at (start .good .1 .1 .0 .1 .1 .1 .1 .0 .1 .0 .1) in
+    let m : length (start .args .b .entries) ≡ most =
+    simp length-map at (start .good .1 .1 .0 .1 .1 .1 .1 .0 .1 .0 .1) in
     all-agree _ _ _ _ _ (start .pre) l m _ (c .before .loop .inv .1) (c .loop-test .left)
 
 pub same-entries-spec : {M : Type 1} → statement M

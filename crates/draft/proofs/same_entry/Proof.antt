@@ -1,7 +1,7 @@
 -- `draft::same_entry` meets its contract: type and value.
 -- Assumes nothing.
 use mathlib.Core.Path.{refl, _∙_, ap₂}
-use Rattle.rules.specs.Returns.{and-t, and-f, yes-eq, no-eq}
+use Rattle.rules.proofs.Returns.{and-t, and-f, yes-eq, no-eq}
 use Rattle.draft.specs.declared.Flat.{Flat}
 use Rattle.draft.specs.Same.{sameFlat, sameEntry}
 use borrow.Author.Needs.{needs}
@@ -21,7 +21,9 @@ returns : tie.Need-returns
 unfolding sameEntry
 returns c =
     let start = c .before .before .before .before .before .before .before .before in
-    and-t _ _ _ (yes-eq _ _ (c .before .before .before .if1 .taken)) (c .same-flat .ensures ∙ ap₂ (λ (x y : Flat). sameFlat (start .args .s .now) x (start .args .t .now) y) (c .before .before .flatten .ensures) (c .before .flatten2 .ensures))
+    and-t _ _ _ (yes-eq _ _ (c .before .before .before .if1 .taken))
+    (c .same-flat .ensures ∙ ap₂ (λ (x y : Flat). sameFlat (start .args .s .now) x (start .args .t .now) y)
+    (c .before .before .flatten .ensures) (c .before .flatten2 .ensures))
 
 returns-2 : tie.Need-returns-2
 unfolding sameEntry

@@ -1,7 +1,7 @@
 -- `draft::same_flat` meets its contract: kind, numbers and text.
 -- Assumes nothing.
 use mathlib.Core.Path.{refl}
-use Rattle.rules.specs.Returns.{and-t, and-f, via, yes-eq, no-eq}
+use Rattle.rules.proofs.Returns.{and-t, and-f, via, yes-eq, no-eq}
 use Rattle.draft.specs.Same.{sameFlat}
 use borrow.Author.Needs.{needs}
 use Rattle.draft.proofs.same_flat.Statement.{statement}
@@ -15,11 +15,15 @@ same-text-requires c κs = search needs
 
 returns : tie.Need-returns
 unfolding sameFlat
-returns c = and-t _ _ _ (yes-eq _ _ (c .before .before .before .if1 .taken)) (and-t _ _ _ (via _ _ _ (c .before .before .same-numbers .ensures) (c .before .if2 .taken)) (c .same-text .ensures))
+returns c =
+    and-t _ _ _ (yes-eq _ _ (c .before .before .before .if1 .taken))
+    (and-t _ _ _ (via _ _ _ (c .before .before .same-numbers .ensures) (c .before .if2 .taken)) (c .same-text .ensures))
 
 returns-2 : tie.Need-returns-2
 unfolding sameFlat
-returns-2 c = and-t _ _ _ (yes-eq _ _ (c .before .before .if1 .taken)) (and-f _ _ _ (via _ _ _ (c .before .same-numbers .ensures) (c .if2 .left)) refl)
+returns-2 c =
+    and-t _ _ _ (yes-eq _ _ (c .before .before .if1 .taken))
+    (and-f _ _ _ (via _ _ _ (c .before .same-numbers .ensures) (c .if2 .left)) refl)
 
 returns-3 : tie.Need-returns-3
 unfolding sameFlat

@@ -1,22 +1,30 @@
 -- `draft::same_numbers` meets its contract: number after number.
 -- Assumes nothing.
 use mathlib.Core.Path.{refl}
-use Rattle.rules.specs.Returns.{and-t, and-f, yes-eq, no-eq, is-eq}
+use Rattle.rules.proofs.Returns.{and-t, and-f, yes-eq, no-eq, is-eq}
 use Rattle.draft.specs.Same.{sameNumbers}
 use Rattle.draft.proofs.same_numbers.Statement.{statement}
 use Rattle.draft.proofs.same_numbers.Tie as tie
 
 returns : tie.Need-returns
 unfolding sameNumbers
-returns c = and-t _ _ _ (yes-eq _ _ (c .before .before .before .before .before .before .before .before .if1 .taken)) (and-t _ _ _ (yes-eq _ _ (c .before .before .before .before .before .if2 .taken)) (and-t _ _ _ (yes-eq _ _ (c .before .before .if3 .taken)) (is-eq _ _)))
+returns c =
+    let branch = c .before .before .before .before .before in
+    and-t _ _ _ (yes-eq _ _ (branch .before .before .before .if1 .taken))
+    (and-t _ _ _ (yes-eq _ _ (branch .if2 .taken)) (and-t _ _ _ (yes-eq _ _ (c .before .before .if3 .taken))
+    (is-eq _ _)))
 
 returns-2 : tie.Need-returns-2
 unfolding sameNumbers
-returns-2 c = and-t _ _ _ (yes-eq _ _ (c .before .before .before .before .before .before .if1 .taken)) (and-t _ _ _ (yes-eq _ _ (c .before .before .before .if2 .taken)) (and-f _ _ _ (no-eq _ _ (c .if3 .left)) refl))
+returns-2 c =
+    let branch = c .before .before .before .before .before .before in
+    and-t _ _ _ (yes-eq _ _ (branch .if1 .taken))
+    (and-t _ _ _ (yes-eq _ _ (c .before .before .before .if2 .taken)) (and-f _ _ _ (no-eq _ _ (c .if3 .left)) refl))
 
 returns-3 : tie.Need-returns-3
 unfolding sameNumbers
-returns-3 c = and-t _ _ _ (yes-eq _ _ (c .before .before .before .if1 .taken)) (and-f _ _ _ (no-eq _ _ (c .if2 .left)) refl)
+returns-3 c =
+    and-t _ _ _ (yes-eq _ _ (c .before .before .before .if1 .taken)) (and-f _ _ _ (no-eq _ _ (c .if2 .left)) refl)
 
 returns-4 : tie.Need-returns-4
 unfolding sameNumbers

@@ -35,7 +35,8 @@ same-octets-requires c κs = search needs
 returns : tie.Need-returns
 returns c =
     let start = c .before .before .before .before .before in
-    parts-of (start .args .s .now) (start .args .t .now) (start .args .a) (start .args .m) (start .args .b) (start .args .n) _ (c .same-octets .ensures)
+    parts-of (start .args .s .now) (start .args .t .now) (start .args .a) (start .args .m) (start .args .b)
+    (start .args .n) _ (c .same-octets .ensures)
 
 pub same-parts-spec : {M : Type 1} → statement M
 same-parts-spec =

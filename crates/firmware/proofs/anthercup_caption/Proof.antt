@@ -1,7 +1,7 @@
 -- `firmware::anthercup_caption` meets its contract: the size first, then the part.
 -- Assumes nothing.
 use mathlib.Core.Path.{refl}
-use Rattle.rules.specs.Returns.{pick-t, pick-f, yes-eq, no-eq}
+use Rattle.rules.proofs.Returns.{pick-t, pick-f, yes-eq, no-eq}
 use Rattle.firmware.specs.Exports.{captionAnswer, captionRecord}
 use borrow.Author.Needs.{needs}
 use Rattle.firmware.proofs.anthercup_caption.Statement.{statement}

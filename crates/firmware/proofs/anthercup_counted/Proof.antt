@@ -2,7 +2,7 @@
 -- Assumes nothing.
 use mathlib.Core.Path.{sym, _∙_, ap}
 use native.Mathlib.Omega.{arith}
-use Rattle.rules.specs.Octets.{octets-at}
+use Rattle.rules.proofs.Octets.{octets-at}
 use Rattle.message.specs.declared.Verdict.{Verdict}
 use Rattle.firmware.specs.Exports.{countedUnder, countedAnswer}
 use Rattle.firmware.proofs.PartRecord.{accepted-small}
@@ -30,16 +30,21 @@ packed-requires c κs = search needs
 returns : tie.Need-returns
 unfolding countedUnder countedAnswer
 returns c =
-    let o = c .before .before .before .before .before .args .octets .now in
-    let t = c .before .before .before .before .before .args .kind in
-    c .counted-in .ensures ∙ ap (λ (v : Verdict). countedUnder v o t) (sym (c .before .enum-told .given .1) ∙ c .before .before .before .judge .ensures)
+    let start = c .before .before .before .before .before in
+    let o = start .args .octets .now in
+    let t = start .args .kind in
+    c .counted-in .ensures ∙ ap (λ (v : Verdict). countedUnder v o t)
+    (sym (c .before .enum-told .given .1) ∙ c .before .before .before .judge .ensures)
 
 returns-2 : tie.Need-returns-2
 unfolding countedUnder countedAnswer
 returns-2 c =
-    let o = c .before .before .before .before .before .before .args .octets .now in
-    let t = c .before .before .before .before .before .before .args .kind in
-    c .packed .ensures ∙ ap (λ (v : Verdict). countedUnder v o t) (sym (c .before .before .verdict .given .1) ∙ c .before .before .before .before .judge .ensures)
+    let after-judge = c .before .before .before .before in
+    let start = after-judge .before .before in
+    let o = start .args .octets .now in
+    let t = start .args .kind in
+    c .packed .ensures ∙ ap (λ (v : Verdict). countedUnder v o t)
+    (sym (c .before .before .verdict .given .1) ∙ after-judge .judge .ensures)
 
 pub anthercup-counted-spec : {M : Type 1} → statement M
 anthercup-counted-spec =

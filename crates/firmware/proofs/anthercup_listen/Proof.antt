@@ -17,7 +17,9 @@ hear-requires : tie.Need-hear-requires
 hear-requires c κs = search needs
 
 encode-requires : tie.Need-encode-requires
-encode-requires c κs = known-size _ _ (sym (c .before .before .before .before .before .before .decode .ensures) ∙ c .before .before .before .before .got .given .1)
+encode-requires c κs =
+    let after-got = c .before .before .before .before in
+    known-size _ _ (sym (after-got .before .before .decode .ensures) ∙ after-got .got .given .1)
 
 enum-told : tie.Need-enum-told
 enum-told c = search needs
@@ -29,7 +31,11 @@ same-length : tie.Need-same-length
 same-length c = search needs
 
 returns : tie.Need-returns
-returns c = known-answers _ _ _ (c .before .before .before .before .before .before .before .before .before .decode .ensures) _ _ _ (c .before .before .before .before .before .before .before .got .given .1) (c .before .before .before .before .before .hear .ensures) (c .before .before .encode .ensures)
+returns c =
+    let after-hear = c .before .before .before .before .before in
+    let after-decode = after-hear .before .before .before .before in
+    known-answers _ _ _ (after-decode .decode .ensures) _ _ _ (after-hear .before .before .got .given .1)
+    (after-hear .hear .ensures) (c .before .before .encode .ensures)
 
 same-length-2 : tie.Need-same-length-2
 same-length-2 c = search needs

@@ -1,7 +1,7 @@
 -- `firmware::anthercup_new_desk` meets its contract: the size alone is judged.
 -- Assumes nothing.
 use mathlib.Core.Path.{refl, _∙_, ap}
-use Rattle.rules.specs.Returns.{pick-t, pick-f, yes-eq, no-eq}
+use Rattle.rules.proofs.Returns.{pick-t, pick-f, yes-eq, no-eq}
 use Rattle.firmware.specs.DeskRecord.{deskRecord}
 use Rattle.firmware.specs.Exports.{newDeskAnswer, newDeskRecord}
 use borrow.Author.Needs.{needs}
@@ -25,7 +25,13 @@ same-length c = search needs
 
 returns : tie.Need-returns
 unfolding newDeskAnswer newDeskRecord
-returns c = let n = yes-eq _ _ (c .before .before .before .before .before .before .if1 .taken) in (pick-t _ _ _ _ n (c .packed .ensures), pick-t _ _ _ _ n (c .before .before .before .encode .ensures ∙ ap deskRecord (c .before .before .before .before .new-desk .ensures)))
+returns c =
+    let after-new-desk = c .before .before .before .before in
+    let n = yes-eq _ _ (after-new-desk .before .before .if1 .taken) in (
+      pick-t _ _ _ _ n (c .packed .ensures),
+      pick-t _ _ _ _ n
+          (c .before .before .before .encode .ensures ∙ ap deskRecord (after-new-desk .new-desk .ensures)),
+    )
 
 returns-2 : tie.Need-returns-2
 unfolding newDeskAnswer newDeskRecord

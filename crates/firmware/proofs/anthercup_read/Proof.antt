@@ -1,7 +1,7 @@
 -- `firmware::anthercup_read` meets its contract: the size first, then the whole read.
 -- Assumes nothing.
 use mathlib.Core.Path.{refl}
-use Rattle.rules.specs.Returns.{pick-t, pick-f, yes-eq, no-eq}
+use Rattle.rules.proofs.Returns.{pick-t, pick-f, yes-eq, no-eq}
 use Rattle.firmware.specs.Exports.{readAnswer, readRecord, readTexts}
 use borrow.Author.Needs.{needs}
 use Rattle.firmware.proofs.anthercup_read.Statement.{statement}
@@ -21,7 +21,16 @@ same-length-2 c = search needs
 
 returns : tie.Need-returns
 unfolding readAnswer readRecord readTexts
-returns c = let n = yes-eq _ _ (c .before .before .before .before .before .before .before .if1 .taken) in (pick-t _ _ _ _ n (c .before .before .before .before .read-into .ensures .0), (pick-t _ _ _ _ n (c .before .before .before .before .read-into .ensures .1 .0), pick-t _ _ _ _ n (c .before .before .before .before .read-into .ensures .1 .1)))
+returns c =
+    let after-read-into = c .before .before .before .before in
+    let n = yes-eq _ _ (after-read-into .before .before .before .if1 .taken) in (
+      pick-t _ _ _ _ n (after-read-into .read-into .ensures .0),
+      (
+        pick-t _ _ _ _ n (after-read-into .read-into .ensures .1 .0),
+        pick-t _ _ _ _ n
+            (after-read-into .read-into .ensures .1 .1),
+      ),
+    )
 
 returns-2 : tie.Need-returns-2
 unfolding readAnswer readRecord readTexts

@@ -1,7 +1,7 @@
 -- `firmware::anthercup_reset` meets its contract: the size alone is judged.
 -- Assumes nothing.
 use mathlib.Core.Path.{refl, _∙_, ap}
-use Rattle.rules.specs.Returns.{pick-t, pick-f, yes-eq, no-eq}
+use Rattle.rules.proofs.Returns.{pick-t, pick-f, yes-eq, no-eq}
 use Rattle.firmware.specs.Record.{recordOf}
 use Rattle.firmware.specs.Exports.{resetAnswer, resetRecord}
 use borrow.Author.Needs.{needs}
@@ -25,7 +25,13 @@ same-length c = search needs
 
 returns : tie.Need-returns
 unfolding resetAnswer resetRecord
-returns c = let n = yes-eq _ _ (c .before .before .before .before .before .before .if1 .taken) in (pick-t _ _ _ _ n (c .packed .ensures), pick-t _ _ _ _ n (c .before .before .before .encode .ensures ∙ ap recordOf (c .before .before .before .before .reset .ensures)))
+returns c =
+    let after-reset = c .before .before .before .before in
+    let n = yes-eq _ _ (after-reset .before .before .if1 .taken) in (
+      pick-t _ _ _ _ n (c .packed .ensures),
+      pick-t _ _ _ _ n
+          (c .before .before .before .encode .ensures ∙ ap recordOf (after-reset .reset .ensures)),
+    )
 
 returns-2 : tie.Need-returns-2
 unfolding resetAnswer resetRecord

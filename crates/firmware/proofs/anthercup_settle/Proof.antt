@@ -2,9 +2,9 @@
 -- Assumes nothing.
 use mathlib.Core.Path.{_≡_, sym, _∙_}
 use lib.ListN.{length}
-use Rattle.rules.specs.Returns.{T-of, via}
+use Rattle.rules.proofs.Returns.{T-of, via}
 use Rattle.firmware.proofs.DeskRecord.{record-size}
-use Rattle.firmware.proofs.Desking.{settles-known, settles-unknown}
+use Rattle.firmware.proofs.RecordPlaces.{settles-known, settles-unknown}
 use borrow.Author.Needs.{needs}
 use Rattle.firmware.proofs.anthercup_settle.Statement.{statement}
 use Rattle.firmware.proofs.anthercup_settle.Tie as tie
@@ -19,7 +19,9 @@ settle-requires : tie.Need-settle-requires
 settle-requires c κs = search needs
 
 encode-requires : tie.Need-encode-requires
-encode-requires c κs = record-size _ (T-of _ (via _ _ _ (c .before .before .before .before .before .before .is-record .ensures) (c .before .before .before .before .before .if1 .taken)))
+encode-requires c κs =
+    let branch = c .before .before .before .before .before in
+    record-size _ (T-of _ (via _ _ _ (branch .before .is-record .ensures) (branch .if1 .taken)))
 
 desk-word-requires : tie.Need-desk-word-requires
 desk-word-requires c κs = search needs
@@ -31,7 +33,12 @@ same-length : tie.Need-same-length
 same-length c = search needs
 
 returns : tie.Need-returns
-returns c = settles-known _ _ _ (c .before .before .before .before .before .before .before .before .before .before .is-record .ensures) (c .before .before .before .before .before .before .before .before .before .if1 .taken) _ _ _ _ (c .before .before .before .before .before .before .before .decode .ensures) (c .before .before .before .before .before .before .settle .ensures) (c .desk-word .ensures) (c .before .before .before .encode .ensures)
+returns c =
+    let after-settle = c .before .before .before .before .before .before in
+    let after-is-record = after-settle .before .before .before .before in
+    settles-known _ _ _ (after-is-record .is-record .ensures) (after-settle .before .before .before .if1 .taken) _
+    _ _ _ (after-settle .before .decode .ensures) (after-settle .settle .ensures) (c .desk-word .ensures)
+    (c .before .before .before .encode .ensures)
 
 same-length-2 : tie.Need-same-length-2
 same-length-2 c = search needs

@@ -1,7 +1,7 @@
 -- `firmware::caption_into` meets its contract: the record is written where a part was found.
 -- Assumes nothing.
 use mathlib.Core.Path.{sym, _∙_, ap}
-use Rattle.caption.specs.Caption.{numberOf, placeOf}
+use Rattle.caption.specs.Caption.{told}
 use Rattle.firmware.specs.Exports.{foundWord, partFrom}
 use borrow.Author.Needs.{needs}
 use Rattle.firmware.proofs.caption_into.Statement.{statement}
@@ -38,25 +38,29 @@ same-length : tie.Need-same-length
 same-length c = search needs
 
 returns : tie.Need-returns
-unfolding foundWord partFrom numberOf placeOf
+unfolding foundWord partFrom told
 returns c =
-    let e = sym (c .before .before .before .before .before .before .found .given .1) ∙ c .before .before .before .before .before .before .before .before .find .ensures in
+    let after-found = c .before .before .before .before .before .before in
+    let e = sym (after-found .found .given .1) ∙ after-found .before .before .find .ensures in
     (c .packed .ensures ∙ ap foundWord e, c .before .before .before .lay-part .ensures ∙ ap (partFrom _) e)
 
 same-length-2 : tie.Need-same-length-2
 same-length-2 c = search needs
 
 returns-2 : tie.Need-returns-2
-unfolding foundWord partFrom numberOf placeOf
+unfolding foundWord partFrom told
 returns-2 c =
-    let e = sym (c .before .before .before .before .before .before .found2 .given .1) ∙ c .before .before .before .before .before .before .before .before .find .ensures in
+    let after-found2 = c .before .before .before .before .before .before in
+    let e = sym (after-found2 .found2 .given .1) ∙ after-found2 .before .before .find .ensures in
     (c .packed2 .ensures ∙ ap foundWord e, c .before .before .before .lay-part2 .ensures ∙ ap (partFrom _) e)
 
 returns-3 : tie.Need-returns-3
-unfolding foundWord partFrom numberOf placeOf
+unfolding foundWord partFrom told
 returns-3 c =
-    let e = sym (c .before .before .found3 .given .1) ∙ c .before .before .before .before .find .ensures in
-    (c .packed3 .ensures ∙ ap foundWord e, ap (partFrom (c .before .before .before .before .before .before .before .before .args .cells .now)) e)
+    let after-find = c .before .before .before .before in
+    let start = after-find .before .before .before .before in
+    let e = sym (c .before .before .found3 .given .1) ∙ after-find .find .ensures in
+    (c .packed3 .ensures ∙ ap foundWord e, ap (partFrom (start .args .cells .now)) e)
 
 pub caption-into-spec : {M : Type 1} → statement M
 caption-into-spec =

@@ -2,7 +2,7 @@
 -- Assumes nothing.
 use mathlib.Core.Path.{sym, _∙_, ap}
 use native.Mathlib.Omega.{arith}
-use Rattle.message.specs.Places.{counted-inside}
+use Rattle.message.proofs.Places.{counted-inside}
 use Rattle.firmware.specs.Exports.{partWord}
 use borrow.Author.Needs.{needs}
 use Rattle.firmware.proofs.counted_in.Statement.{statement}

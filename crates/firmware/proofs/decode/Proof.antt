@@ -2,8 +2,7 @@
 -- Assumes nothing.
 use mathlib.Core.Path.{_∙_, ap}
 use Rattle.firmware.specs.Record.{decodeOf, stateOf}
-use Rattle.rules.specs.Returns.{pick-t, yes-eq}
-use Rattle.rules.specs.Returns.{tests}
+use Rattle.rules.proofs.Returns.{pick-t, yes-eq, tests}
 use borrow.Author.Needs.{needs}
 use Rattle.firmware.proofs.decode.Statement.{statement}
 use Rattle.firmware.proofs.decode.Tie as tie

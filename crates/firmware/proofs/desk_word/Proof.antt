@@ -1,6 +1,6 @@
 -- `firmware::desk_word` meets its contract.
 -- Assumes nothing.
-use Rattle.desk.specs.Settle.{numberOf, placeOf}
+use Rattle.desk.specs.Settle.{told}
 use Rattle.firmware.specs.Exports.{deskWord}
 use borrow.Author.Needs.{needs}
 use Rattle.firmware.proofs.desk_word.Statement.{statement}
@@ -19,11 +19,11 @@ packed-requires-2 : tie.Need-packed-requires-2
 packed-requires-2 c κs = search needs
 
 returns : tie.Need-returns
-unfolding deskWord numberOf placeOf
+unfolding deskWord told
 returns c = rw (c .before .enum-told .given .1) (c .packed .ensures)
 
 returns-2 : tie.Need-returns-2
-unfolding deskWord numberOf placeOf
+unfolding deskWord told
 returns-2 c = rw (c .before .before .a .given .1) (c .packed2 .ensures)
 
 pub desk-word-spec : {M : Type 1} → statement M

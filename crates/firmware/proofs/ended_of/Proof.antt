@@ -2,7 +2,7 @@
 -- Assumes nothing.
 use Rattle.firmware.specs.Record.{endedOf}
 use Rattle.firmware.proofs.Decoding.{known-eq}
-use Rattle.rules.specs.Returns.{tests}
+use Rattle.rules.proofs.Returns.{tests}
 use borrow.Author.Needs.{needs}
 use Rattle.firmware.proofs.ended_of.Statement.{statement}
 use Rattle.firmware.proofs.ended_of.Tie as tie

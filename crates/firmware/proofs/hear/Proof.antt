@@ -1,7 +1,7 @@
 -- `firmware::hear` meets its contract: a call of the listener takes at most 258 octets, so its answer fits a word.
 -- Assumes nothing.
 use native.Mathlib.Omega.{arith}
-use Rattle.rules.specs.Octets.{octets-at}
+use Rattle.rules.proofs.Octets.{octets-at}
 use Rattle.listener.proofs.Hears.{taken-small}
 use Rattle.firmware.proofs.Decoding.{outcome}
 use borrow.Author.Needs.{needs}

@@ -1,7 +1,7 @@
 -- `firmware::known` meets its contract: branch by branch.
 -- Assumes nothing.
 use Rattle.firmware.specs.Record.{known}
-use Rattle.rules.specs.Returns.{tests}
+use Rattle.rules.proofs.Returns.{tests}
 use Rattle.firmware.proofs.known.Statement.{statement}
 use Rattle.firmware.proofs.known.Tie as tie
 

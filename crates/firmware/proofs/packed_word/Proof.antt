@@ -1,6 +1,6 @@
 -- `firmware::packed_word` meets its contract: one case after the other.
 -- Assumes nothing.
-use Rattle.reader.specs.Reads.{numberOf, placeOf, sizeOf}
+use Rattle.reader.specs.Reads.{told}
 use Rattle.firmware.specs.Exports.{packedWord}
 use borrow.Author.Needs.{needs}
 use Rattle.firmware.proofs.packed_word.Statement.{statement}
@@ -19,11 +19,11 @@ packed-requires-2 : tie.Need-packed-requires-2
 packed-requires-2 c κs = search needs
 
 returns : tie.Need-returns
-unfolding packedWord numberOf placeOf sizeOf
+unfolding packedWord told
 returns c = rw (c .before .before .p .given .1) (c .packed .ensures)
 
 returns-2 : tie.Need-returns-2
-unfolding packedWord numberOf placeOf sizeOf
+unfolding packedWord told
 returns-2 c = rw (c .before .before .p2 .given .1) (c .packed2 .ensures)
 
 pub packed-word-spec : {M : Type 1} → statement M

@@ -1,15 +1,15 @@
 -- `firmware::parameter_of` meets its contract: the code of the class, then stage by stage.
 -- Assumes nothing.
 use mathlib.Core.Path.{refl}
-use Rattle.rules.specs.Returns.{pick-t, pick-f, yes-le, no-le, yes-eq, no-eq}
-use Rattle.firmware.specs.Record.{parameterOf}
+use Rattle.rules.proofs.Returns.{pick-t, pick-f, yes-le, no-le, yes-eq, no-eq}
+use Rattle.firmware.specs.Record.{parameterState}
 use Rattle.firmware.proofs.Decoding.{known-eq}
 use borrow.Author.Needs.{needs}
 use Rattle.firmware.proofs.parameter_of.Statement.{statement}
 use Rattle.firmware.proofs.parameter_of.Tie as tie
 
 returns : tie.Need-returns
-unfolding parameterOf
+unfolding parameterState
 returns c = pick-f _ _ _ _ (no-le _ _ (c .if1 .taken)) refl
 
 class-coded-requires : tie.Need-class-coded-requires
@@ -31,11 +31,11 @@ known-requires-2 : tie.Need-known-requires-2
 known-requires-2 c κs = search needs
 
 returns-2 : tie.Need-returns-2
-unfolding parameterOf
+unfolding parameterState
 returns-2 c = pick-t _ _ _ _ (yes-le _ _ (c .before .before .before .if1 .left)) (pick-t _ _ _ _ (yes-eq _ _ (c .before .if2 .taken)) (known-eq _ _ _ _ (rw (c .before .before .class-coded .ensures) at (c .known .ensures))))
 
 returns-3 : tie.Need-returns-3
-unfolding parameterOf
+unfolding parameterState
 returns-3 c = pick-t _ _ _ _ (yes-le _ _ (c .before .before .before .if1 .left)) (pick-f _ _ _ _ (no-eq _ _ (c .before .if2 .left)) (known-eq _ _ _ _ (rw (c .before .before .class-coded .ensures) at (c .known2 .ensures))))
 
 pub parameter-of-spec : {M : Type 1} → statement M

@@ -33,8 +33,16 @@ same-length-2 c = search needs
 returns : tie.Need-returns
 unfolding recordFrom
 returns c =
-    let start = c .before .before .before .before .before .before .before .before .before .before .before .before .before .before in
-    (c .packed-word .ensures ∙ ap packedWord (c .before .before .before .before .before .before .before .before .before .pack .ensures .0), (c .before .before .before .lay-draft .ensures ∙ ap (recordFrom (start .args .octets .now) (start .args .cells .now)) (sym (c .before .before .before .before .before .enum-told .given .1) ∙ c .before .before .before .before .before .before .before .before .before .pack .ensures .0), c .before .before .before .before .before .before .before .before .before .pack .ensures .1))
+    let arm = c .before .before .before .before .before in
+    let after-pack = arm .before .before .before .before in
+    let start = after-pack .before .before .before .before .before in (
+      c .packed-word .ensures ∙ ap packedWord (after-pack .pack .ensures .0),
+      (
+        c .before .before .before .lay-draft .ensures ∙ ap (recordFrom (start .args .octets .now)
+            (start .args .cells .now)) (sym (arm .enum-told .given .1) ∙ after-pack .pack .ensures .0),
+        after-pack .pack .ensures .1,
+      ),
+    )
 
 same-length-3 : tie.Need-same-length-3
 same-length-3 c = search needs
@@ -42,8 +50,15 @@ same-length-3 c = search needs
 returns-2 : tie.Need-returns-2
 unfolding recordFrom
 returns-2 c =
-    let start = c .before .before .before .before .before .before .before .before .before .before in
-    (c .packed-word2 .ensures ∙ ap packedWord (c .before .before .before .before .before .pack .ensures .0), (ap (recordFrom (start .args .octets .now) (start .args .cells .now)) (sym (c .before .enum-told2 .given .1) ∙ c .before .before .before .before .before .pack .ensures .0), c .before .before .before .before .before .pack .ensures .1))
+    let after-pack = c .before .before .before .before .before in
+    let start = after-pack .before .before .before .before .before in (
+      c .packed-word2 .ensures ∙ ap packedWord (after-pack .pack .ensures .0),
+      (
+        ap (recordFrom (start .args .octets .now) (start .args .cells .now))
+            (sym (c .before .enum-told2 .given .1) ∙ after-pack .pack .ensures .0),
+        after-pack .pack .ensures .1,
+      ),
+    )
 
 pub read-into-spec : {M : Type 1} → statement M
 read-into-spec =

@@ -1,7 +1,7 @@
 -- `firmware::state_of` meets its contract: stage by stage.
 -- Assumes nothing.
 use Rattle.firmware.specs.Record.{stateOf}
-use Rattle.rules.specs.Returns.{tests}
+use Rattle.rules.proofs.Returns.{tests}
 use borrow.Author.Needs.{needs}
 use Rattle.firmware.proofs.state_of.Statement.{statement}
 use Rattle.firmware.proofs.state_of.Tie as tie

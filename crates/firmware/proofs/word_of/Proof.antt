@@ -1,6 +1,6 @@
 -- `firmware::word_of` meets its contract: answer by answer.
 -- Assumes nothing.
-use Rattle.listener.specs.Heard.{numberOf, placeOf, sizeOf}
+use Rattle.listener.specs.Heard.{told}
 use borrow.Author.Needs.{needs}
 use Rattle.firmware.proofs.word_of.Statement.{statement}
 use Rattle.firmware.proofs.word_of.Tie as tie
@@ -24,15 +24,15 @@ packed-requires-3 : tie.Need-packed-requires-3
 packed-requires-3 c κs = search needs
 
 returns : tie.Need-returns
-unfolding numberOf placeOf sizeOf
+unfolding told
 returns c = rw (c .before .enum-told .given .1) (c .packed .ensures)
 
 returns-2 : tie.Need-returns-2
-unfolding numberOf placeOf sizeOf
+unfolding told
 returns-2 c = rw (c .before .before .a .given .1) (c .packed2 .ensures)
 
 returns-3 : tie.Need-returns-3
-unfolding numberOf placeOf sizeOf
+unfolding told
 returns-3 c = rw (c .before .before .a2 .given .1) (c .packed3 .ensures)
 
 pub word-of-spec : {M : Type 1} → statement M

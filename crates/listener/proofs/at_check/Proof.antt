@@ -1,7 +1,7 @@
 -- `listener::at_check` meets its contract: the checksum wanted is a wrapping subtract from zero.
 -- Assumes nothing.
 use native.Mathlib.Omega.{arith}
-use Rattle.rules.specs.Steps.{seals, spoils}
+use Rattle.rules.proofs.Steps.{seals, spoils}
 use borrow.Author.Needs.{needs}
 use Rattle.listener.proofs.at_check.Statement.{statement}
 use Rattle.listener.proofs.at_check.Tie as tie

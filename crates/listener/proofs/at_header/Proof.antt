@@ -2,7 +2,7 @@
 -- Assumes nothing.
 use mathlib.Core.Path.{sym, _∙_}
 use Rattle.rules.specs.Judge.{final}
-use Rattle.rules.specs.Steps.{type-taken, type-declined}
+use Rattle.rules.proofs.Steps.{type-taken, type-declined}
 use borrow.Author.Needs.{needs}
 use Rattle.listener.proofs.at_header.Statement.{statement}
 use Rattle.listener.proofs.at_header.Tie as tie
@@ -33,7 +33,11 @@ returns-2 : tie.Need-returns-2
 returns-2 c = type-taken _ _ _ _ _ (c .before .before .before .before .if1 .left) (c .before .before .before .class-of .ensures) _ (sym (c .before .before .possible .ensures) ∙ c .before .if2 .taken) (c .moved .ensures)
 
 returns-3 : tie.Need-returns-3
-returns-3 c = type-declined _ _ _ _ _ (c .before .before .before .before .before .if1 .left) (c .before .before .before .before .class-of .ensures) _ _ (c .before .class-fault .ensures) (sym (c .before .before .before .possible .ensures) ∙ c .before .before .if2 .left) (c .declined .ensures)
+returns-3 c =
+    let after-class-of = c .before .before .before .before in
+    type-declined _ _ _ _ _ (after-class-of .before .if1 .left) (after-class-of .class-of .ensures) _ _
+    (c .before .class-fault .ensures)
+    (sym (c .before .before .before .possible .ensures) ∙ c .before .before .if2 .left) (c .declined .ensures)
 
 pub at-header-spec : {M : Type 1} → statement M
 at-header-spec =

@@ -2,7 +2,7 @@
 -- Assumes nothing.
 use mathlib.Core.Path.{refl, sym, _∙_}
 use Rattle.rules.specs.Judge.{final, fits, after, fault}
-use Rattle.rules.specs.Steps.{takes, declines}
+use Rattle.rules.proofs.Steps.{takes, declines}
 use borrow.Author.Needs.{needs}
 use Rattle.listener.proofs.at_kind.Statement.{statement}
 use Rattle.listener.proofs.at_kind.Tie as tie

@@ -2,10 +2,10 @@
 -- Assumes nothing.
 use mathlib.Core.Path.{refl, sym, _∙_, ap}
 use native.Mathlib.Omega.{arith}
-use Rattle.rules.specs.Tests.{both}
+use Rattle.rules.proofs.Tests.{both}
 use Rattle.rules.specs.Judge.{final, fits, contents, after, fault}
-use Rattle.rules.specs.Returns.{T-of}
-use Rattle.rules.specs.Steps.{takes, declines, room-left}
+use Rattle.rules.proofs.Returns.{T-of}
+use Rattle.rules.proofs.Steps.{takes, declines, room-left}
 use borrow.Author.Needs.{needs}
 use Rattle.listener.proofs.at_length.Statement.{statement}
 use Rattle.listener.proofs.at_length.Tie as tie

@@ -2,8 +2,8 @@
 -- Assumes nothing.
 use mathlib.Core.Path.{refl}
 use Rattle.rules.specs.Judge.{final, fits, after, fault}
-use Rattle.rules.specs.Returns.{yes-le, no-le}
-use Rattle.rules.specs.Steps.{takes, declines}
+use Rattle.rules.proofs.Returns.{yes-le, no-le}
+use Rattle.rules.proofs.Steps.{takes, declines}
 use borrow.Author.Needs.{needs}
 use Rattle.listener.proofs.at_size.Statement.{statement}
 use Rattle.listener.proofs.at_size.Tie as tie

@@ -1,7 +1,7 @@
 -- `listener::between` meets its contract: its answer is the test of the rules.
 -- Assumes nothing.
 use Rattle.rules.specs.Contents.{within}
-use Rattle.rules.specs.Returns.{tests}
+use Rattle.rules.proofs.Returns.{tests}
 use Rattle.listener.proofs.between.Statement.{statement}
 use Rattle.listener.proofs.between.Tie as tie
 

@@ -2,7 +2,7 @@
 -- Assumes nothing.
 use mathlib.Core.Path.{refl, sym, _∙_}
 use Rattle.rules.specs.Judge.{inRange}
-use Rattle.rules.specs.Returns.{is-le, and-t, and-f}
+use Rattle.rules.proofs.Returns.{is-le, and-t, and-f}
 use borrow.Author.Needs.{needs}
 use Rattle.listener.proofs.in_range.Statement.{statement}
 use Rattle.listener.proofs.in_range.Tie as tie

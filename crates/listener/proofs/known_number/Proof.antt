@@ -2,7 +2,7 @@
 -- Assumes nothing.
 use mathlib.Core.Path.{refl, sym, _∙_}
 use Rattle.rules.specs.Judge.{given}
-use Rattle.rules.specs.Returns.{or-t, or-f, and-t, and-f, yes-eq, no-eq}
+use Rattle.rules.proofs.Returns.{or-t, or-f, and-t, and-f, yes-eq, no-eq}
 use borrow.Author.Needs.{needs}
 use Rattle.listener.proofs.known_number.Statement.{statement}
 use Rattle.listener.proofs.known_number.Tie as tie

@@ -4,7 +4,7 @@ use mathlib.Core.Path.{_≡_, sym, _∙_}
 use mathlib.Core.List.{List}
 use Prim.Native.Nat.{ℕ}
 use Rattle.rules.specs.Machine.{Machine, run}
-use Rattle.rules.specs.Returns.{pick-t, pick-f, T-of}
+use Rattle.rules.proofs.Returns.{pick-t, pick-f, T-of}
 use Rattle.rules.specs.declared.State.{State}
 use Rattle.rules.specs.declared.Book.{Book}
 use Rattle.rules.specs.declared.Fault.{Fault}

@@ -1,7 +1,7 @@
 -- `listener::onward` meets its contract: each stage has its function.
 -- Assumes nothing.
 use native.Mathlib.Omega.{arith}
-use Rattle.rules.specs.ContentLaw.{sound-rules}
+use Rattle.rules.proofs.ContentLaw.{sound-rules}
 use Rattle.listener.proofs.Bounds.{place-small}
 use Rattle.listener.proofs.Going.{one-step}
 use borrow.Author.Needs.{needs}
@@ -17,8 +17,8 @@ enum-told c = search needs
 at-kind-requires : tie.Need-at-kind-requires
 at-kind-requires c κs = place-small _ (sound-rules _) _ _ (c .before .before .before .before .pre .0)
 
-add-t19 : tie.Need-add-t19
-add-t19 c = search needs
+add-t20 : tie.Need-add-t20
+add-t20 c = search needs
 
 enum-told-2 : tie.Need-enum-told-2
 enum-told-2 c = search needs
@@ -26,8 +26,8 @@ enum-told-2 c = search needs
 at-size-requires : tie.Need-at-size-requires
 at-size-requires c κs = place-small _ (sound-rules _) _ _ (c .before .before .before .before .pre .0)
 
-add-t21 : tie.Need-add-t21
-add-t21 c = search needs
+add-t22 : tie.Need-add-t22
+add-t22 c = search needs
 
 enum-known-stage : tie.Need-enum-known-stage
 enum-known-stage c = search needs
@@ -35,8 +35,8 @@ enum-known-stage c = search needs
 at-header-requires : tie.Need-at-header-requires
 at-header-requires c κs = place-small _ (sound-rules _) _ _ (c .before .before .before .before .before .pre .0)
 
-add-t23 : tie.Need-add-t23
-add-t23 c = search needs
+add-t24 : tie.Need-add-t24
+add-t24 c = search needs
 
 enum-known-stage-2 : tie.Need-enum-known-stage-2
 enum-known-stage-2 c = search needs
@@ -44,26 +44,48 @@ enum-known-stage-2 c = search needs
 at-length-requires : tie.Need-at-length-requires
 at-length-requires c κs = place-small _ (sound-rules _) _ _ (c .before .before .before .before .before .pre .0)
 
-add-t25 : tie.Need-add-t25
-add-t25 c = search needs
+add-t26 : tie.Need-add-t26
+add-t26 c = search needs
 
 enum-known-stage-3 : tie.Need-enum-known-stage-3
 enum-known-stage-3 c = search needs
 
 along-requires : tie.Need-along-requires
-along-requires c κs = (rw (c .before .stage3 .given .1) at (c .before .before .before .before .before .pre .0), c .before .before .before .before .before .pre .1)
+along-requires c κs =
+    let start = c .before .before .before .before .before in
+    (rw (c .before .stage3 .given .1) at (start .pre .0), start .pre .1)
 
 returns : tie.Need-returns
-returns c = one-step _ (sound-rules _) _ _ _ _ _ (c .before .before .before .before .before .pre .0) (c .before .before .before .before .before .pre .1) (omega (arith, c .before .before .before .before .shared-slice-known .given (c .before .before .before .before .before .args .i))) (rw (c .before .enum-told .given .1) (c .at-kind .ensures))
+returns c =
+    let read = c .before .before .before .before in
+    let start = read .before in
+    one-step _ (sound-rules _) _ _ _ _ _ (start .pre .0) (start .pre .1)
+    (omega (arith, read .shared-slice-known .given (start .args .i)))
+    (rw (c .before .enum-told .given .1) (c .at-kind .ensures))
 
 returns-2 : tie.Need-returns-2
-returns-2 c = one-step _ (sound-rules _) _ _ _ _ _ (c .before .before .before .before .before .pre .0) (c .before .before .before .before .before .pre .1) (omega (arith, c .before .before .before .before .shared-slice-known .given (c .before .before .before .before .before .args .i))) (rw (c .before .enum-told2 .given .1) (c .at-size .ensures))
+returns-2 c =
+    let read = c .before .before .before .before in
+    let start = read .before in
+    one-step _ (sound-rules _) _ _ _ _ _ (start .pre .0) (start .pre .1)
+    (omega (arith, read .shared-slice-known .given (start .args .i)))
+    (rw (c .before .enum-told2 .given .1) (c .at-size .ensures))
 
 returns-3 : tie.Need-returns-3
-returns-3 c = one-step _ (sound-rules _) _ _ _ _ _ (c .before .before .before .before .before .before .pre .0) (c .before .before .before .before .before .before .pre .1) (omega (arith, c .before .before .before .before .before .shared-slice-known .given (c .before .before .before .before .before .before .args .i))) (rw (c .before .before .stage .given .1) (c .at-header .ensures))
+returns-3 c =
+    let read = c .before .before .before .before .before in
+    let start = read .before in
+    one-step _ (sound-rules _) _ _ _ _ _ (start .pre .0) (start .pre .1)
+    (omega (arith, read .shared-slice-known .given (start .args .i)))
+    (rw (c .before .before .stage .given .1) (c .at-header .ensures))
 
 returns-4 : tie.Need-returns-4
-returns-4 c = one-step _ (sound-rules _) _ _ _ _ _ (c .before .before .before .before .before .before .pre .0) (c .before .before .before .before .before .before .pre .1) (omega (arith, c .before .before .before .before .before .shared-slice-known .given (c .before .before .before .before .before .before .args .i))) (rw (c .before .before .stage2 .given .1) (c .at-length .ensures))
+returns-4 c =
+    let read = c .before .before .before .before .before in
+    let start = read .before in
+    one-step _ (sound-rules _) _ _ _ _ _ (start .pre .0) (start .pre .1)
+    (omega (arith, read .shared-slice-known .given (start .args .i)))
+    (rw (c .before .before .stage2 .given .1) (c .at-length .ensures))
 
 returns-5 : tie.Need-returns-5
 returns-5 c = rw (c .before .before .stage3 .given .1) (c .along .ensures)
@@ -75,16 +97,16 @@ onward-spec =
     shared-slice-read-x
     enum-told
     at-kind-requires
-    add-t19
+    add-t20
     enum-told-2
     at-size-requires
-    add-t21
+    add-t22
     enum-known-stage
     at-header-requires
-    add-t23
+    add-t24
     enum-known-stage-2
     at-length-requires
-    add-t25
+    add-t26
     enum-known-stage-3
     along-requires
     returns

@@ -28,16 +28,29 @@ enum-known-cur : tie.Need-enum-known-cur Inv-loop μ-loop
 enum-known-cur c = search needs
 
 onward-requires : tie.Need-onward-requires Inv-loop μ-loop
-onward-requires c κs = (subst (λ (w : State). T (inRange (rulesOf (c .before .before .before .before .before .before .args .book)) w)) (c .before .cur .given .1) (c .before .before .before .before .loop .inv .1), c .before .before .before .loop-test .taken)
+onward-requires c κs =
+    let turn = c .before .before .before .before in
+    let start = turn .before .before in (
+      subst (λ (w : State). T (inRange (rulesOf (start .args .book)) w)) (c .before .cur .given .1)
+          (turn .loop .inv .1),
+      c .before .before .before .loop-test .taken,
+    )
 
 loop-less : tie.Need-loop-less Inv-loop μ-loop
 loop-less c = omega (arith, c .onward .ensures .further, c .onward .ensures .inside)
 
 loop-again : tie.Need-loop-again Inv-loop μ-loop
 loop-again c =
+    let turn = c .before .before .before .before .before in
+    let start = turn .before .before in
     let on = c .onward .ensures in
-    let at = c .before .before .before .before .before .loop in
-    (on .inside, on .in-range, on .same ∙ ap (λ (w : State). runFrom (at .i) (machine (rulesOf (c .before .before .before .before .before .before .before .args .book))) w (drop (at .i) (c .before .before .before .before .before .before .before .args .octets .now))) (sym (c .before .before .cur .given .1)) ∙ at .inv .2)
+    let at = turn .loop in (
+      on .inside,
+      on .in-range,
+      on .same ∙ ap (λ (w : State). runFrom (at .i)
+          (machine (rulesOf (start .args .book))) w (drop (at .i) (start .args .octets .now)))
+          (sym (c .before .before .cur .given .1)) ∙ at .inv .2,
+    )
 
 enum-told : tie.Need-enum-told Inv-loop μ-loop
 enum-told c = search needs

@@ -3,7 +3,7 @@
 use mathlib.Core.Path.{refl}
 use native.Mathlib.Omega.{arith}
 use Rattle.rules.specs.Judge.{inRange}
-use Rattle.rules.specs.Returns.{is-eq, and-t, and-f, yes-le, no-le}
+use Rattle.rules.proofs.Returns.{is-eq, and-t, and-f, yes-le, no-le}
 use borrow.Author.Needs.{needs}
 use Rattle.listener.proofs.spot_in_range.Statement.{statement}
 use Rattle.listener.proofs.spot_in_range.Tie as tie

@@ -83,7 +83,16 @@ put-decimal-put-octet-requires-2 : (t : ℕ) → put-decimal-lts.Need-put-octet-
   put-decimal.Post,
 ) (put-decimal-at t) put-decimal.Post
 unfolding Room
-put-decimal-put-octet-requires-2 t c κs = omega (arith, decimal-long (c .before .before .before .before .before .before .before .args .n) (c .before .before .before .before .before .if1 .left), c .before .before .before .before .before .before .before .pre .1, c .before .before .before .put-decimal .ensures .ends, c .before .before .before .put-decimal .ensures .long)
+put-decimal-put-octet-requires-2 t c κs =
+    let branch = c .before .before .before .before .before in
+    let start = branch .before .before in
+    omega (
+      arith,
+      decimal-long (start .args .n) (branch .if1 .left),
+      start .pre .1,
+      c .before .before .before .put-decimal .ensures .ends,
+      c .before .before .before .put-decimal .ensures .long,
+    )
 
 put-decimal-same-length : (t : ℕ) → put-decimal-lts.Need-same-length (
   put-octet-reads.Asked,
@@ -99,7 +108,11 @@ put-decimal-returns : (t : ℕ) → put-decimal-lts.Need-returns (
   put-decimal-below t,
   put-decimal.Post,
 ) (put-decimal-at t) put-decimal.Post
-put-decimal-returns t c = put-same _ _ _ _ _ _ (sym (decimal-small (c .before .before .before .before .before .before .args .n) (c .before .before .before .before .if1 .taken))) (c .before .before .put-octet .ensures)
+put-decimal-returns t c =
+    let branch = c .before .before .before .before in
+    let start = branch .before .before in
+    put-same _ _ _ _ _ _ (sym (decimal-small (start .args .n) (branch .if1 .taken)))
+    (c .before .before .put-octet .ensures)
 
 put-decimal-same-length-2 : (t : ℕ) → put-decimal-lts.Need-same-length-2 (
   put-octet-reads.Asked,
@@ -107,7 +120,9 @@ put-decimal-same-length-2 : (t : ℕ) → put-decimal-lts.Need-same-length-2 (
   put-decimal-below t,
   put-decimal.Post,
 ) (put-decimal-at t) put-decimal.Post
-put-decimal-same-length-2 t c = c .before .before .put-octet2 .ensures .long ∙ c .before .before .before .before .before .before .put-decimal .ensures .long
+put-decimal-same-length-2 t c =
+    let after-put-decimal = c .before .before .before .before .before .before in
+    c .before .before .put-octet2 .ensures .long ∙ after-put-decimal .put-decimal .ensures .long
 
 put-decimal-returns-2 : (t : ℕ) → put-decimal-lts.Need-returns-2 (
   put-octet-reads.Asked,
@@ -115,7 +130,11 @@ put-decimal-returns-2 : (t : ℕ) → put-decimal-lts.Need-returns-2 (
   put-decimal-below t,
   put-decimal.Post,
 ) (put-decimal-at t) put-decimal.Post
-put-decimal-returns-2 t c = put-same _ _ _ _ _ _ (sym (decimal-big (c .before .before .before .before .before .before .before .before .before .before .args .n) (c .before .before .before .before .before .before .before .before .if1 .left))) (put-then _ _ _ _ _ _ _ _ (c .before .before .before .before .before .before .put-decimal .ensures) (c .before .before .put-octet2 .ensures))
+put-decimal-returns-2 t c =
+    let after-put-decimal = c .before .before .before .before .before .before in
+    let start = after-put-decimal .before .before .before .before in
+    put-same _ _ _ _ _ _ (sym (decimal-big (start .args .n) (after-put-decimal .before .before .if1 .left)))
+    (put-then _ _ _ _ _ _ _ _ (after-put-decimal .put-decimal .ensures) (c .before .before .put-octet2 .ensures))
 
 pub +put-decimal-spec : {M : Type 1} → statement M
 +put-decimal-spec = close μ-put-decimal λ t. put-decimal-lts.spec (

@@ -2,14 +2,15 @@
 -- Assumes nothing.
 use mathlib.Core.Path.{sym, _∙_}
 use native.Mathlib.Omega.{arith}
-use Rattle.message.specs.Searching.{found-inside}
-use Rattle.listing.proofs.Rows.{Counted, none-counted, counted-small, counted-more, counted-none, counted-end}
+use Rattle.message.proofs.Searching.{found-inside}
+use Rattle.listing.proofs.Rows.{CarriedSoFar}
+use Rattle.listing.proofs.Rows.{none-counted, counted-small, counted-more, counted-none, counted-end}
 use borrow.Author.Needs.{needs}
 use Rattle.listing.proofs.carried.Statement.{statement}
 use Rattle.listing.proofs.carried.Tie as tie
 
 abbrev Inv-loop : tie.InvT-loop
-Inv-loop octets count₀ at₀ turns₀ count at turns = Counted octets count at turns
+Inv-loop octets count₀ at₀ turns₀ count at turns = CarriedSoFar octets count at turns
 
 abbrev μ-loop : tie.MeasureT-loop
 μ-loop octets count₀ at₀ turns₀ count at turns = turns
@@ -27,7 +28,16 @@ one-if-carried-requires : tie.Need-one-if-carried-requires Inv-loop μ-loop
 one-if-carried-requires c κs = search needs
 
 add-count : tie.Need-add-count Inv-loop μ-loop
-add-count c = omega (arith, counted-small (c .before .before .before .before .before .before .before .before .args .octets .now) _ _ _ (c .before .before .before .before .before .before .loop .inv) (c .before .before .before .before .before .loop-test .taken) _ _ _ _ (sym (c .before .before .found .given .1) ∙ c .before .before .before .before .parameter .ensures) (c .one-if-carried .ensures))
+add-count c =
+    let after-parameter = c .before .before .before .before in
+    let turn = after-parameter .before in
+    let start = turn .before .before .before in
+    omega (
+      arith,
+      counted-small (start .args .octets .now) _ _ _ (turn .before .loop .inv) (turn .loop-test .taken)
+          _ _ _ _ (sym (c .before .before .found .given .1) ∙ after-parameter .parameter .ensures)
+          (c .one-if-carried .ensures),
+    )
 
 cast-at : tie.Need-cast-at Inv-loop μ-loop
 cast-at c = search needs
@@ -42,13 +52,22 @@ loop-less : tie.Need-loop-less Inv-loop μ-loop
 loop-less c = search needs
 
 loop-again : tie.Need-loop-again Inv-loop μ-loop
-loop-again c = counted-more (c .before .before .before .before .before .before .before .before .args .octets .now) _ _ _ (c .before .before .before .before .before .before .loop .inv) (c .before .before .before .before .before .loop-test .taken) _ _ _ _ (sym (c .before .before .found .given .1) ∙ c .before .before .before .before .parameter .ensures) (c .one-if-carried .ensures)
+loop-again c =
+    let after-parameter = c .before .before .before .before in
+    let turn = after-parameter .before in
+    let start = turn .before .before .before in
+    counted-more (start .args .octets .now) _ _ _ (turn .before .loop .inv) (turn .loop-test .taken) _ _ _ _
+    (sym (c .before .before .found .given .1) ∙ after-parameter .parameter .ensures) (c .one-if-carried .ensures)
 
 enum-told : tie.Need-enum-told Inv-loop μ-loop
 enum-told c = search needs
 
 returns : tie.Need-returns Inv-loop μ-loop
-returns c = counted-none (c .before .before .before .before .before .before .args .octets .now) _ _ _ (c .before .before .before .before .loop .inv) (c .before .before .before .loop-test .taken) (sym (c .enum-told .given .1) ∙ c .before .before .parameter .ensures)
+returns c =
+    let turn = c .before .before .before .before in
+    let start = turn .before .before in
+    counted-none (start .args .octets .now) _ _ _ (turn .loop .inv) (c .before .before .before .loop-test .taken)
+    (sym (c .enum-told .given .1) ∙ c .before .before .parameter .ensures)
 
 returns-2 : tie.Need-returns-2 Inv-loop μ-loop
 returns-2 c = counted-end (c .before .before .before .args .octets .now) _ _ _ (c .before .loop .inv) (c .loop-test .left)

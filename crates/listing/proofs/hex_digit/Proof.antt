@@ -1,7 +1,7 @@
 -- `listing::hex_digit` meets its contract.
 -- Assumes nothing.
 use Rattle.listing.specs.Numerals.{hexDigit}
-use Rattle.rules.specs.Returns.{tests}
+use Rattle.rules.proofs.Returns.{tests}
 use borrow.Author.Needs.{needs}
 use Rattle.listing.proofs.hex_digit.Statement.{statement}
 use Rattle.listing.proofs.hex_digit.Tie as tie

@@ -1,6 +1,6 @@
 -- `listing::one_if_carried` meets its contract.
 -- Assumes nothing.
-use Rattle.rules.specs.Returns.{tests}
+use Rattle.rules.proofs.Returns.{tests}
 use borrow.Author.Needs.{needs}
 use Rattle.listing.proofs.one_if_carried.Statement.{statement}
 use Rattle.listing.proofs.one_if_carried.Tie as tie

@@ -14,18 +14,30 @@ put-half-requires c κs = (omega arith, room-first _ _ _ _ _ (c .before .before 
 
 put-octet-requires : tie.Need-put-octet-requires
 unfolding clock ascii
-put-octet-requires c κs = room-second _ _ _ _ _ (c .before .before .before .before .before .before .before .pre) _ _ (c .before .before .before .put-half .ensures)
+put-octet-requires c κs =
+    let start = c .before .before .before .before .before .before .before in
+    room-second _ _ _ _ _ (start .pre) _ _ (c .before .before .before .put-half .ensures)
 
 put-half-requires-2 : tie.Need-put-half-requires-2
 unfolding clock ascii
-put-half-requires-2 c κs = (omega arith, room-third _ _ _ _ _ (c .before .before .before .before .before .before .before .before .before .before .before .pre) _ _ (c .before .before .before .before .before .before .before .put-half .ensures) _ _ (c .before .before .before .put-octet .ensures))
+put-half-requires-2 c κs =
+    let after-put-half = c .before .before .before .before .before .before .before in
+    let start = after-put-half .before .before .before .before in (
+      omega arith,
+      room-third _ _ _ _ _ (start .pre) _ _ (after-put-half .put-half .ensures) _ _
+          (c .before .before .before .put-octet .ensures),
+    )
 
 same-length : tie.Need-same-length
 same-length c = search needs
 
 returns : tie.Need-returns
 unfolding clock ascii
-returns c = put-three _ _ _ _ _ _ _ _ _ _ _ (c .before .before .before .before .before .before .before .before .before .before .put-half .ensures) (c .before .before .before .before .before .before .put-octet .ensures) (c .before .before .put-half2 .ensures)
+returns c =
+    let after-put-octet = c .before .before .before .before .before .before in
+    let after-put-half = after-put-octet .before .before .before .before in
+    put-three _ _ _ _ _ _ _ _ _ _ _ (after-put-half .put-half .ensures) (after-put-octet .put-octet .ensures)
+    (c .before .before .put-half2 .ensures)
 
 pub put-clock-spec : {M : Type 1} → statement M
 put-clock-spec =

@@ -40,7 +40,14 @@ same-length c = search needs
 
 returns : tie.Need-returns
 unfolding half
-returns c = put-same _ _ _ _ _ _ (λ i. (c .before .before .before .before .before .before .before .before .octet .ensures) i ∷ (c .before .before .before .before .before .before .before .octet2 .ensures) i ∷ (c .before .before .before .before .before .before .before .before .before .before .before .args .mark) ∷ (c .before .before .before .before .before .before .octet3 .ensures) i ∷ (c .before .before .before .before .before .octet4 .ensures) i ∷ []) (c .before .before .put .ensures)
+returns c =
+    let after-octet4 = c .before .before .before .before .before in
+    let start = after-octet4 .before .before .before .before .before .before in
+    put-same _ _ _ _ _ _
+    (λ i. (after-octet4 .before .before .before .octet .ensures) i
+    ∷ (after-octet4 .before .before .octet2 .ensures) i ∷ (start .args .mark)
+    ∷ (after-octet4 .before .octet3 .ensures) i ∷ (after-octet4 .octet4 .ensures) i ∷ [])
+    (c .before .before .put .ensures)
 
 pub put-half-spec : {M : Type 1} → statement M
 put-half-spec =

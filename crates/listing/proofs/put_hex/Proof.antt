@@ -25,7 +25,11 @@ same-length c = search needs
 
 returns : tie.Need-returns
 unfolding hex
-returns c = put-same _ _ _ _ _ _ (λ i. (c .before .before .before .before .before .before .hex-digit .ensures) i ∷ (c .before .before .before .before .before .hex-digit2 .ensures) i ∷ []) (c .before .before .put .ensures)
+returns c =
+    let after-hex-digit2 = c .before .before .before .before .before in
+    put-same _ _ _ _ _ _
+    (λ i. (after-hex-digit2 .before .hex-digit .ensures) i ∷ (after-hex-digit2 .hex-digit2 .ensures) i ∷ [])
+    (c .before .before .put .ensures)
 
 pub put-hex-spec : {M : Type 1} → statement M
 put-hex-spec =

@@ -19,21 +19,39 @@ put-state-requires c κs = room-same _ _ _ _ (ap stateWord (c .before .octet .en
 
 put-octet-requires : tie.Need-put-octet-requires
 unfolding ascii
-put-octet-requires c κs = room-second _ _ _ _ _ (c .before .before .before .before .before .before .before .before .pre) _ _ (put-same _ _ _ _ _ _ (ap stateWord (c .before .before .before .before .before .octet .ensures)) (c .before .before .before .put-state .ensures))
+put-octet-requires c κs =
+    let after-octet = c .before .before .before .before .before in
+    let start = after-octet .before .before .before in
+    room-second _ _ _ _ _ (start .pre) _ _
+    (put-same _ _ _ _ _ _ (ap stateWord (after-octet .octet .ensures)) (c .before .before .before .put-state .ensures))
 
 reference-of-requires : tie.Need-reference-of-requires
 reference-of-requires c κs = search needs
 
 put-decimal-requires : tie.Need-put-decimal-requires
 unfolding ascii
-put-decimal-requires c κs = room-same _ _ _ _ (ap decimal (c .before .reference-of .ensures)) (room-third _ _ _ _ _ (c .before .before .before .before .before .before .before .before .before .before .before .before .before .pre) _ _ (put-same _ _ _ _ _ _ (ap stateWord (c .before .before .before .before .before .before .before .before .before .before .octet .ensures)) (c .before .before .before .before .before .before .before .before .put-state .ensures)) _ _ (c .before .before .before .before .put-octet .ensures))
+put-decimal-requires c κs =
+    let after-put-octet = c .before .before .before .before in
+    let after-put-state = after-put-octet .before .before .before .before in
+    let start = after-put-state .before .before .before .before .before in
+    room-same _ _ _ _ (ap decimal (c .before .reference-of .ensures))
+    (room-third _ _ _ _ _ (start .pre) _ _ (put-same _ _ _ _ _ _
+    (ap stateWord (after-put-state .before .before .octet .ensures)) (after-put-state .put-state .ensures)) _ _
+    (after-put-octet .put-octet .ensures))
 
 same-length : tie.Need-same-length
 same-length c = search needs
 
 returns : tie.Need-returns
 unfolding ascii
-returns c = put-three _ _ _ _ _ _ _ _ _ _ _ (put-same _ _ _ _ _ _ (ap stateWord (c .before .before .before .before .before .before .before .before .before .before .before .before .before .octet .ensures)) (c .before .before .before .before .before .before .before .before .before .before .before .put-state .ensures)) (c .before .before .before .before .before .before .before .put-octet .ensures) (put-same _ _ _ _ _ _ (ap decimal (c .before .before .before .before .reference-of .ensures)) (c .before .before .put-decimal .ensures))
+returns c =
+    let after-reference-of = c .before .before .before .before in
+    let after-put-state = after-reference-of .before .before .before .before .before .before .before in
+    put-three _ _ _ _ _ _ _ _ _ _ _
+    (put-same _ _ _ _ _ _ (ap stateWord (after-put-state .before .before .octet .ensures))
+    (after-put-state .put-state .ensures)) (after-reference-of .before .before .before .put-octet .ensures)
+    (put-same _ _ _ _ _ _ (ap decimal (after-reference-of .reference-of .ensures))
+    (c .before .before .put-decimal .ensures))
 
 pub put-identity-spec : {M : Type 1} → statement M
 put-identity-spec =

@@ -38,7 +38,9 @@ same-length c = search needs
 
 returns : tie.Need-returns
 unfolding starts keys ascii
-returns c = put-same _ _ _ _ _ _ (key-at (c .before .before .before .before .before .before .args .i) (c .before .before .before .before .before .before .pre .0) .key) (c .before .before .put-part .ensures)
+returns c =
+    let start = c .before .before .before .before .before .before in
+    put-same _ _ _ _ _ _ (key-at (start .args .i) (start .pre .0) .key) (c .before .before .put-part .ensures)
 
 pub put-key-spec : {M : Type 1} → statement M
 put-key-spec =

@@ -15,13 +15,19 @@ octet-requires c κs = search needs
 
 put-kind-requires : tie.Need-put-kind-requires
 unfolding ascii
-put-kind-requires c κs = room-first _ _ _ _ _ (room-same _ _ _ _ (message-text (c .before .before .before .before .args .octets .now) _ _ (c .before .octet .ensures) refl) (c .before .before .before .before .pre))
+put-kind-requires c κs =
+    let start = c .before .before .before .before in
+    room-first _ _ _ _ _
+    (room-same _ _ _ _ (message-text (start .args .octets .now) _ _ (c .before .octet .ensures) refl) (start .pre))
 
 put-rows-requires : tie.Need-put-rows-requires
 unfolding ascii
 put-rows-requires c κs =
-    let start = c .before .before .before .before .before .before .before .before in
-    room-second _ _ _ _ _ (room-same _ _ _ _ (message-text (start .args .octets .now) _ _ (c .before .before .before .before .before .octet .ensures) refl) (start .pre)) _ _ (c .before .before .before .put-kind .ensures)
+    let after-octet = c .before .before .before .before .before in
+    let start = after-octet .before .before .before in
+    room-second _ _ _ _ _
+    (room-same _ _ _ _ (message-text (start .args .octets .now) _ _ (after-octet .octet .ensures) refl)
+    (start .pre)) _ _ (c .before .before .before .put-kind .ensures)
 
 slice-aggregate-put-number : tie.Need-slice-aggregate-put-number
 slice-aggregate-put-number c = search needs
@@ -32,15 +38,29 @@ carried-requires c κs = search needs
 put-number-requires : tie.Need-put-number-requires
 unfolding ascii
 put-number-requires c κs =
-    let start = c .before .before .before .before .before .before .before .before .before .before .before .before .before .before in
-    room-same _ _ _ _ (ap (numberLine (ascii "carried=")) (c .before .carried .ensures)) (room-third _ _ _ _ _ (room-same _ _ _ _ (message-text (start .args .octets .now) _ _ (c .before .before .before .before .before .before .before .before .before .before .before .octet .ensures) refl) (start .pre)) _ _ (c .before .before .before .before .before .before .before .before .before .put-kind .ensures) _ _ (c .before .before .before .before .before .put-rows .ensures))
+    let after-put-rows = c .before .before .before .before .before in
+    let after-put-kind = after-put-rows .before .before .before .before in
+    let start = after-put-kind .before .before .before .before .before in
+    room-same _ _ _ _ (ap (numberLine (ascii "carried=")) (c .before .carried .ensures))
+    (room-third _ _ _ _ _ (room-same _ _ _ _ (message-text (start .args .octets .now) _ _
+    (after-put-kind .before .before .octet .ensures) refl) (start .pre)) _ _ (after-put-kind .put-kind .ensures) _
+    _ (after-put-rows .put-rows .ensures))
 
 same-length : tie.Need-same-length
 same-length c = search needs
 
 returns : tie.Need-returns
 unfolding ascii
-returns c = put-same _ _ _ _ _ _ (message-text (c .before .before .before .before .before .before .before .before .before .before .before .before .before .before .before .before .before .args .octets .now) _ _ (c .before .before .before .before .before .before .before .before .before .before .before .before .before .before .octet .ensures) (c .before .before .before .before .carried .ensures)) (put-three _ _ _ _ _ _ _ _ _ _ _ (c .before .before .before .before .before .before .before .before .before .before .before .before .put-kind .ensures) (c .before .before .before .before .before .before .before .before .put-rows .ensures) (c .before .before .put-number .ensures))
+returns c =
+    let after-carried = c .before .before .before .before in
+    let after-put-rows = after-carried .before .before .before .before in
+    let after-put-kind = after-put-rows .before .before .before .before in
+    let start = after-put-kind .before .before .before .before .before in
+    put-same _ _ _ _ _ _
+    (message-text (start .args .octets .now) _ _ (after-put-kind .before .before .octet .ensures)
+    (after-carried .carried .ensures))
+    (put-three _ _ _ _ _ _ _ _ _ _ _ (after-put-kind .put-kind .ensures) (after-put-rows .put-rows .ensures)
+    (c .before .before .put-number .ensures))
 
 pub put-message-spec : {M : Type 1} → statement M
 put-message-spec =

@@ -17,7 +17,11 @@ cast-put-number c = search needs
 
 put-number-requires : tie.Need-put-number-requires
 unfolding ascii
-put-number-requires c κs = room-left (numberLine (ascii "refused=") (c .before .before .before .before .args .fault .number)) (numberLine (ascii "at=") (c .before .before .before .before .args .fault .place)) _ _ (room-same _ _ _ _ (refusal-text (c .before .before .before .before .args .fault)) (c .before .before .before .before .pre))
+put-number-requires c κs =
+    let start = c .before .before .before .before in
+    room-left (numberLine (ascii "refused=") (start .args .fault .number))
+    (numberLine (ascii "at=") (start .args .fault .place)) _ _
+    (room-same _ _ _ _ (refusal-text (start .args .fault)) (start .pre))
 
 slice-aggregate-put-number-2 : tie.Need-slice-aggregate-put-number-2
 slice-aggregate-put-number-2 c = search needs
@@ -25,15 +29,22 @@ slice-aggregate-put-number-2 c = search needs
 put-number-requires-2 : tie.Need-put-number-requires-2
 unfolding ascii
 put-number-requires-2 c κs =
-    let start = c .before .before .before .before .before .before .before .before .before in
-    room-then (numberLine (ascii "refused=") (start .args .fault .number)) (numberLine (ascii "at=") (start .args .fault .place)) _ _ _ _ (room-same _ _ _ _ (refusal-text (start .args .fault)) (start .pre)) (c .before .before .before .before .put-number .ensures)
+    let after-put-number = c .before .before .before .before in
+    let start = after-put-number .before .before .before .before .before in
+    room-then (numberLine (ascii "refused=") (start .args .fault .number))
+    (numberLine (ascii "at=") (start .args .fault .place)) _ _ _ _
+    (room-same _ _ _ _ (refusal-text (start .args .fault)) (start .pre)) (after-put-number .put-number .ensures)
 
 same-length : tie.Need-same-length
 same-length c = search needs
 
 returns : tie.Need-returns
 unfolding ascii
-returns c = put-same _ _ _ _ _ _ (refusal-text (c .before .before .before .before .before .before .before .before .before .before .before .before .args .fault)) (put-then _ _ _ _ _ _ _ _ (c .before .before .before .before .before .before .before .put-number .ensures) (c .before .before .put-number2 .ensures))
+returns c =
+    let after-put-number = c .before .before .before .before .before .before .before in
+    let start = after-put-number .before .before .before .before .before in
+    put-same _ _ _ _ _ _ (refusal-text (start .args .fault))
+    (put-then _ _ _ _ _ _ _ _ (after-put-number .put-number .ensures) (c .before .before .put-number2 .ensures))
 
 pub put-refusal-spec : {M : Type 1} → statement M
 put-refusal-spec =

@@ -23,7 +23,13 @@ cast-end c = search needs
 
 add-end : tie.Need-add-end
 unfolding kinds
-add-end c = omega (arith, part-inside (c .before .before .before .before .before .before .args .octets .now) _ _ _ _ (c .before .before .before .counted .ensures) (c .before .part .given .1))
+add-end c =
+    let start = c .before .before .before .before .before .before in
+    omega (
+      arith,
+      part-inside (start .args .octets .now) _ _ _ _ (c .before .before .before .counted .ensures)
+          (c .before .part .given .1),
+    )
 
 sub-put-line : tie.Need-sub-put-line
 sub-put-line c = search needs
@@ -33,13 +39,23 @@ part-put-line-start c = search needs
 
 part-put-line-end : tie.Need-part-put-line-end
 unfolding kinds
-part-put-line-end c = omega (arith, part-inside (c .before .before .before .before .before .before .args .octets .now) _ _ _ _ (c .before .before .before .counted .ensures) (c .before .part .given .1))
+part-put-line-end c =
+    let start = c .before .before .before .before .before .before in
+    omega (
+      arith,
+      part-inside (start .args .octets .now) _ _ _ _ (c .before .before .before .counted .ensures)
+          (c .before .part .given .1),
+    )
 
 put-line-requires : tie.Need-put-line-requires
 unfolding kinds
 put-line-requires c κs =
-    let start = c .before .before .before .before .before .before .before .before in
-    (start .pre .0, room-same _ _ _ _ (row-line (start .args .octets .now) (start .args .i) (start .pre .0) _ (c .before .before .before .before .before .counted .ensures) _ _ (c .before .before .before .part .given .1)) (start .pre .1))
+    let after-counted = c .before .before .before .before .before in
+    let start = after-counted .before .before .before in (
+      start .pre .0,
+      room-same _ _ _ _ (row-line (start .args .octets .now) (start .args .i) (start .pre .0) _
+          (after-counted .counted .ensures) _ _ (c .before .before .before .part .given .1)) (start .pre .1),
+    )
 
 enum-told : tie.Need-enum-told
 enum-told c = search needs
@@ -50,8 +66,12 @@ same-length c = search needs
 returns : tie.Need-returns
 unfolding kinds
 returns c =
-    let start = c .before .before .before .before .before .before .before .before .before .before .before in
-    put-same _ _ _ _ _ _ (row-line (start .args .octets .now) (start .args .i) (start .pre .0) _ (c .before .before .before .before .before .before .before .before .counted .ensures) _ _ (c .before .before .before .before .before .before .part .given .1)) (c .before .before .put-line .ensures)
+    let after-part = c .before .before .before .before .before .before in
+    let start = after-part .before .before .before .before .before in
+    put-same _ _ _ _ _ _
+    (row-line (start .args .octets .now) (start .args .i) (start .pre .0) _
+    (after-part .before .before .counted .ensures) _ _ (after-part .part .given .1))
+    (c .before .before .put-line .ensures)
 
 returns-2 : tie.Need-returns-2
 unfolding kinds

@@ -22,7 +22,12 @@ loop-holds : tie.Need-loop-holds Inv-loop μ-loop
 loop-holds c = (omega arith, no-rows (c .before .before .args .octets .now) _ _)
 
 put-row-requires : tie.Need-put-row-requires Inv-loop μ-loop
-put-row-requires c κs = (c .before .loop-test .taken, row-room (c .before .before .before .before .before .args .octets .now) _ _ _ (c .before .loop-test .taken) _ _ (c .before .before .loop .inv .1) (c .before .before .before .before .before .pre))
+put-row-requires c κs =
+    let start = c .before .before .before .before .before in (
+      c .before .loop-test .taken,
+      row-room (start .args .octets .now) _ _ _ (c .before .loop-test .taken) _ _
+          (c .before .before .loop .inv .1) (start .pre),
+    )
 
 add-i : tie.Need-add-i Inv-loop μ-loop
 add-i c = search needs
@@ -31,7 +36,13 @@ loop-less : tie.Need-loop-less Inv-loop μ-loop
 loop-less c = search needs
 
 loop-again : tie.Need-loop-again Inv-loop μ-loop
-loop-again c = (omega arith, row-more (c .before .before .before .before .before .before .before .before .args .octets .now) _ _ _ (c .before .before .before .before .loop-test .taken) _ _ (c .before .before .before .before .before .loop .inv .1) _ _ (c .before .before .put-row .ensures))
+loop-again c =
+    let turn = c .before .before .before .before in
+    let start = turn .before .before .before .before in (
+      omega arith,
+      row-more (start .args .octets .now) _ _ _ (turn .loop-test .taken) _ _
+          (turn .before .loop .inv .1) _ _ (c .before .before .put-row .ensures),
+    )
 
 same-length : tie.Need-same-length Inv-loop μ-loop
 same-length c = c .before .loop .inv .1 .long

@@ -12,7 +12,9 @@ slice-aggregate-put c = search needs
 
 put-requires : tie.Need-put-requires
 unfolding ascii
-put-requires c κs = room-same _ _ _ _ (is-unset (c .before .before .before .before .args .x) (c .before .before .if1 .taken)) (c .before .before .before .before .pre)
+put-requires c κs =
+    let start = c .before .before .before .before in
+    room-same _ _ _ _ (is-unset (start .args .x) (c .before .before .if1 .taken)) (start .pre)
 
 put-lamp-requires : tie.Need-put-lamp-requires
 put-lamp-requires c κs = room-same _ _ _ _ (is-set (c .before .before .before .args .x) (c .before .if1 .left)) (c .before .before .before .pre)
@@ -22,13 +24,19 @@ same-length c = search needs
 
 returns : tie.Need-returns
 unfolding ascii
-returns c = put-same _ _ _ _ _ _ (is-unset (c .before .before .before .before .before .before .before .args .x) (c .before .before .before .before .before .if1 .taken)) (c .before .before .put .ensures)
+returns c =
+    let branch = c .before .before .before .before .before in
+    let start = branch .before .before in
+    put-same _ _ _ _ _ _ (is-unset (start .args .x) (branch .if1 .taken)) (c .before .before .put .ensures)
 
 same-length-2 : tie.Need-same-length-2
 same-length-2 c = search needs
 
 returns-2 : tie.Need-returns-2
-returns-2 c = put-same _ _ _ _ _ _ (is-set (c .before .before .before .before .before .before .args .x) (c .before .before .before .before .if1 .left)) (c .before .before .put-lamp .ensures)
+returns-2 c =
+    let branch = c .before .before .before .before in
+    let start = branch .before .before in
+    put-same _ _ _ _ _ _ (is-set (start .args .x) (branch .if1 .left)) (c .before .before .put-lamp .ensures)
 
 pub put-state-spec : {M : Type 1} → statement M
 put-state-spec =

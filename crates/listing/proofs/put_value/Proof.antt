@@ -16,28 +16,40 @@ enum-told c = search needs
 
 put-clock-requires : tie.Need-put-clock-requires
 unfolding printed styleOf
-put-clock-requires c κs = room-same _ _ _ _ (ap (λ (k : Class). printed (styleOf k) (c .before .before .before .before .before .args .contents .now)) (sym (c .before .enum-told .given .1))) (c .before .before .before .before .before .pre)
+put-clock-requires c κs =
+    let start = c .before .before .before .before .before in
+    room-same _ _ _ _ (ap (λ (k : Class). printed (styleOf k) (start .args .contents .now))
+    (sym (c .before .enum-told .given .1))) (start .pre)
 
 enum-told-2 : tie.Need-enum-told-2
 enum-told-2 c = search needs
 
 put-requires : tie.Need-put-requires
 unfolding printed styleOf
-put-requires c κs = room-same _ _ _ _ (ap (λ (k : Class). printed (styleOf k) (c .before .before .before .before .before .args .contents .now)) (sym (c .before .enum-told2 .given .1))) (c .before .before .before .before .before .pre)
+put-requires c κs =
+    let start = c .before .before .before .before .before in
+    room-same _ _ _ _ (ap (λ (k : Class). printed (styleOf k) (start .args .contents .now))
+    (sym (c .before .enum-told2 .given .1))) (start .pre)
 
 enum-told-3 : tie.Need-enum-told-3
 enum-told-3 c = search needs
 
 put-requires-2 : tie.Need-put-requires-2
 unfolding printed styleOf
-put-requires-2 c κs = room-same _ _ _ _ (ap (λ (k : Class). printed (styleOf k) (c .before .before .before .before .before .args .contents .now)) (sym (c .before .enum-told3 .given .1))) (c .before .before .before .before .before .pre)
+put-requires-2 c κs =
+    let start = c .before .before .before .before .before in
+    room-same _ _ _ _ (ap (λ (k : Class). printed (styleOf k) (start .args .contents .now))
+    (sym (c .before .enum-told3 .given .1))) (start .pre)
 
 enum-told-4 : tie.Need-enum-told-4
 enum-told-4 c = search needs
 
 put-requires-3 : tie.Need-put-requires-3
 unfolding printed styleOf
-put-requires-3 c κs = room-same _ _ _ _ (ap (λ (k : Class). printed (styleOf k) (c .before .before .before .before .before .args .contents .now)) (sym (c .before .enum-told4 .given .1))) (c .before .before .before .before .before .pre)
+put-requires-3 c κs =
+    let start = c .before .before .before .before .before in
+    room-same _ _ _ _ (ap (λ (k : Class). printed (styleOf k) (start .args .contents .now))
+    (sym (c .before .enum-told4 .given .1))) (start .pre)
 
 enum-told-5 : tie.Need-enum-told-5
 enum-told-5 c = search needs
@@ -47,14 +59,21 @@ octet-requires c κs = search needs
 
 put-lamp-requires : tie.Need-put-lamp-requires
 unfolding printed styleOf
-put-lamp-requires c κs = room-same _ _ _ _ (ap lampWord (c .before .octet .ensures) ∙ ap (λ (k : Class). printed (styleOf k) (c .before .before .before .before .before .before .args .contents .now)) (sym (c .before .before .enum-told5 .given .1))) (c .before .before .before .before .before .before .pre)
+put-lamp-requires c κs =
+    let start = c .before .before .before .before .before .before in
+    room-same _ _ _ _ (ap lampWord (c .before .octet .ensures)
+    ∙ ap (λ (k : Class). printed (styleOf k) (start .args .contents .now))
+    (sym (c .before .before .enum-told5 .given .1))) (start .pre)
 
 enum-told-6 : tie.Need-enum-told-6
 enum-told-6 c = search needs
 
 put-identity-requires : tie.Need-put-identity-requires
 unfolding printed styleOf
-put-identity-requires c κs = room-same _ _ _ _ (ap (λ (k : Class). printed (styleOf k) (c .before .before .before .before .before .args .contents .now)) (sym (c .before .enum-told6 .given .1))) (c .before .before .before .before .before .pre)
+put-identity-requires c κs =
+    let start = c .before .before .before .before .before in
+    room-same _ _ _ _ (ap (λ (k : Class). printed (styleOf k) (start .args .contents .now))
+    (sym (c .before .enum-told6 .given .1))) (start .pre)
 
 enum-told-7 : tie.Need-enum-told-7
 enum-told-7 c = search needs
@@ -64,7 +83,11 @@ octet-requires-2 c κs = search needs
 
 put-hex-requires : tie.Need-put-hex-requires
 unfolding printed styleOf
-put-hex-requires c κs = room-same _ _ _ _ (ap hex (c .before .octet2 .ensures) ∙ ap (λ (k : Class). printed (styleOf k) (c .before .before .before .before .before .before .args .contents .now)) (sym (c .before .before .enum-told7 .given .1))) (c .before .before .before .before .before .before .pre)
+put-hex-requires c κs =
+    let start = c .before .before .before .before .before .before in
+    room-same _ _ _ _ (ap hex (c .before .octet2 .ensures)
+    ∙ ap (λ (k : Class). printed (styleOf k) (start .args .contents .now))
+    (sym (c .before .before .enum-told7 .given .1))) (start .pre)
 
 enum-told-8 : tie.Need-enum-told-8
 enum-told-8 c = search needs
@@ -77,7 +100,11 @@ cast-put-decimal c = search needs
 
 put-decimal-requires : tie.Need-put-decimal-requires
 unfolding printed styleOf
-put-decimal-requires c κs = room-same _ _ _ _ (ap decimal (c .before .octet3 .ensures) ∙ ap (λ (k : Class). printed (styleOf k) (c .before .before .before .before .before .before .args .contents .now)) (sym (c .before .before .enum-told8 .given .1))) (c .before .before .before .before .before .before .pre)
+put-decimal-requires c κs =
+    let start = c .before .before .before .before .before .before in
+    room-same _ _ _ _ (ap decimal (c .before .octet3 .ensures)
+    ∙ ap (λ (k : Class). printed (styleOf k) (start .args .contents .now))
+    (sym (c .before .before .enum-told8 .given .1))) (start .pre)
 
 enum-told-9 : tie.Need-enum-told-9
 enum-told-9 c = search needs
@@ -87,7 +114,11 @@ octet-requires-4 c κs = search needs
 
 put-hex-requires-2 : tie.Need-put-hex-requires-2
 unfolding printed styleOf
-put-hex-requires-2 c κs = room-same _ _ _ _ (ap hex (c .before .octet4 .ensures) ∙ ap (λ (k : Class). printed (styleOf k) (c .before .before .before .before .before .before .args .contents .now)) (sym (c .before .before .enum-told9 .given .1))) (c .before .before .before .before .before .before .pre)
+put-hex-requires-2 c κs =
+    let start = c .before .before .before .before .before .before in
+    room-same _ _ _ _ (ap hex (c .before .octet4 .ensures)
+    ∙ ap (λ (k : Class). printed (styleOf k) (start .args .contents .now))
+    (sym (c .before .before .enum-told9 .given .1))) (start .pre)
 
 enum-told-10 : tie.Need-enum-told-10
 enum-told-10 c = search needs
@@ -97,7 +128,11 @@ octet-requires-5 c κs = search needs
 
 put-hex-requires-3 : tie.Need-put-hex-requires-3
 unfolding printed styleOf
-put-hex-requires-3 c κs = room-same _ _ _ _ (ap hex (c .before .octet5 .ensures) ∙ ap (λ (k : Class). printed (styleOf k) (c .before .before .before .before .before .before .args .contents .now)) (sym (c .before .before .enum-told10 .given .1))) (c .before .before .before .before .before .before .pre)
+put-hex-requires-3 c κs =
+    let start = c .before .before .before .before .before .before in
+    room-same _ _ _ _ (ap hex (c .before .octet5 .ensures)
+    ∙ ap (λ (k : Class). printed (styleOf k) (start .args .contents .now))
+    (sym (c .before .before .enum-told10 .given .1))) (start .pre)
 
 enum-told-11 : tie.Need-enum-told-11
 enum-told-11 c = search needs
@@ -107,14 +142,20 @@ enum-told-12 c = search needs
 
 put-requires-4 : tie.Need-put-requires-4
 unfolding printed styleOf
-put-requires-4 c κs = room-same _ _ _ _ (ap (λ (k : Class). printed (styleOf k) (c .before .before .before .before .before .args .contents .now)) (sym (c .before .enum-told12 .given .1))) (c .before .before .before .before .before .pre)
+put-requires-4 c κs =
+    let start = c .before .before .before .before .before in
+    room-same _ _ _ _ (ap (λ (k : Class). printed (styleOf k) (start .args .contents .now))
+    (sym (c .before .enum-told12 .given .1))) (start .pre)
 
 enum-told-13 : tie.Need-enum-told-13
 enum-told-13 c = search needs
 
 put-requires-5 : tie.Need-put-requires-5
 unfolding printed styleOf
-put-requires-5 c κs = room-same _ _ _ _ (ap (λ (k : Class). printed (styleOf k) (c .before .before .before .before .before .args .contents .now)) (sym (c .before .enum-told13 .given .1))) (c .before .before .before .before .before .pre)
+put-requires-5 c κs =
+    let start = c .before .before .before .before .before in
+    room-same _ _ _ _ (ap (λ (k : Class). printed (styleOf k) (start .args .contents .now))
+    (sym (c .before .enum-told13 .given .1))) (start .pre)
 
 enum-told-14 : tie.Need-enum-told-14
 enum-told-14 c = search needs
@@ -124,7 +165,11 @@ octet-requires-6 c κs = search needs
 
 put-hex-requires-4 : tie.Need-put-hex-requires-4
 unfolding printed styleOf
-put-hex-requires-4 c κs = room-same _ _ _ _ (ap hex (c .before .octet6 .ensures) ∙ ap (λ (k : Class). printed (styleOf k) (c .before .before .before .before .before .before .args .contents .now)) (sym (c .before .before .enum-told14 .given .1))) (c .before .before .before .before .before .before .pre)
+put-hex-requires-4 c κs =
+    let start = c .before .before .before .before .before .before in
+    room-same _ _ _ _ (ap hex (c .before .octet6 .ensures)
+    ∙ ap (λ (k : Class). printed (styleOf k) (start .args .contents .now))
+    (sym (c .before .before .enum-told14 .given .1))) (start .pre)
 
 enum-told-15 : tie.Need-enum-told-15
 enum-told-15 c = search needs
@@ -134,7 +179,11 @@ octet-requires-7 c κs = search needs
 
 put-hex-requires-5 : tie.Need-put-hex-requires-5
 unfolding printed styleOf
-put-hex-requires-5 c κs = room-same _ _ _ _ (ap hex (c .before .octet7 .ensures) ∙ ap (λ (k : Class). printed (styleOf k) (c .before .before .before .before .before .before .args .contents .now)) (sym (c .before .before .enum-told15 .given .1))) (c .before .before .before .before .before .before .pre)
+put-hex-requires-5 c κs =
+    let start = c .before .before .before .before .before .before in
+    room-same _ _ _ _ (ap hex (c .before .octet7 .ensures)
+    ∙ ap (λ (k : Class). printed (styleOf k) (start .args .contents .now))
+    (sym (c .before .before .enum-told15 .given .1))) (start .pre)
 
 enum-told-16 : tie.Need-enum-told-16
 enum-told-16 c = search needs
@@ -144,70 +193,122 @@ same-length c = search needs
 
 returns : tie.Need-returns
 unfolding printed styleOf
-returns c = put-same _ _ _ _ _ _ (ap (λ (k : Class). printed (styleOf k) (c .before .before .before .before .before .before .before .before .args .contents .now)) (sym (c .before .before .before .before .enum-told .given .1))) (c .before .before .put-clock .ensures)
+returns c =
+    let arm = c .before .before .before .before in
+    let start = arm .before .before .before .before in
+    put-same _ _ _ _ _ _
+    (ap (λ (k : Class). printed (styleOf k) (start .args .contents .now)) (sym (arm .enum-told .given .1)))
+    (c .before .before .put-clock .ensures)
 
 same-length-2 : tie.Need-same-length-2
 same-length-2 c = search needs
 
 returns-2 : tie.Need-returns-2
 unfolding printed styleOf
-returns-2 c = put-same _ _ _ _ _ _ (ap (λ (k : Class). printed (styleOf k) (c .before .before .before .before .before .before .before .before .args .contents .now)) (sym (c .before .before .before .before .enum-told2 .given .1))) (c .before .before .put .ensures)
+returns-2 c =
+    let arm = c .before .before .before .before in
+    let start = arm .before .before .before .before in
+    put-same _ _ _ _ _ _
+    (ap (λ (k : Class). printed (styleOf k) (start .args .contents .now)) (sym (arm .enum-told2 .given .1)))
+    (c .before .before .put .ensures)
 
 same-length-3 : tie.Need-same-length-3
 same-length-3 c = search needs
 
 returns-3 : tie.Need-returns-3
 unfolding printed styleOf
-returns-3 c = put-same _ _ _ _ _ _ (ap (λ (k : Class). printed (styleOf k) (c .before .before .before .before .before .before .before .before .args .contents .now)) (sym (c .before .before .before .before .enum-told3 .given .1))) (c .before .before .put2 .ensures)
+returns-3 c =
+    let arm = c .before .before .before .before in
+    let start = arm .before .before .before .before in
+    put-same _ _ _ _ _ _
+    (ap (λ (k : Class). printed (styleOf k) (start .args .contents .now)) (sym (arm .enum-told3 .given .1)))
+    (c .before .before .put2 .ensures)
 
 same-length-4 : tie.Need-same-length-4
 same-length-4 c = search needs
 
 returns-4 : tie.Need-returns-4
 unfolding printed styleOf
-returns-4 c = put-same _ _ _ _ _ _ (ap (λ (k : Class). printed (styleOf k) (c .before .before .before .before .before .before .before .before .args .contents .now)) (sym (c .before .before .before .before .enum-told4 .given .1))) (c .before .before .put3 .ensures)
+returns-4 c =
+    let arm = c .before .before .before .before in
+    let start = arm .before .before .before .before in
+    put-same _ _ _ _ _ _
+    (ap (λ (k : Class). printed (styleOf k) (start .args .contents .now)) (sym (arm .enum-told4 .given .1)))
+    (c .before .before .put3 .ensures)
 
 same-length-5 : tie.Need-same-length-5
 same-length-5 c = search needs
 
 returns-5 : tie.Need-returns-5
 unfolding printed styleOf
-returns-5 c = put-same _ _ _ _ _ _ (ap lampWord (c .before .before .before .before .octet .ensures) ∙ ap (λ (k : Class). printed (styleOf k) (c .before .before .before .before .before .before .before .before .before .args .contents .now)) (sym (c .before .before .before .before .before .enum-told5 .given .1))) (c .before .before .put-lamp .ensures)
+returns-5 c =
+    let after-octet = c .before .before .before .before in
+    let start = after-octet .before .before .before .before .before in
+    put-same _ _ _ _ _ _
+    (ap lampWord (after-octet .octet .ensures) ∙ ap (λ (k : Class). printed (styleOf k)
+    (start .args .contents .now)) (sym (after-octet .before .enum-told5 .given .1)))
+    (c .before .before .put-lamp .ensures)
 
 same-length-6 : tie.Need-same-length-6
 same-length-6 c = search needs
 
 returns-6 : tie.Need-returns-6
 unfolding printed styleOf
-returns-6 c = put-same _ _ _ _ _ _ (ap (λ (k : Class). printed (styleOf k) (c .before .before .before .before .before .before .before .before .args .contents .now)) (sym (c .before .before .before .before .enum-told6 .given .1))) (c .before .before .put-identity .ensures)
+returns-6 c =
+    let arm = c .before .before .before .before in
+    let start = arm .before .before .before .before in
+    put-same _ _ _ _ _ _
+    (ap (λ (k : Class). printed (styleOf k) (start .args .contents .now)) (sym (arm .enum-told6 .given .1)))
+    (c .before .before .put-identity .ensures)
 
 same-length-7 : tie.Need-same-length-7
 same-length-7 c = search needs
 
 returns-7 : tie.Need-returns-7
 unfolding printed styleOf
-returns-7 c = put-same _ _ _ _ _ _ (ap hex (c .before .before .before .before .octet2 .ensures) ∙ ap (λ (k : Class). printed (styleOf k) (c .before .before .before .before .before .before .before .before .before .args .contents .now)) (sym (c .before .before .before .before .before .enum-told7 .given .1))) (c .before .before .put-hex .ensures)
+returns-7 c =
+    let after-octet2 = c .before .before .before .before in
+    let start = after-octet2 .before .before .before .before .before in
+    put-same _ _ _ _ _ _
+    (ap hex (after-octet2 .octet2 .ensures) ∙ ap (λ (k : Class). printed (styleOf k) (start .args .contents .now))
+    (sym (after-octet2 .before .enum-told7 .given .1))) (c .before .before .put-hex .ensures)
 
 same-length-8 : tie.Need-same-length-8
 same-length-8 c = search needs
 
 returns-8 : tie.Need-returns-8
 unfolding printed styleOf
-returns-8 c = put-same _ _ _ _ _ _ (ap decimal (c .before .before .before .before .octet3 .ensures) ∙ ap (λ (k : Class). printed (styleOf k) (c .before .before .before .before .before .before .before .before .before .args .contents .now)) (sym (c .before .before .before .before .before .enum-told8 .given .1))) (c .before .before .put-decimal .ensures)
+returns-8 c =
+    let after-octet3 = c .before .before .before .before in
+    let start = after-octet3 .before .before .before .before .before in
+    put-same _ _ _ _ _ _
+    (ap decimal (after-octet3 .octet3 .ensures) ∙ ap (λ (k : Class). printed (styleOf k)
+    (start .args .contents .now)) (sym (after-octet3 .before .enum-told8 .given .1)))
+    (c .before .before .put-decimal .ensures)
 
 same-length-9 : tie.Need-same-length-9
 same-length-9 c = search needs
 
 returns-9 : tie.Need-returns-9
 unfolding printed styleOf
-returns-9 c = put-same _ _ _ _ _ _ (ap hex (c .before .before .before .before .octet4 .ensures) ∙ ap (λ (k : Class). printed (styleOf k) (c .before .before .before .before .before .before .before .before .before .args .contents .now)) (sym (c .before .before .before .before .before .enum-told9 .given .1))) (c .before .before .put-hex2 .ensures)
+returns-9 c =
+    let after-octet4 = c .before .before .before .before in
+    let start = after-octet4 .before .before .before .before .before in
+    put-same _ _ _ _ _ _
+    (ap hex (after-octet4 .octet4 .ensures) ∙ ap (λ (k : Class). printed (styleOf k) (start .args .contents .now))
+    (sym (after-octet4 .before .enum-told9 .given .1))) (c .before .before .put-hex2 .ensures)
 
 same-length-10 : tie.Need-same-length-10
 same-length-10 c = search needs
 
 returns-10 : tie.Need-returns-10
 unfolding printed styleOf
-returns-10 c = put-same _ _ _ _ _ _ (ap hex (c .before .before .before .before .octet5 .ensures) ∙ ap (λ (k : Class). printed (styleOf k) (c .before .before .before .before .before .before .before .before .before .args .contents .now)) (sym (c .before .before .before .before .before .enum-told10 .given .1))) (c .before .before .put-hex3 .ensures)
+returns-10 c =
+    let after-octet5 = c .before .before .before .before in
+    let start = after-octet5 .before .before .before .before .before in
+    put-same _ _ _ _ _ _
+    (ap hex (after-octet5 .octet5 .ensures) ∙ ap (λ (k : Class). printed (styleOf k) (start .args .contents .now))
+    (sym (after-octet5 .before .enum-told10 .given .1))) (c .before .before .put-hex3 .ensures)
 
 returns-11 : tie.Need-returns-11
 unfolding printed styleOf
@@ -218,28 +319,48 @@ same-length-11 c = search needs
 
 returns-12 : tie.Need-returns-12
 unfolding printed styleOf
-returns-12 c = put-same _ _ _ _ _ _ (ap (λ (k : Class). printed (styleOf k) (c .before .before .before .before .before .before .before .before .args .contents .now)) (sym (c .before .before .before .before .enum-told12 .given .1))) (c .before .before .put4 .ensures)
+returns-12 c =
+    let arm = c .before .before .before .before in
+    let start = arm .before .before .before .before in
+    put-same _ _ _ _ _ _
+    (ap (λ (k : Class). printed (styleOf k) (start .args .contents .now)) (sym (arm .enum-told12 .given .1)))
+    (c .before .before .put4 .ensures)
 
 same-length-12 : tie.Need-same-length-12
 same-length-12 c = search needs
 
 returns-13 : tie.Need-returns-13
 unfolding printed styleOf
-returns-13 c = put-same _ _ _ _ _ _ (ap (λ (k : Class). printed (styleOf k) (c .before .before .before .before .before .before .before .before .args .contents .now)) (sym (c .before .before .before .before .enum-told13 .given .1))) (c .before .before .put5 .ensures)
+returns-13 c =
+    let arm = c .before .before .before .before in
+    let start = arm .before .before .before .before in
+    put-same _ _ _ _ _ _
+    (ap (λ (k : Class). printed (styleOf k) (start .args .contents .now)) (sym (arm .enum-told13 .given .1)))
+    (c .before .before .put5 .ensures)
 
 same-length-13 : tie.Need-same-length-13
 same-length-13 c = search needs
 
 returns-14 : tie.Need-returns-14
 unfolding printed styleOf
-returns-14 c = put-same _ _ _ _ _ _ (ap hex (c .before .before .before .before .octet6 .ensures) ∙ ap (λ (k : Class). printed (styleOf k) (c .before .before .before .before .before .before .before .before .before .args .contents .now)) (sym (c .before .before .before .before .before .enum-told14 .given .1))) (c .before .before .put-hex4 .ensures)
+returns-14 c =
+    let after-octet6 = c .before .before .before .before in
+    let start = after-octet6 .before .before .before .before .before in
+    put-same _ _ _ _ _ _
+    (ap hex (after-octet6 .octet6 .ensures) ∙ ap (λ (k : Class). printed (styleOf k) (start .args .contents .now))
+    (sym (after-octet6 .before .enum-told14 .given .1))) (c .before .before .put-hex4 .ensures)
 
 same-length-14 : tie.Need-same-length-14
 same-length-14 c = search needs
 
 returns-15 : tie.Need-returns-15
 unfolding printed styleOf
-returns-15 c = put-same _ _ _ _ _ _ (ap hex (c .before .before .before .before .octet7 .ensures) ∙ ap (λ (k : Class). printed (styleOf k) (c .before .before .before .before .before .before .before .before .before .args .contents .now)) (sym (c .before .before .before .before .before .enum-told15 .given .1))) (c .before .before .put-hex5 .ensures)
+returns-15 c =
+    let after-octet7 = c .before .before .before .before in
+    let start = after-octet7 .before .before .before .before .before in
+    put-same _ _ _ _ _ _
+    (ap hex (after-octet7 .octet7 .ensures) ∙ ap (λ (k : Class). printed (styleOf k) (start .args .contents .now))
+    (sym (after-octet7 .before .enum-told15 .given .1))) (c .before .before .put-hex5 .ensures)
 
 returns-16 : tie.Need-returns-16
 unfolding printed styleOf

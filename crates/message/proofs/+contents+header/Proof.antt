@@ -1,5 +1,5 @@
--- `message::header` and `message::contents` meet their contracts, which call each other while the room falls: a header's measure is twice its room,
--- contents' twice the room after them and one more. Assumes nothing.
+-- `message::header` and `message::contents` meet their contracts, which call each other while the room falls: a
+-- header's measure is twice its room, contents' twice the room after them and one more. Assumes nothing.
 use native.Mathlib.Omega.{arith}
 use borrow.Author.Needs.{needs}
 use Rattle.message.proofs.Calls.{head-good, head-wrong, head-short, head-fits, body-fine, body-wrong, body-short}
@@ -91,7 +91,9 @@ contents-returns : (t : ℕ) → contents-lts.Need-returns (
   header-below t,
   header.Post,
 ) (contents-at t) contents.Post
-contents-returns t c = body-fine _ _ _ _ _ _ (c .before .before .before .before .inside .ensures _) _ _ (c .before .before .went .given .1) (c .header .ensures)
+contents-returns t c =
+    body-fine _ _ _ _ _ _ (c .before .before .before .before .inside .ensures _) _ _
+    (c .before .before .went .given .1) (c .header .ensures)
 
 contents-returns-2 : (t : ℕ) → contents-lts.Need-returns-2 (
   inside-reads.Asked,
@@ -99,7 +101,8 @@ contents-returns-2 : (t : ℕ) → contents-lts.Need-returns-2 (
   header-below t,
   header.Post,
 ) (contents-at t) contents.Post
-contents-returns-2 t c = body-wrong _ _ _ _ _ _ (c .before .before .before .inside .ensures _) _ (c .before .went2 .given .1)
+contents-returns-2 t c =
+    body-wrong _ _ _ _ _ _ (c .before .before .before .inside .ensures _) _ (c .before .went2 .given .1)
 
 contents-returns-3 : (t : ℕ) → contents-lts.Need-returns-3 (
   inside-reads.Asked,
@@ -167,7 +170,8 @@ header-contents-requires : (t : ℕ) → header-lts.Need-contents-requires (
   contents-below t,
   contents.Post,
 ) (header-at t) header.Post
-header-contents-requires t c κs = omega (arith, head-fits _ _ _ _ _ _ (c .before .before .before .ahead .ensures .1) (c .before .found .given .1))
+header-contents-requires t c κs =
+    omega (arith, head-fits _ _ _ _ _ _ (c .before .before .before .ahead .ensures .1) (c .before .found .given .1))
 
 header-enum-known-found-2 : (t : ℕ) → header-lts.Need-enum-known-found-2 (
   check-reads.Asked,
@@ -197,7 +201,9 @@ header-returns-2 : (t : ℕ) → header-lts.Need-returns-2 (
   contents-below t,
   contents.Post,
 ) (header-at t) header.Post
-header-returns-2 t c = head-good _ _ _ _ _ (c .before .before .before .before .ahead .ensures .0) _ _ _ _ _ (c .before .before .found .given .1) (c .contents .ensures)
+header-returns-2 t c =
+    head-good _ _ _ _ _ (c .before .before .before .before .ahead .ensures .0) _ _ _ _ _
+    (c .before .before .found .given .1) (c .contents .ensures)
 
 header-returns-3 : (t : ℕ) → header-lts.Need-returns-3 (
   check-reads.Asked,
@@ -207,7 +213,8 @@ header-returns-3 : (t : ℕ) → header-lts.Need-returns-3 (
   contents-below t,
   contents.Post,
 ) (header-at t) header.Post
-header-returns-3 t c = head-wrong _ _ _ _ _ (c .before .before .before .ahead .ensures .0) _ (c .before .found2 .given .1)
+header-returns-3 t c =
+    head-wrong _ _ _ _ _ (c .before .before .before .ahead .ensures .0) _ (c .before .found2 .given .1)
 
 header-returns-4 : (t : ℕ) → header-lts.Need-returns-4 (
   check-reads.Asked,

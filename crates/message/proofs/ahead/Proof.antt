@@ -38,11 +38,24 @@ cast-t17 : tie.Need-cast-t17
 cast-t17 c = search needs
 
 returns-2 : tie.Need-returns-2
-returns-2 c = (type-on _ _ _ _ _ _ (λ z. omega arith) (c .before .before .before .before .before .before .if1 .left) (c .before .before .before .before .class-of .ensures) _ (c .before .wrapping-add-u8 .ensures) (sym (c .before .before .before .possible .ensures) ∙ c .before .before .if2 .taken) ∙ c .length-at .ensures .0 _ ∙ two-on _ _ _ _, c .length-at .ensures .1)
+returns-2 c =
+    let after-class-of = c .before .before .before .before in (
+      type-on _ _ _ _ _ _ (λ z. omega arith) (after-class-of .before .before .if1 .left)
+          (after-class-of .class-of .ensures) _ (c .before .wrapping-add-u8 .ensures)
+          (sym (c .before .before .before .possible .ensures) ∙ c .before .before .if2 .taken)
+          ∙ c .length-at .ensures .0
+          _ ∙ two-on _ _ _ _,
+      c .length-at .ensures .1,
+    )
 
 returns-3 : tie.Need-returns-3
 unfolding onHead HeadFits
-returns-3 c = (type-spoils _ _ _ _ _ _ (λ z. omega arith) (c .before .before .before .before .before .if1 .left) (c .before .before .before .class-of .ensures) _ (c .class-fault .ensures) (sym (c .before .before .possible .ensures) ∙ c .before .if2 .left), tt)
+returns-3 c = (
+  type-spoils _ _ _ _ _ _ (λ z. omega arith) (c .before .before .before .before .before .if1 .left)
+      (c .before .before .before .class-of .ensures) _ (c .class-fault .ensures)
+      (sym (c .before .before .possible .ensures) ∙ c .before .if2 .left),
+  tt,
+)
 
 pub ahead-spec : {M : Type 1} → statement M
 ahead-spec =

@@ -30,10 +30,15 @@ noted-requires : tie.Need-noted-requires
 noted-requires c κs = search needs
 
 returns-2 : tie.Need-returns-2
-returns-2 c R = sym (sealed R _ _ _ _ (c .before .wrapping-sub-u8 .ensures) (omega arith) (omega arith) (c .before .before .before .if1 .left) (c .if2 .taken))
+returns-2 c R =
+    sym (sealed R _ _ _ _ (c .before .wrapping-sub-u8 .ensures) (omega arith) (omega arith)
+    (c .before .before .before .if1 .left) (c .if2 .taken))
 
 returns-3 : tie.Need-returns-3
-returns-3 c R = ap Spoilt (c .noted .ensures) ∙ sym (not-sealed R _ _ _ _ (c .before .before .wrapping-sub-u8 .ensures) (omega arith) (omega arith) (c .before .before .before .before .if1 .left) (c .before .if2 .left))
+returns-3 c R =
+    ap Spoilt (c .noted .ensures)
+    ∙ sym (not-sealed R _ _ _ _ (c .before .before .wrapping-sub-u8 .ensures) (omega arith) (omega arith)
+    (c .before .before .before .before .if1 .left) (c .before .if2 .left))
 
 pub check-spec : {M : Type 1} → statement M
 check-spec =

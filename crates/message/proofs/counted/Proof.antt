@@ -1,7 +1,7 @@
 -- `message::counted` meets its contract: a listed type is searched for with its rival; any other never counts.
 -- Assumes nothing.
 use mathlib.Core.Path.{refl, sym, _∙_}
-use Rattle.rules.specs.Returns.{pick-t, pick-f}
+use Rattle.rules.proofs.Returns.{pick-t, pick-f}
 use Rattle.message.specs.Walking.{countedAt}
 use borrow.Author.Needs.{needs}
 use Rattle.message.proofs.counted.Statement.{statement}
@@ -18,7 +18,9 @@ search-requires c κs = search needs
 
 returns : tie.Need-returns
 unfolding countedAt
-returns c = pick-t _ _ _ _ (sym (c .before .before .before .is-listed .ensures) ∙ c .before .before .if1 .taken) (rw (c .before .rival-of .ensures) at (c .search .ensures))
+returns c =
+    pick-t _ _ _ _ (sym (c .before .before .before .is-listed .ensures) ∙ c .before .before .if1 .taken)
+    (rw (c .before .rival-of .ensures) at (c .search .ensures))
 
 returns-2 : tie.Need-returns-2
 unfolding countedAt

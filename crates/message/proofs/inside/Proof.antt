@@ -1,9 +1,9 @@
--- `message::inside` meets its contract. The loop's invariant: what the contents lead to is what they lead to from the octets read so far.
--- The measure is what is left of the length. Assumes nothing.
+-- `message::inside` meets its contract. The loop's invariant: what the contents lead to is what they lead to from the
+-- octets read so far. The measure is what is left of the length. Assumes nothing.
 use Prim.Native.Nat.{_≤_, _-_}
 use native.Mathlib.Omega.{arith}
 use Rattle.rules.specs.Table.{Rules}
-use Rattle.rules.specs.Returns.{via}
+use Rattle.rules.proofs.Returns.{via}
 use Rattle.message.specs.Verdict.{onBody}
 use Rattle.message.proofs.Turns.{Read, none-read, one-more, all-read, cut-short, content-spoils}
 use borrow.Author.Needs.{needs}
@@ -11,7 +11,8 @@ use Rattle.message.proofs.inside.Statement.{statement}
 use Rattle.message.proofs.inside.Tie as tie
 
 abbrev Inv-loop : tie.InvT-loop
-Inv-loop s at class length room sum total₀ memory₀ index₀ total memory index = (index ≤ length) × ((R : Rules) → Read R s class length room sum at index memory total)
+Inv-loop s at class length room sum total₀ memory₀ index₀ total memory index =
+    (index ≤ length) × ((R : Rules) → Read R s class length room sum at index memory total)
 
 abbrev μ-loop : tie.MeasureT-loop
 μ-loop s at class length room sum total₀ memory₀ index₀ total memory index = length - index
@@ -27,7 +28,8 @@ add-i c = search needs
 
 returns : tie.Need-returns Inv-loop μ-loop
 unfolding onBody
-returns c R = cut-short R _ _ _ _ _ _ _ _ _ (c .before .loop-test .taken) (c .if1 .taken) (c .before .before .loop .inv .1 R)
+returns c R =
+    cut-short R _ _ _ _ _ _ _ _ _ (c .before .loop-test .taken) (c .if1 .taken) (c .before .before .loop .inv .1 R)
 
 shared-slice-read-x : tie.Need-shared-slice-read-x Inv-loop μ-loop
 shared-slice-read-x c = search needs
@@ -49,9 +51,13 @@ loop-less c = search needs
 
 loop-again : tie.Need-loop-again Inv-loop μ-loop
 loop-again c =
-    let at = c .before .before .before .before .before .before .before .loop in (
+    let branch = c .before .before .before .before .before in
+    let turn = branch .before in
+    let at = turn .before .loop in (
       search needs,
-      λ R. one-more R _ _ _ _ _ _ _ _ _ _ _ (c .before .before .before .before .before .before .loop-test .taken) (c .before .before .before .before .before .if1 .left) (via _ _ _ (c .before .before .before .content-ok .ensures) (c .before .before .if2 .taken)) (c .before .wrapping-add-u8 .ensures) (c .remember .ensures) (at .inv .1 R),
+      λ R. one-more R _ _ _ _ _ _ _ _ _ _ _ (turn .loop-test .taken) (branch .if1 .left)
+          (via _ _ _ (c .before .before .before .content-ok .ensures) (c .before .before .if2 .taken))
+          (c .before .wrapping-add-u8 .ensures) (c .remember .ensures) (at .inv .1 R),
     )
 
 cast-t17 : tie.Need-cast-t17 Inv-loop μ-loop
@@ -59,7 +65,10 @@ cast-t17 c = search needs
 
 returns-2 : tie.Need-returns-2 Inv-loop μ-loop
 unfolding onBody
-returns-2 c R = content-spoils R _ _ _ _ _ _ _ _ _ (c .before .before .before .before .loop-test .taken) (c .before .before .before .if1 .left) (via _ _ _ (c .before .content-ok .ensures) (c .if2 .left)) (c .before .before .before .before .before .loop .inv .1 R)
+returns-2 c R =
+    let turn = c .before .before .before .before in
+    content-spoils R _ _ _ _ _ _ _ _ _ (turn .loop-test .taken) (c .before .before .before .if1 .left)
+    (via _ _ _ (c .before .content-ok .ensures) (c .if2 .left)) (turn .before .loop .inv .1 R)
 
 returns-3 : tie.Need-returns-3 Inv-loop μ-loop
 unfolding onBody

@@ -2,8 +2,8 @@
 -- Assumes nothing.
 use mathlib.Core.Path.{_∙_, ap}
 use native.Mathlib.Omega.{arith}
-use Rattle.rules.specs.Octets.{octets-at}
-use Rattle.rules.specs.ContentLaw.{sound-rules}
+use Rattle.rules.proofs.Octets.{octets-at}
+use Rattle.rules.proofs.ContentLaw.{sound-rules}
 use Rattle.message.proofs.Calls.{ended-early, ended-whole, followed, ended-spoilt}
 use Rattle.message.specs.declared.Verdict.the-variants.{Declined}
 use borrow.Author.Needs.{needs}
@@ -36,14 +36,22 @@ enum-known-end-2 c = search needs
 
 returns : tie.Need-returns
 returns c =
-    let at = c .before .before .before .before .before .args in
-    ap Declined (c .noted .ensures) ∙ ended-early _ (at .s .now) _ (c .before .before .before .whole .ensures) (sound-rules (at .book)) (octets-at (at .s .now) (λ i. omega (arith, c .before .before .before .before .shared-slice-known .given i))) (c .before .enum-told .given .1)
+    let read = c .before .before .before .before in
+    let start = read .before in
+    let at = start .args in
+    ap Declined (c .noted .ensures) ∙ ended-early _ (at .s .now) _ (c .before .before .before .whole .ensures)
+    (sound-rules (at .book)) (octets-at (at .s .now) (λ i. omega (arith, read .shared-slice-known .given i)))
+    (c .before .enum-told .given .1)
 
 returns-2 : tie.Need-returns-2
-returns-2 c = ended-whole _ _ _ (c .before .before .before .before .whole .ensures) _ (c .before .before .end .given .1) (c .if1 .taken)
+returns-2 c =
+    ended-whole _ _ _ (c .before .before .before .before .whole .ensures) _ (c .before .before .end .given .1)
+    (c .if1 .taken)
 
 returns-3 : tie.Need-returns-3
-returns-3 c = ap Declined (c .noted2 .ensures) ∙ followed _ _ _ (c .before .before .before .before .before .whole .ensures) _ (c .before .before .before .end .given .1) (c .before .if1 .left)
+returns-3 c =
+    ap Declined (c .noted2 .ensures) ∙ followed _ _ _ (c .before .before .before .before .before .whole .ensures) _
+    (c .before .before .before .end .given .1) (c .before .if1 .left)
 
 returns-4 : tie.Need-returns-4
 returns-4 c = ended-spoilt _ _ _ (c .before .before .before .whole .ensures) _ (c .before .end2 .given .1)

@@ -23,21 +23,33 @@ wrapping-add-u8-requires : tie.Need-wrapping-add-u8-requires
 wrapping-add-u8-requires c κs = search needs
 
 sub-t14 : tie.Need-sub-t14
-sub-t14 c = let h = fits-facts _ _ _ (sym (c .before .before .length-fits .ensures) ∙ c .before .if2 .taken) .1 in omega arith
+sub-t14 c =
+    let h = fits-facts _ _ _ (sym (c .before .before .length-fits .ensures) ∙ c .before .if2 .taken) .1 in
+    omega arith
 
 sub-t15 : tie.Need-sub-t15
-sub-t15 c = let h = fits-facts _ _ _ (sym (c .before .before .length-fits .ensures) ∙ c .before .if2 .taken) .1 in omega arith
+sub-t15 c =
+    let h = fits-facts _ _ _ (sym (c .before .before .length-fits .ensures) ∙ c .before .if2 .taken) .1 in
+    omega arith
 
 cast-t16 : tie.Need-cast-t16
 cast-t16 c = search needs
 
 returns-2 : tie.Need-returns-2
 unfolding onHead HeadFits fits
-returns-2 c = let k = sym (c .before .before .length-fits .ensures) ∙ c .before .if2 .taken in (λ R. length-on R _ _ _ _ _ (c .before .before .before .before .if1 .left) _ (c .wrapping-add-u8 .ensures) k, let d = fits-facts _ _ _ k in (d .0, omega (arith, d .1)))
+returns-2 c =
+    let k = sym (c .before .before .length-fits .ensures) ∙ c .before .if2 .taken in (
+      λ R. length-on R _ _ _ _ _ (c .before .before .before .before .if1 .left) _ (c .wrapping-add-u8 .ensures) k,
+      let d = fits-facts _ _ _ k in (d .0, omega (arith, d .1)),
+    )
 
 returns-3 : tie.Need-returns-3
 unfolding onHead HeadFits fits
-returns-3 c = (λ R. length-spoils R _ _ _ _ _ (c .before .before .before .if1 .left) (sym (c .before .length-fits .ensures) ∙ c .if2 .left), tt)
+returns-3 c = (
+  λ R. length-spoils R _ _ _ _ _ (c .before .before .before .if1 .left)
+      (sym (c .before .length-fits .ensures) ∙ c .if2 .left),
+  tt,
+)
 
 pub length-at-spec : {M : Type 1} → statement M
 length-at-spec =

@@ -1,10 +1,10 @@
--- `message::search` meets its contract. The loop's invariant: the search from here on, with the turns left, finds what the whole search finds.
--- The measure is the turns left. Assumes nothing.
+-- `message::search` meets its contract. The loop's invariant: the search from here on, with the turns left, finds
+-- what the whole search finds. The measure is the turns left. Assumes nothing.
 use mathlib.Core.Path.{_≡_, refl, sym, _∙_}
 use native.Mathlib.Omega.{arith}
 use lib.ListN.{length}
 use Rattle.message.specs.Walking.{searchFrom}
-use Rattle.message.specs.Searching.{no-turns, none-here, wanted, shut-out, next, found-inside}
+use Rattle.message.proofs.Searching.{no-turns, none-here, wanted, shut-out, next, found-inside}
 use borrow.Author.Needs.{needs}
 use Rattle.message.proofs.search.Statement.{statement}
 use Rattle.message.proofs.search.Tie as tie
@@ -25,16 +25,29 @@ enum-known-found : tie.Need-enum-known-found Inv-loop μ-loop
 enum-known-found c = search needs
 
 returns : tie.Need-returns Inv-loop μ-loop
-returns c = sym (wanted _ _ _ _ _ (c .before .before .before .before .before .loop-test .taken) _ (c .before .before .before .before .parameter .ensures) _ _ _ (c .before .before .found .given .1) (c .if1 .taken)) ∙ c .before .before .before .before .before .before .loop .inv
+returns c =
+    let after-parameter = c .before .before .before .before in
+    let turn = after-parameter .before in
+    sym (wanted _ _ _ _ _ (turn .loop-test .taken) _ (after-parameter .parameter .ensures) _ _ _
+    (c .before .before .found .given .1) (c .if1 .taken)) ∙ turn .before .loop .inv
 
 returns-2 : tie.Need-returns-2 Inv-loop μ-loop
-returns-2 c = sym (shut-out _ _ _ _ _ (c .before .before .before .before .before .before .loop-test .taken) _ (c .before .before .before .before .before .parameter .ensures) _ _ _ (c .before .before .before .found .given .1) (c .before .if1 .left) (c .if2 .taken)) ∙ c .before .before .before .before .before .before .before .loop .inv
+returns-2 c =
+    let after-parameter = c .before .before .before .before .before in
+    let turn = after-parameter .before in
+    sym (shut-out _ _ _ _ _ (turn .loop-test .taken) _ (after-parameter .parameter .ensures) _ _ _
+    (c .before .before .before .found .given .1) (c .before .if1 .left) (c .if2 .taken)) ∙ turn .before .loop .inv
 
 cast-at : tie.Need-cast-at Inv-loop μ-loop
 cast-at c = search needs
 
 add-at : tie.Need-add-at Inv-loop μ-loop
-add-at c = omega (arith, found-inside _ _ _ _ _ _ (c .before .before .before .before .before .parameter .ensures) (c .before .before .before .found .given .1))
+add-at c =
+    omega (
+      arith,
+      found-inside _ _ _ _ _ _ (c .before .before .before .before .before .parameter .ensures)
+          (c .before .before .before .found .given .1),
+    )
 
 sub-turns : tie.Need-sub-turns Inv-loop μ-loop
 sub-turns c = search needs
@@ -43,13 +56,19 @@ loop-less : tie.Need-loop-less Inv-loop μ-loop
 loop-less c = search needs
 
 loop-again : tie.Need-loop-again Inv-loop μ-loop
-loop-again c = sym (next _ _ _ _ _ (c .before .before .before .before .before .before .loop-test .taken) _ (c .before .before .before .before .before .parameter .ensures) _ _ _ (c .before .before .before .found .given .1) (c .before .if1 .left) (c .if2 .left)) ∙ c .before .before .before .before .before .before .before .loop .inv
+loop-again c =
+    let after-parameter = c .before .before .before .before .before in
+    let turn = after-parameter .before in
+    sym (next _ _ _ _ _ (turn .loop-test .taken) _ (after-parameter .parameter .ensures) _ _ _
+    (c .before .before .before .found .given .1) (c .before .if1 .left) (c .if2 .left)) ∙ turn .before .loop .inv
 
 enum-told : tie.Need-enum-told Inv-loop μ-loop
 enum-told c = search needs
 
 returns-3 : tie.Need-returns-3 Inv-loop μ-loop
-returns-3 c = sym (none-here _ _ _ _ _ (c .before .before .before .loop-test .taken) _ (c .before .before .parameter .ensures) (c .enum-told .given .1)) ∙ c .before .before .before .before .loop .inv
+returns-3 c =
+    sym (none-here _ _ _ _ _ (c .before .before .before .loop-test .taken) _
+    (c .before .before .parameter .ensures) (c .enum-told .given .1)) ∙ c .before .before .before .before .loop .inv
 
 returns-4 : tie.Need-returns-4 Inv-loop μ-loop
 returns-4 c = sym (no-turns _ _ _ _ _ (c .loop-test .left)) ∙ c .before .loop .inv

@@ -24,10 +24,15 @@ header-requires : tie.Need-header-requires
 header-requires c κs = omega (arith, c .before .before .shared-slice-known2 .given 1)
 
 returns-2 : tie.Need-returns-2
-returns-2 c = ap Spoilt (c .noted .ensures) ∙ sym (size-spoils _ _ _ (c .before .before .before .if1 .left) (c .before .if2 .taken))
+returns-2 c =
+    ap Spoilt (c .noted .ensures)
+    ∙ sym (size-spoils _ _ _ (c .before .before .before .if1 .left) (c .before .if2 .taken))
 
 returns-3 : tie.Need-returns-3
-returns-3 c = c .header .ensures ∙ sym (size-on _ _ _ (c .before .before .before .before .if1 .left) _ (c .before .wrapping-add-u8 .ensures) (c .before .before .if2 .left))
+returns-3 c =
+    c .header .ensures
+    ∙ sym (size-on _ _ _ (c .before .before .before .before .if1 .left) _ (c .before .wrapping-add-u8 .ensures)
+    (c .before .before .if2 .left))
 
 pub sized-spec : {M : Type 1} → statement M
 sized-spec =

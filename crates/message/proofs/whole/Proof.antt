@@ -24,10 +24,20 @@ noted-requires : tie.Need-noted-requires
 noted-requires c κs = search needs
 
 returns-2 : tie.Need-returns-2
-returns-2 c = c .sized .ensures ∙ sym (kind-on _ (c .before .before .before .before .before .before .args .s .now) (omega arith) (omega (arith, c .before .before .before .shared-slice-known2 .given 0)) (sym (c .before .before .message-kind .ensures) ∙ c .before .if2 .taken))
+returns-2 c =
+    let start = c .before .before .before .before .before .before in
+    c .sized .ensures
+    ∙ sym (kind-on _ (start .args .s .now) (omega arith)
+    (omega (arith, c .before .before .before .shared-slice-known2 .given 0))
+    (sym (c .before .before .message-kind .ensures) ∙ c .before .if2 .taken))
 
 returns-3 : tie.Need-returns-3
-returns-3 c = ap Spoilt (c .noted .ensures) ∙ sym (kind-spoils _ (c .before .before .before .before .before .before .args .s .now) (omega arith) (omega (arith, c .before .before .before .shared-slice-known2 .given 0)) (sym (c .before .before .message-kind .ensures) ∙ c .before .if2 .left))
+returns-3 c =
+    let start = c .before .before .before .before .before .before in
+    ap Spoilt (c .noted .ensures)
+    ∙ sym (kind-spoils _ (start .args .s .now) (omega arith)
+    (omega (arith, c .before .before .before .shared-slice-known2 .given 0))
+    (sym (c .before .before .message-kind .ensures) ∙ c .before .if2 .left))
 
 pub whole-spec : {M : Type 1} → statement M
 whole-spec =

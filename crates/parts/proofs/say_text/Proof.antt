@@ -1,7 +1,7 @@
 -- `parts::say_text` meets its contract: a text is printed where it lies inside.
 -- Assumes nothing.
 use native.Mathlib.Omega.{arith}
-use Rattle.rules.specs.Returns.{told-le}
+use Rattle.rules.proofs.Returns.{told-le}
 use borrow.Author.Needs.{needs}
 use Rattle.parts.proofs.say_text.Statement.{statement}
 use Rattle.parts.proofs.say_text.Tie as tie

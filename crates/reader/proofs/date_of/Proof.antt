@@ -1,7 +1,7 @@
 -- `reader::date_of` meets its contract: four numbers of two digits.
 -- Assumes nothing.
 use Rattle.draft.specs.Meaning.{meant}
-use Rattle.draft.specs.Packing.{packed}
+use Rattle.draft.specs.Packing.{valueAt}
 use Rattle.draft.specs.declared.Value.the-variants.{Date}
 use borrow.Author.Needs.{needs}
 use Rattle.reader.proofs.date_of.Statement.{statement}
@@ -20,7 +20,7 @@ pair-at-requires-4 : tie.Need-pair-at-requires-4
 pair-at-requires-4 c κs = search needs
 
 returns : tie.Need-returns
-unfolding packed meant
+unfolding valueAt meant
 returns c = λ i. Date (c .before .before .before .pair-at .ensures i) (c .before .before .pair-at2 .ensures i) (c .before .pair-at3 .ensures i) (c .pair-at4 .ensures i)
 
 pub date-of-spec : {M : Type 1} → statement M

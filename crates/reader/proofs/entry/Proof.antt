@@ -1,8 +1,8 @@
 -- `reader::entry` meets its contract.
 -- Assumes nothing.
 use native.Mathlib.Omega.{arith}
-use Rattle.message.specs.Searching.{found-inside}
-use Rattle.reader.proofs.Taking.{entry-found, entry-ended}
+use Rattle.message.proofs.Searching.{found-inside}
+use Rattle.reader.proofs.Turns.{entry-found, entry-ended}
 use borrow.Author.Needs.{needs}
 use Rattle.reader.proofs.entry.Statement.{statement}
 use Rattle.reader.proofs.entry.Tie as tie
@@ -17,7 +17,8 @@ cast-place : tie.Need-cast-place
 cast-place c = search needs
 
 add-place : tie.Need-add-place
-add-place c = omega (arith, found-inside _ _ _ _ _ _ (c .before .before .before .parameter .ensures) (c .before .found .given .1))
+add-place c =
+    omega (arith, found-inside _ _ _ _ _ _ (c .before .before .before .parameter .ensures) (c .before .found .given .1))
 
 form-at-requires : tie.Need-form-at-requires
 form-at-requires c κs = search needs
@@ -29,7 +30,12 @@ part-value-of-start : tie.Need-part-value-of-start
 part-value-of-start c = search needs
 
 part-value-of-end : tie.Need-part-value-of-end
-part-value-of-end c = omega (arith, found-inside _ _ _ _ _ _ (c .before .before .before .before .parameter .ensures) (c .before .before .found .given .1))
+part-value-of-end c =
+    omega (
+      arith,
+      found-inside _ _ _ _ _ _ (c .before .before .before .before .parameter .ensures)
+          (c .before .before .found .given .1),
+    )
 
 value-of-requires : tie.Need-value-of-requires
 value-of-requires c κs = search needs
@@ -41,7 +47,10 @@ enum-told : tie.Need-enum-told
 enum-told c = search needs
 
 returns : tie.Need-returns
-returns c = entry-found _ _ _ _ (c .before .before .before .before .before .before .before .parameter .ensures) _ _ _ _ (c .before .before .before .before .before .found .given .1) (c .text-length .ensures) _ _ _ (c .before .before .before .form-at .ensures) (c .before .value-of .ensures)
+returns c =
+    let after-found = c .before .before .before .before .before in
+    entry-found _ _ _ _ (after-found .before .before .parameter .ensures) _ _ _ _ (after-found .found .given .1)
+    (c .text-length .ensures) _ _ _ (c .before .before .before .form-at .ensures) (c .before .value-of .ensures)
 
 returns-2 : tie.Need-returns-2
 returns-2 c = entry-ended _ _ _ _ (c .before .before .parameter .ensures) _ (c .enum-told .given .1)

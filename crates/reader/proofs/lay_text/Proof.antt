@@ -36,12 +36,14 @@ copy-requires c κs = simp (length-take, length-drop) (omega arith)
 same-length : tie.Need-same-length
 same-length c =
     let start = c .before .before .before .before .before .before .before in
-    same-len-mid (start .args .at) (length (start .args .area .now) - start .args .at) (start .args .area .now) (c .before .before .copy .last .1 .0) (c .before .before .copy .kept .1 .0)
+    same-len-mid (start .args .at) (length (start .args .area .now) - start .args .at) (start .args .area .now)
+    (c .before .before .copy .last .1 .0) (c .before .before .copy .kept .1 .0)
 
 returns : tie.Need-returns
 returns c =
     let start = c .before .before .before .before .before .before .before in
-    put-is (start .args .octets .now) (start .args .area .now) _ (start .args .start) (start .args .length) (start .args .at) (c .before .before .copy .ensures .1)
+    put-is (start .args .octets .now) (start .args .area .now) _ (start .args .start) (start .args .length)
+    (start .args .at) (c .before .before .copy .ensures .1)
 
 pub lay-text-spec : {M : Type 1} → statement M
 lay-text-spec =

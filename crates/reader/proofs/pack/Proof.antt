@@ -19,16 +19,26 @@ text-size-requires c κs = search needs
 
 cast-place : tie.Need-cast-place
 cast-place c =
-    let start = c .before .before .before .before .before .before .before in
-    omega (arith, size-small _ (start .args .octets .now) (start .args .area .now) _ (c .before .before .before .before .judge .ensures) _ (c .before .before .verdict .given .1) _ (c .text-size .ensures), c .before .known-told .given)
+    let after-judge = c .before .before .before .before in
+    let start = after-judge .before .before .before in
+    omega (
+      arith,
+      size-small _ (start .args .octets .now) (start .args .area .now) _ (after-judge .judge .ensures)
+          _ (c .before .before .verdict .given .1) _ (c .text-size .ensures),
+      c .before .known-told .given,
+    )
 
 noted-requires : tie.Need-noted-requires
 noted-requires c κs = search needs
 
 returns : tie.Need-returns
 returns c =
-    let start = c .before .before .before .before .before .before .before .before .before in
-    let p = packs-short _ (start .args .octets .now) (start .args .area .now) _ (c .before .before .before .before .before .before .judge .ensures) _ (c .before .before .before .before .verdict .given .1) _ (c .before .before .text-size .ensures) (c .before .if1 .taken) in (ap Refused (c .noted .ensures) ∙ p .answer, p .area-is)
+    let after-verdict = c .before .before .before .before in
+    let start = after-verdict .before .before .before .before .before in
+    let p = packs-short _ (start .args .octets .now) (start .args .area .now) _
+    (after-verdict .before .before .judge .ensures) _ (after-verdict .verdict .given .1) _
+    (c .before .before .text-size .ensures) (c .before .if1 .taken) in
+    (ap Refused (c .noted .ensures) ∙ p .answer, p .area-is)
 
 lay-texts-requires : tie.Need-lay-texts-requires
 lay-texts-requires c κs = search needs
@@ -41,11 +51,18 @@ same-length c = search needs
 
 returns-2 : tie.Need-returns-2
 returns-2 c =
-    let start = c .before .before .before .before .before .before .before .before .before .before .before .before in
-    let p = packs-whole _ (start .args .octets .now) (start .args .area .now) _ (c .before .before .before .before .before .before .before .before .before .judge .ensures) _ (c .before .before .before .before .before .before .before .verdict .given .1) _ _ (c .before .before .before .before .before .text-size .ensures) (c .before .before .before .before .if1 .left) (c .before .before .lay-texts .ensures) in (p .answer, p .area-is)
+    let branch = c .before .before .before .before in
+    let after-judge = branch .before .before .before .before .before in
+    let start = after-judge .before .before .before in
+    let p = packs-whole _ (start .args .octets .now) (start .args .area .now) _ (after-judge .judge .ensures) _
+    (branch .before .before .before .verdict .given .1) _ _ (branch .before .text-size .ensures)
+    (branch .if1 .left) (c .before .before .lay-texts .ensures) in (p .answer, p .area-is)
 
 returns-3 : tie.Need-returns-3
-returns-3 c = let p = packs-declined _ (c .before .before .before .before .before .before .args .octets .now) (c .before .before .before .before .before .before .args .area .now) _ (c .before .before .before .judge .ensures) _ (c .before .verdict2 .given .1) in (p .answer, p .area-is)
+returns-3 c =
+    let start = c .before .before .before .before .before .before in
+    let p = packs-declined _ (start .args .octets .now) (start .args .area .now) _
+    (c .before .before .before .judge .ensures) _ (c .before .verdict2 .given .1) in (p .answer, p .area-is)
 
 pub pack-spec : {M : Type 1} → statement M
 pack-spec =

@@ -4,7 +4,7 @@ use mathlib.Core.Path.{_∙_, ap, ap₂}
 use Prim.Native.Nat.{ℕ}
 use native.Mathlib.Numerals.{add-one}
 use lib.ListN.{getD}
-use Rattle.draft.specs.Meaning.{numberOf, pairAt}
+use Rattle.draft.specs.Meaning.{numberOf, digitsAt}
 use borrow.Author.Needs.{needs}
 use Rattle.reader.proofs.pair_at.Statement.{statement}
 use Rattle.reader.proofs.pair_at.Tie as tie
@@ -22,8 +22,11 @@ number-of-requires : tie.Need-number-of-requires
 number-of-requires c κs = search needs
 
 returns : tie.Need-returns
-unfolding pairAt
-returns c = c .number-of .ensures ∙ ap₂ numberOf (c .before .before .octet .ensures) (c .before .octet2 .ensures ∙ ap (λ (n : ℕ). getD (c .before .before .before .before .args .contents .now) n 0) (add-one (c .before .before .before .before .args .i)))
+unfolding digitsAt
+returns c =
+    let start = c .before .before .before .before in
+    c .number-of .ensures ∙ ap₂ numberOf (c .before .before .octet .ensures)
+    (c .before .octet2 .ensures ∙ ap (λ (n : ℕ). getD (start .args .contents .now) n 0) (add-one (start .args .i)))
 
 pub pair-at-spec : {M : Type 1} → statement M
 pair-at-spec =

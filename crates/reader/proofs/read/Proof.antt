@@ -24,13 +24,23 @@ same-length : tie.Need-same-length
 same-length c = search needs
 
 returns : tie.Need-returns
-returns c = (reads-whole _ _ _ _ _ (c .before .before .before .before .before .pack .ensures .0) _ (c .before .enum-told .given .1) (c .draft-of .ensures), c .before .before .before .before .before .pack .ensures .1)
+returns c =
+    let after-pack = c .before .before .before .before .before in (
+      reads-whole _ _ _ _ _ (after-pack .pack .ensures .0) _ (c .before .enum-told .given .1)
+          (c .draft-of .ensures),
+      after-pack .pack .ensures .1,
+    )
 
 same-length-2 : tie.Need-same-length-2
 same-length-2 c = search needs
 
 returns-2 : tie.Need-returns-2
-returns-2 c = (reads-refused _ _ _ _ _ (c .before .before .before .before .before .pack .ensures .0) _ (c .before .enum-told2 .given .1) (c .empty .ensures), c .before .before .before .before .before .pack .ensures .1)
+returns-2 c =
+    let after-pack = c .before .before .before .before .before in (
+      reads-refused _ _ _ _ _ (after-pack .pack .ensures .0) _ (c .before .enum-told2 .given .1)
+          (c .empty .ensures),
+      after-pack .pack .ensures .1,
+    )
 
 pub read-spec : {M : Type 1} → statement M
 read-spec =

@@ -2,7 +2,7 @@
 -- Assumes nothing.
 use Prim.Native.Nat.{_+_, _*_}
 use Rattle.draft.specs.Meaning.{meant}
-use Rattle.draft.specs.Packing.{packed}
+use Rattle.draft.specs.Packing.{valueAt}
 use Rattle.draft.specs.declared.Value.the-variants.{State}
 use borrow.Author.Needs.{needs}
 use Rattle.reader.proofs.state_of.Statement.{statement}
@@ -30,7 +30,7 @@ add-t8 : tie.Need-add-t8
 add-t8 c = search needs
 
 returns : tie.Need-returns
-unfolding packed meant
+unfolding valueAt meant
 returns c = λ i. State (c .before .before .octet .ensures i) (256 * c .before .octet2 .ensures i + c .octet3 .ensures i)
 
 pub state-of-spec : {M : Type 1} → statement M

@@ -1,8 +1,8 @@
 -- `reader::text_at` meets its contract.
 -- Assumes nothing.
 use native.Mathlib.Omega.{arith}
-use Rattle.message.specs.Searching.{found-inside}
-use Rattle.reader.proofs.Taking.{text-found, text-ended}
+use Rattle.message.proofs.Searching.{found-inside}
+use Rattle.reader.proofs.Turns.{text-found, text-ended}
 use borrow.Author.Needs.{needs}
 use Rattle.reader.proofs.text_at.Statement.{statement}
 use Rattle.reader.proofs.text_at.Tie as tie
@@ -20,13 +20,20 @@ cast-t10 : tie.Need-cast-t10
 cast-t10 c = search needs
 
 add-t11 : tie.Need-add-t11
-add-t11 c = omega (arith, found-inside _ _ _ _ _ _ (c .before .before .before .before .parameter .ensures) (c .before .before .found .given .1))
+add-t11 c =
+    omega (
+      arith,
+      found-inside _ _ _ _ _ _ (c .before .before .before .before .parameter .ensures)
+          (c .before .before .found .given .1),
+    )
 
 enum-told : tie.Need-enum-told
 enum-told c = search needs
 
 returns : tie.Need-returns
-returns c = text-found _ _ _ _ (c .before .before .before .before .parameter .ensures) _ _ _ _ (c .before .before .found .given .1) (c .text-length .ensures)
+returns c =
+    text-found _ _ _ _ (c .before .before .before .before .parameter .ensures) _ _ _ _
+    (c .before .before .found .given .1) (c .text-length .ensures)
 
 returns-2 : tie.Need-returns-2
 returns-2 c = text-ended _ _ _ _ (c .before .before .parameter .ensures) (c .enum-told .given .1)

@@ -1,4 +1,5 @@
--- `reader::text_size` meets its contract. The loop's invariant: what was summed up and the texts that are left make the whole. The measure is the turns left.
+-- `reader::text_size` meets its contract. The loop's invariant: what was summed up and the texts that are left make
+-- the whole. The measure is the turns left.
 -- Assumes nothing.
 use Prim.Native.Nat.{_-_}
 use mathlib.Core.Path.{sym, _∙_}
@@ -26,7 +27,13 @@ enum-known-text : tie.Need-enum-known-text Inv-loop μ-loop
 enum-known-text c = search needs
 
 add-size : tie.Need-add-size Inv-loop μ-loop
-add-size c = omega (arith, sized-small _ _ _ _ _ (c .before .before .before .before .before .loop .inv) (c .before .before .before .before .loop-test .taken) _ _ _ (sym (c .before .text .given .1) ∙ c .before .before .before .text-at .ensures))
+add-size c =
+    let turn = c .before .before .before .before in
+    omega (
+      arith,
+      sized-small _ _ _ _ _ (turn .before .loop .inv) (turn .loop-test .taken) _ _ _
+          (sym (c .before .text .given .1) ∙ c .before .before .before .text-at .ensures),
+    )
 
 add-count : tie.Need-add-count Inv-loop μ-loop
 add-count c = search needs
@@ -35,13 +42,19 @@ loop-less : tie.Need-loop-less Inv-loop μ-loop
 loop-less c = search needs
 
 loop-again : tie.Need-loop-again Inv-loop μ-loop
-loop-again c = sized-more _ _ _ _ _ (c .before .before .before .before .before .loop .inv) (c .before .before .before .before .loop-test .taken) _ _ _ (sym (c .before .text .given .1) ∙ c .before .before .before .text-at .ensures)
+loop-again c =
+    let turn = c .before .before .before .before in
+    sized-more _ _ _ _ _ (turn .before .loop .inv) (turn .loop-test .taken) _ _ _
+    (sym (c .before .text .given .1) ∙ c .before .before .before .text-at .ensures)
 
 enum-told : tie.Need-enum-told Inv-loop μ-loop
 enum-told c = search needs
 
 returns : tie.Need-returns Inv-loop μ-loop
-returns c = sized-end _ _ _ _ _ (c .before .before .before .before .loop .inv) (left-none _ _ _ _ (c .before .before .before .loop-test .taken) (sym (c .enum-told .given .1) ∙ c .before .before .text-at .ensures))
+returns c =
+    sized-end _ _ _ _ _ (c .before .before .before .before .loop .inv)
+    (left-none _ _ _ _ (c .before .before .before .loop-test .taken)
+    (sym (c .enum-told .given .1) ∙ c .before .before .text-at .ensures))
 
 returns-2 : tie.Need-returns-2 Inv-loop μ-loop
 returns-2 c = sized-end _ _ _ _ _ (c .before .loop .inv) (left-full _ _ _ (c .loop-test .left))

@@ -1,7 +1,7 @@
 -- `reader::value_of` meets its contract: one kind of value after the other.
 -- Assumes nothing.
 use Rattle.draft.specs.Meaning.{meant}
-use Rattle.draft.specs.Packing.{packed}
+use Rattle.draft.specs.Packing.{valueAt}
 use mathlib.Core.Path.{ap}
 use Rattle.draft.specs.declared.Value.the-variants.{Code}
 use borrow.Author.Needs.{needs}
@@ -33,23 +33,23 @@ enum-told-5 : tie.Need-enum-told-5
 enum-told-5 c = search needs
 
 returns : tie.Need-returns
-unfolding packed meant
+unfolding valueAt meant
 returns c = rw (c .before .enum-told .given .1) (c .date-of .ensures)
 
 returns-2 : tie.Need-returns-2
-unfolding packed meant
+unfolding valueAt meant
 returns-2 c = rw (c .before .enum-told2 .given .1) (ap Code (c .octet .ensures))
 
 returns-3 : tie.Need-returns-3
-unfolding packed meant
+unfolding valueAt meant
 returns-3 c = rw (c .before .enum-told3 .given .1) (c .state-of .ensures)
 
 returns-4 : tie.Need-returns-4
-unfolding packed meant
+unfolding valueAt meant
 returns-4 c = rw (c .enum-told4 .given .1)
 
 returns-5 : tie.Need-returns-5
-unfolding packed meant
+unfolding valueAt meant
 returns-5 c = rw (c .enum-told5 .given .1)
 
 pub value-of-spec : {M : Type 1} → statement M

@@ -1,7 +1,7 @@
 -- `rules::among` meets its contract: its answer is the test of the rules, branch by branch.
 -- Assumes nothing.
 use Rattle.rules.specs.Contents.{within}
-use Rattle.rules.specs.Returns.{tests}
+use Rattle.rules.proofs.Returns.{tests}
 use Rattle.rules.proofs.among.Statement.{statement}
 use Rattle.rules.proofs.among.Tie as tie
 

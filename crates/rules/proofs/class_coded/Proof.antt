@@ -1,7 +1,7 @@
 -- `rules::class_coded` meets its contract: the codes are tried in order.
 -- Assumes nothing.
 use Rattle.rules.specs.Codes.{classCoded}
-use Rattle.rules.specs.Returns.{tests}
+use Rattle.rules.proofs.Returns.{tests}
 use borrow.Author.Needs.{needs}
 use Rattle.rules.proofs.class_coded.Statement.{statement}
 use Rattle.rules.proofs.class_coded.Tie as tie
@@ -54,4 +54,6 @@ unfolding classCoded
 returns-11 c = search tests depth 14
 
 pub class-coded-spec : {M : Type 1} → statement M
-class-coded-spec = tie.close (tie.spec later-class-requires returns returns-2 returns-3 returns-4 returns-5 returns-6 returns-7 returns-8 returns-9 returns-10 returns-11)
+class-coded-spec =
+    tie.close (tie.spec later-class-requires returns returns-2 returns-3 returns-4 returns-5 returns-6 returns-7
+    returns-8 returns-9 returns-10 returns-11)

@@ -2,7 +2,7 @@
 -- Assumes nothing.
 use mathlib.Core.Path.{refl}
 use Rattle.rules.specs.Table.{classFault}
-use Rattle.rules.specs.Returns.{pick-t, pick-f}
+use Rattle.rules.proofs.Returns.{pick-t, pick-f}
 use Rattle.rules.proofs.OtherLength.{first-some, none-some, other-some}
 use borrow.Author.Needs.{needs}
 use Rattle.rules.proofs.class_fault.Statement.{statement}
@@ -17,11 +17,15 @@ returns c = pick-t _ _ _ _ (first-some _ _ _ 0 _ (c .before .lengths-of .ensures
 
 returns-2 : tie.Need-returns-2
 unfolding classFault
-returns-2 c = pick-f _ _ _ _ (none-some _ _ _ 0 _ (c .before .before .lengths-of .ensures) (c .before .if1 .left) (c .if2 .taken)) refl
+returns-2 c =
+    pick-f _ _ _ _ (none-some _ _ _ 0 _ (c .before .before .lengths-of .ensures) (c .before .if1 .left)
+    (c .if2 .taken)) refl
 
 returns-3 : tie.Need-returns-3
 unfolding classFault
-returns-3 c = pick-t _ _ _ _ (other-some _ _ _ 0 _ (c .before .before .lengths-of .ensures) (c .before .if1 .left) (c .if2 .left)) refl
+returns-3 c =
+    pick-t _ _ _ _ (other-some _ _ _ 0 _ (c .before .before .lengths-of .ensures) (c .before .if1 .left)
+    (c .if2 .left)) refl
 
 pub class-fault-spec : {M : Type 1} → statement M
 class-fault-spec = tie.close (tie.spec lengths-of-requires returns returns-2 returns-3)

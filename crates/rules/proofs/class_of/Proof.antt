@@ -38,16 +38,23 @@ old-class-requires-2 : tie.Need-old-class-requires-2
 old-class-requires-2 c κs = search needs
 
 returns : tie.Need-returns
-returns c = rw (c .before .before .enum-told .given .1) (c .strictly .ensures ∙ ap strictClass (c .before .present-class .ensures) ∙ strict-present _ (search needs))
+returns c =
+    rw (c .before .before .enum-told .given .1)
+    (c .strictly .ensures ∙ ap strictClass (c .before .present-class .ensures) ∙ strict-present _ (search needs))
 
 returns-2 : tie.Need-returns-2
 returns-2 c = rw (c .before .enum-told2 .given .1) (c .present-class2 .ensures)
 
 returns-3 : tie.Need-returns-3
-returns-3 c = rw (c .before .before .enum-told3 .given .1) (c .strictly2 .ensures ∙ ap strictClass (c .before .old-class .ensures) ∙ strict-old _ (search needs))
+returns-3 c =
+    rw (c .before .before .enum-told3 .given .1)
+    (c .strictly2 .ensures ∙ ap strictClass (c .before .old-class .ensures) ∙ strict-old _ (search needs))
 
 returns-4 : tie.Need-returns-4
 returns-4 c = rw (c .before .enum-told4 .given .1) (c .old-class2 .ensures)
 
 pub class-of-spec : {M : Type 1} → statement M
-class-of-spec = tie.close (tie.spec enum-told present-class-requires strictly-requires enum-told-2 present-class-requires-2 enum-told-3 old-class-requires strictly-requires-2 enum-told-4 old-class-requires-2 returns returns-2 returns-3 returns-4)
+class-of-spec =
+    tie.close (tie.spec enum-told present-class-requires strictly-requires enum-told-2 present-class-requires-2
+    enum-told-3 old-class-requires strictly-requires-2 enum-told-4 old-class-requires-2 returns returns-2 returns-3
+    returns-4)

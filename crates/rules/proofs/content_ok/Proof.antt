@@ -3,7 +3,7 @@
 use native.Mathlib.Omega.{arith}
 use Rattle.rules.specs.ContentJudge.{judgeOf}
 use Rattle.rules.specs.Contents.{inSet}
-use Rattle.rules.specs.Returns.{or-last}
+use Rattle.rules.proofs.Returns.{or-last}
 use Rattle.rules.proofs.AtIndex.{any-in, any-columns, first-column}
 use borrow.Author.Needs.{needs}
 use Rattle.rules.proofs.content_ok.Statement.{statement}
@@ -130,7 +130,9 @@ returns-2 c = rw (c .before .enum-told2 .given .1) (c .number-ok .ensures)
 
 returns-3 : tie.Need-returns-3
 unfolding judgeOf
-returns-3 c = rw (c .before .before .enum-told3 .given .1) (first-column 0 _ _ _ _ _ (omega arith) (c .before .absent-ok .ensures) (c .first-only .ensures))
+returns-3 c =
+    rw (c .before .before .enum-told3 .given .1)
+    (first-column 0 _ _ _ _ _ (omega arith) (c .before .absent-ok .ensures) (c .first-only .ensures))
 
 returns-4 : tie.Need-returns-4
 unfolding judgeOf
@@ -138,15 +140,21 @@ returns-4 c = rw (c .before .enum-told4 .given .1) (c .name-ok .ensures)
 
 returns-5 : tie.Need-returns-5
 unfolding judgeOf
-returns-5 c = rw (c .before .before .enum-told5 .given .1) (first-column 0 _ _ _ _ _ (omega arith) (c .before .lamp-ok .ensures) (c .first-only2 .ensures))
+returns-5 c =
+    rw (c .before .before .enum-told5 .given .1)
+    (first-column 0 _ _ _ _ _ (omega arith) (c .before .lamp-ok .ensures) (c .first-only2 .ensures))
 
 returns-6 : tie.Need-returns-6
 unfolding judgeOf
-returns-6 c = rw (c .before .before .enum-told6 .given .1) (first-column 2 _ _ _ _ _ (omega arith) (c .before .identity-ok .ensures) (c .first-only3 .ensures))
+returns-6 c =
+    rw (c .before .before .enum-told6 .given .1)
+    (first-column 2 _ _ _ _ _ (omega arith) (c .before .identity-ok .ensures) (c .first-only3 .ensures))
 
 returns-7 : tie.Need-returns-7
 unfolding judgeOf
-returns-7 c = rw (c .before .before .enum-told7 .given .1) (first-column 0 _ _ _ _ _ (omega arith) (c .before .call-type-ok .ensures) (c .first-only4 .ensures))
+returns-7 c =
+    rw (c .before .before .enum-told7 .given .1)
+    (first-column 0 _ _ _ _ _ (omega arith) (c .before .call-type-ok .ensures) (c .first-only4 .ensures))
 
 returns-8 : tie.Need-returns-8
 unfolding judgeOf
@@ -154,11 +162,15 @@ returns-8 c = rw (c .enum-told8 .given .1) (any-columns 1 _ _ (omega arith))
 
 returns-9 : tie.Need-returns-9
 unfolding judgeOf
-returns-9 c = rw (c .before .before .enum-told9 .given .1) (first-column 0 _ _ _ _ _ (omega arith) (c .before .forwarded-ok .ensures) (c .first-only5 .ensures))
+returns-9 c =
+    rw (c .before .before .enum-told9 .given .1)
+    (first-column 0 _ _ _ _ _ (omega arith) (c .before .forwarded-ok .ensures) (c .first-only5 .ensures))
 
 returns-10 : tie.Need-returns-10
 unfolding judgeOf
-returns-10 c = rw (c .before .before .enum-told10 .given .1) (first-column 0 _ _ _ _ _ (omega arith) (c .before .user-ok .ensures) (c .first-only6 .ensures))
+returns-10 c =
+    rw (c .before .before .enum-told10 .given .1)
+    (first-column 0 _ _ _ _ _ (omega arith) (c .before .user-ok .ensures) (c .first-only6 .ensures))
 
 returns-11 : tie.Need-returns-11
 unfolding judgeOf inSet
@@ -170,11 +182,15 @@ returns-12 c = rw (c .before .enum-told12 .given .1) (c .name-ok2 .ensures)
 
 returns-13 : tie.Need-returns-13
 unfolding judgeOf inSet
-returns-13 c = rw (c .before .before .enum-told13 .given .1) (first-column 0 _ _ _ _ _ (omega arith) (or-last _ _ (c .before .among2 .ensures)) (c .first-only7 .ensures))
+returns-13 c =
+    rw (c .before .before .enum-told13 .given .1)
+    (first-column 0 _ _ _ _ _ (omega arith) (or-last _ _ (c .before .among2 .ensures)) (c .first-only7 .ensures))
 
 returns-14 : tie.Need-returns-14
 unfolding judgeOf
-returns-14 c = rw (c .before .before .enum-told14 .given .1) (first-column 0 _ _ _ _ _ (omega arith) (c .before .old-user-ok .ensures) (c .first-only8 .ensures))
+returns-14 c =
+    rw (c .before .before .enum-told14 .given .1)
+    (first-column 0 _ _ _ _ _ (omega arith) (c .before .old-user-ok .ensures) (c .first-only8 .ensures))
 
 returns-15 : tie.Need-returns-15
 unfolding judgeOf
@@ -185,4 +201,12 @@ unfolding judgeOf
 returns-16 c = rw (c .enum-told16 .given .1) (any-in _ (omega arith))
 
 pub content-ok-spec : {M : Type 1} → statement M
-content-ok-spec = tie.close (tie.spec enum-told date-ok-requires enum-told-2 number-ok-requires enum-told-3 absent-ok-requires first-only-requires enum-told-4 name-ok-requires enum-told-5 lamp-ok-requires first-only-requires-2 enum-told-6 identity-ok-requires first-only-requires-3 enum-told-7 call-type-ok-requires first-only-requires-4 enum-told-8 enum-told-9 forwarded-ok-requires first-only-requires-5 enum-told-10 user-ok-requires first-only-requires-6 enum-told-11 among-requires enum-told-12 name-ok-requires-2 enum-told-13 among-requires-2 first-only-requires-7 enum-told-14 old-user-ok-requires first-only-requires-8 enum-told-15 enum-told-16 returns returns-2 returns-3 returns-4 returns-5 returns-6 returns-7 returns-8 returns-9 returns-10 returns-11 returns-12 returns-13 returns-14 returns-15 returns-16)
+content-ok-spec =
+    tie.close (tie.spec enum-told date-ok-requires enum-told-2 number-ok-requires enum-told-3 absent-ok-requires
+    first-only-requires enum-told-4 name-ok-requires enum-told-5 lamp-ok-requires first-only-requires-2 enum-told-6
+    identity-ok-requires first-only-requires-3 enum-told-7 call-type-ok-requires first-only-requires-4 enum-told-8
+    enum-told-9 forwarded-ok-requires first-only-requires-5 enum-told-10 user-ok-requires first-only-requires-6
+    enum-told-11 among-requires enum-told-12 name-ok-requires-2 enum-told-13 among-requires-2 first-only-requires-7
+    enum-told-14 old-user-ok-requires first-only-requires-8 enum-told-15 enum-told-16 returns returns-2 returns-3
+    returns-4 returns-5 returns-6 returns-7 returns-8 returns-9 returns-10 returns-11 returns-12 returns-13
+    returns-14 returns-15 returns-16)

@@ -1,4 +1,5 @@
--- `rules::date_ok` meets its contract: at each index the pair of digits that it belongs to is judged; past the last any octet may stand.
+-- `rules::date_ok` meets its contract: at each index the pair of digits that it belongs to is judged; past the last
+-- any octet may stand.
 -- Assumes nothing.
 use mathlib.Core.Path.{refl, _∙_}
 use native.Mathlib.Omega.{arith}

@@ -1,6 +1,6 @@
 -- `rules::first_only` meets its contract: its answer is the test of the rules, branch by branch.
 -- Assumes nothing.
-use Rattle.rules.specs.Returns.{tests}
+use Rattle.rules.proofs.Returns.{tests}
 use Rattle.rules.proofs.first_only.Statement.{statement}
 use Rattle.rules.proofs.first_only.Tie as tie
 

@@ -36,4 +36,5 @@ unfolding rulesOf classFault someLength whole pick _=?_ _≤?_ _or_
 returns-4 c = rw (c .enum-told4 .given .1)
 
 pub is-strict-spec : {M : Type 1} → statement M
-is-strict-spec = tie.close (tie.spec enum-told enum-told-2 enum-told-3 enum-told-4 returns returns-2 returns-3 returns-4)
+is-strict-spec =
+    tie.close (tie.spec enum-told enum-told-2 enum-told-3 enum-told-4 returns returns-2 returns-3 returns-4)

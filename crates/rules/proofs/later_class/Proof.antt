@@ -1,7 +1,7 @@
 -- `rules::later_class` meets its contract: the codes are tried in order.
 -- Assumes nothing.
 use Rattle.rules.specs.Codes.{laterClass}
-use Rattle.rules.specs.Returns.{tests}
+use Rattle.rules.proofs.Returns.{tests}
 use Rattle.rules.proofs.later_class.Statement.{statement}
 use Rattle.rules.proofs.later_class.Tie as tie
 

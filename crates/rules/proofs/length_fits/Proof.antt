@@ -1,6 +1,6 @@
 -- `rules::length_fits` meets its contract: a length of the class that fits the room.
 -- Assumes nothing.
-use Rattle.rules.specs.Returns.{tests}
+use Rattle.rules.proofs.Returns.{tests}
 use borrow.Author.Needs.{needs}
 use Rattle.rules.proofs.length_fits.Statement.{statement}
 use Rattle.rules.proofs.length_fits.Tie as tie

@@ -1,7 +1,7 @@
 -- `rules::message_kind` meets its contract: its answer is the test of the rules, branch by branch.
 -- Assumes nothing.
 use Rattle.rules.specs.Message.{messageKind}
-use Rattle.rules.specs.Returns.{tests}
+use Rattle.rules.proofs.Returns.{tests}
 use Rattle.rules.proofs.message_kind.Statement.{statement}
 use Rattle.rules.proofs.message_kind.Tie as tie
 

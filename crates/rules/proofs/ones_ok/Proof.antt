@@ -2,7 +2,7 @@
 -- Assumes nothing.
 use Rattle.rules.specs.Contents.{digit, within}
 use Rattle.rules.specs.ContentJudge.{onesFit}
-use Rattle.rules.specs.Returns.{tests}
+use Rattle.rules.proofs.Returns.{tests}
 use borrow.Author.Needs.{needs}
 use Rattle.rules.proofs.ones_ok.Statement.{statement}
 use Rattle.rules.proofs.ones_ok.Tie as tie

@@ -1,6 +1,6 @@
 -- `rules::pair_ok` meets its contract: its answer is the test of the rules, branch by branch.
 -- Assumes nothing.
-use Rattle.rules.specs.Returns.{tests}
+use Rattle.rules.proofs.Returns.{tests}
 use borrow.Author.Needs.{needs}
 use Rattle.rules.proofs.pair_ok.Statement.{statement}
 use Rattle.rules.proofs.pair_ok.Tie as tie

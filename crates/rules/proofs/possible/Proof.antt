@@ -1,7 +1,7 @@
 -- `rules::possible` meets its contract: the range of the class is tried, and then its other length.
 -- Assumes nothing.
 use Rattle.rules.specs.Judge.{possible}
-use Rattle.rules.specs.Returns.{via}
+use Rattle.rules.proofs.Returns.{via}
 use Rattle.rules.proofs.OtherLength.{first-possible, none-possible, other-possible}
 use borrow.Author.Needs.{needs}
 use Rattle.rules.proofs.possible.Statement.{statement}
@@ -18,15 +18,23 @@ room-for-requires-2 c κs = search needs
 
 returns : tie.Need-returns
 unfolding possible
-returns c = first-possible _ _ _ _ _ (c .before .before .lengths-of .ensures) (via _ _ _ (c .before .room-for .ensures) (c .if1 .taken))
+returns c =
+    first-possible _ _ _ _ _ (c .before .before .lengths-of .ensures)
+    (via _ _ _ (c .before .room-for .ensures) (c .if1 .taken))
 
 returns-2 : tie.Need-returns-2
 unfolding possible
-returns-2 c = none-possible _ _ _ _ _ (c .before .before .before .lengths-of .ensures) (via _ _ _ (c .before .before .room-for .ensures) (c .before .if1 .left)) (c .if2 .taken)
+returns-2 c =
+    none-possible _ _ _ _ _ (c .before .before .before .lengths-of .ensures)
+    (via _ _ _ (c .before .before .room-for .ensures) (c .before .if1 .left)) (c .if2 .taken)
 
 returns-3 : tie.Need-returns-3
 unfolding possible
-returns-3 c = other-possible _ _ _ _ _ (c .before .before .before .before .lengths-of .ensures) _ (via _ _ _ (c .before .before .before .room-for .ensures) (c .before .before .if1 .left)) (c .before .if2 .left) (c .room-for2 .ensures)
+returns-3 c =
+    other-possible _ _ _ _ _ (c .before .before .before .before .lengths-of .ensures) _
+    (via _ _ _ (c .before .before .before .room-for .ensures) (c .before .before .if1 .left))
+    (c .before .if2 .left) (c .room-for2 .ensures)
 
 pub possible-spec : {M : Type 1} → statement M
-possible-spec = tie.close (tie.spec lengths-of-requires room-for-requires room-for-requires-2 returns returns-2 returns-3)
+possible-spec =
+    tie.close (tie.spec lengths-of-requires room-for-requires room-for-requires-2 returns returns-2 returns-3)

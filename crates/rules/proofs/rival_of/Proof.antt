@@ -43,4 +43,6 @@ returns-4 : tie.Need-returns-4
 returns-4 c = rw (c .before .enum-told4 .given .1) (c .old-rival2 .ensures)
 
 pub rival-of-spec : {M : Type 1} → statement M
-rival-of-spec = tie.close (tie.spec enum-told present-rival-requires enum-told-2 present-rival-requires-2 enum-told-3 old-rival-requires enum-told-4 old-rival-requires-2 returns returns-2 returns-3 returns-4)
+rival-of-spec =
+    tie.close (tie.spec enum-told present-rival-requires enum-told-2 present-rival-requires-2 enum-told-3
+    old-rival-requires enum-told-4 old-rival-requires-2 returns returns-2 returns-3 returns-4)

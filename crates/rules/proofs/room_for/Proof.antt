@@ -2,9 +2,8 @@
 -- Assumes nothing.
 use mathlib.Core.Path.{refl, sym}
 use native.Mathlib.Omega.{arith}
-use Rattle.rules.specs.Returns.{or-f, and-f, no-le}
+use Rattle.rules.proofs.Returns.{or-f, and-f, no-le, tests}
 use Rattle.rules.specs.Judge.{rangePossible}
-use Rattle.rules.specs.Returns.{tests}
 use borrow.Author.Needs.{needs}
 use Rattle.rules.proofs.room_for.Statement.{statement}
 use Rattle.rules.proofs.room_for.Tie as tie

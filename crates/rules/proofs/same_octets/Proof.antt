@@ -1,12 +1,14 @@
--- `rules::same_octets` meets its contract. The loop's invariant: the octets before i agree, so those from i on decide. The measure is what is left.
+-- `rules::same_octets` meets its contract. The loop's invariant: the octets before i agree, so those from i on
+-- decide. The measure is what is left.
 -- Assumes nothing.
 use mathlib.Core.Path.{_≡_, refl}
 use Prim.Native.Nat.{_≤_, _-_}
 use native.Mathlib.Omega.{arith}
 use lib.ListN.{drop}
 use Rattle.rules.specs.Tests.{_=?_}
-use Rattle.rules.specs.Returns.{yes-eq, no-eq}
-use Rattle.rules.specs.Pairwise.{pairwise, uneven, compared, agrees, differs}
+use Rattle.rules.proofs.Returns.{yes-eq, no-eq}
+use Rattle.rules.specs.Pairwise.{pairwise}
+use Rattle.rules.proofs.Pairwise.{uneven, compared, agrees, differs}
 use borrow.Author.Needs.{needs}
 use Rattle.rules.proofs.same_octets.Statement.{statement}
 use Rattle.rules.proofs.same_octets.Tie as tie
@@ -33,13 +35,21 @@ loop-less : tie.Need-loop-less Inv-loop μ-loop
 loop-less c = search needs
 
 loop-again : tie.Need-loop-again Inv-loop μ-loop
-loop-again c = (search needs, agrees _=?_ _ _ _ (c .before .before .before .before .loop .inv .1) 0 (c .before .before .before .loop-test .taken) (omega arith) (yes-eq _ _ (c .if2 .taken)))
+loop-again c = (
+  search needs,
+  agrees _=?_ _ _ _ (c .before .before .before .before .loop .inv .1) 0
+      (c .before .before .before .loop-test .taken) (omega arith) (yes-eq _ _ (c .if2 .taken)),
+)
 
 returns : tie.Need-returns Inv-loop μ-loop
-returns c = differs _=?_ _ _ _ (c .before .before .before .before .loop .inv .1) 0 (c .before .before .before .loop-test .taken) (omega arith) (no-eq _ _ (c .if2 .left))
+returns c =
+    differs _=?_ _ _ _ (c .before .before .before .before .loop .inv .1) 0
+    (c .before .before .before .loop-test .taken) (omega arith) (no-eq _ _ (c .if2 .left))
 
 returns-2 : tie.Need-returns-2 Inv-loop μ-loop
-returns-2 c = compared _=?_ (c .before .before .before .args .v .now) (c .before .before .before .args .w .now) (c .before .loop .i) (c .before .loop .inv .1) (omega arith) (omega arith)
+returns-2 c =
+    compared _=?_ (c .before .before .before .args .v .now) (c .before .before .before .args .w .now)
+    (c .before .loop .i) (c .before .loop .inv .1) (omega arith) (omega arith)
 
 returns-3 : tie.Need-returns-3 Inv-loop μ-loop
 returns-3 c = uneven _=?_ _ _ (c .if1 .left)

@@ -2,7 +2,7 @@
 -- Assumes nothing.
 use mathlib.Core.Path.{refl, sym, _∙_}
 use Rattle.rules.specs.Codes.{strictClass}
-use Rattle.rules.specs.Returns.{pick-t, pick-f, yes-eq, no-eq}
+use Rattle.rules.proofs.Returns.{pick-t, pick-f, yes-eq, no-eq}
 use borrow.Author.Needs.{needs}
 use Rattle.rules.proofs.strictly.Statement.{statement}
 use Rattle.rules.proofs.strictly.Tie as tie

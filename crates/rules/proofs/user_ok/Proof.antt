@@ -1,7 +1,7 @@
 -- `rules::user_ok` meets its contract: a set is tried range by range.
 -- Assumes nothing.
 use Rattle.rules.specs.Contents.{inSet}
-use Rattle.rules.specs.Returns.{tests}
+use Rattle.rules.proofs.Returns.{tests}
 use borrow.Author.Needs.{needs}
 use Rattle.rules.proofs.user_ok.Statement.{statement}
 use Rattle.rules.proofs.user_ok.Tie as tie

@@ -47,7 +47,7 @@ use denote.Exit.{yes}
 use denote.Triple.Clauses.{ensured, lasts}
 use Rattle.rules.specs.Table.{rulesOf}
 use Rattle.rules.specs.declared.Book.the-variants.{PresentLenient}
-use Rattle.walker.specs.Steps.{stepOf, after}
+use Rattle.walker.specs.Steps.{stepOf, nextPlace}
 use Rattle.walker.specs.declared.Walker.{Walker}
 use Rattle.walker.proofs.Walker as T
 use Rattle.walker.proofs.Walker.Laws as T′
@@ -82,7 +82,7 @@ module _ {M : Type 1} (𝓤 : URA M) (H : Heap 𝓤) (A : Atoms 𝓤) (W : Given
 
   -- the place of the next call
   abbrev onto : ℕ
-  onto = after (d .place) (stepOf (rulesOf PresentLenient) (now (d .message)) (d .place))
+  onto = nextPlace (d .place) (stepOf (rulesOf PresentLenient) (now (d .message)) (d .place))
 
   -- the walker with the place n
   abbrev at : ℕ → Walker

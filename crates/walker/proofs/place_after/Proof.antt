@@ -1,7 +1,7 @@
 -- `walker::place_after` meets its contract: as the step at the place goes.
 -- Assumes nothing.
 use mathlib.Core.Path.{refl, sym, _∙_}
-use Rattle.walker.specs.Steps.{after}
+use Rattle.walker.specs.Steps.{nextPlace}
 use borrow.Author.Needs.{needs}
 use Rattle.walker.proofs.place_after.Statement.{statement}
 use Rattle.walker.proofs.place_after.Tie as tie
@@ -19,15 +19,15 @@ enum-known-step-2 : tie.Need-enum-known-step-2
 enum-known-step-2 c = search needs
 
 returns : tie.Need-returns
-unfolding after
+unfolding nextPlace
 returns c = rw (sym (c .before .before .before .step-here .ensures) ∙ c .before .step .given .1) refl
 
 returns-2 : tie.Need-returns-2
-unfolding after
+unfolding nextPlace
 returns-2 c = rw (sym (c .before .before .step-here .ensures) ∙ c .enum-told .given .1) refl
 
 returns-3 : tie.Need-returns-3
-unfolding after
+unfolding nextPlace
 returns-3 c = rw (sym (c .before .before .before .step-here .ensures) ∙ c .before .step2 .given .1) refl
 
 pub place-after-spec : {M : Type 1} → statement M

@@ -3,9 +3,9 @@
 use mathlib.Core.Path.{_≡_, refl, sym, _∙_}
 use native.Mathlib.Omega.{arith}
 use Rattle.rules.specs.Message.{most}
-use Rattle.message.specs.Searching.{found-inside}
+use Rattle.message.proofs.Searching.{found-inside}
 use Rattle.walker.specs.Steps.{walkFrom}
-use Rattle.walker.proofs.Walking.{no-turns, none-here, here, onward}
+use Rattle.walker.proofs.Steps.{no-turns, none-here, here, onward}
 use borrow.Author.Needs.{needs}
 use Rattle.walker.proofs.walk_to.Statement.{statement}
 use Rattle.walker.proofs.walk_to.Tie as tie
@@ -32,7 +32,11 @@ add-next : tie.Need-add-next Inv-loop μ-loop
 add-next c = omega (arith, found-inside _ _ _ _ _ _ (c .before .before .before .parameter .ensures) (c .before .found .given .1))
 
 returns : tie.Need-returns Inv-loop μ-loop
-returns c = sym (here _ _ _ _ (c .before .before .before .before .before .loop-test .taken) _ _ _ (sym (c .before .before .before .before .parameter .ensures) ∙ c .before .before .found .given .1) (c .if1 .taken)) ∙ c .before .before .before .before .before .before .loop .inv
+returns c =
+    let after-parameter = c .before .before .before .before in
+    let turn = after-parameter .before in
+    sym (here _ _ _ _ (turn .loop-test .taken) _ _ _ (sym (after-parameter .parameter .ensures)
+    ∙ c .before .before .found .given .1) (c .if1 .taken)) ∙ turn .before .loop .inv
 
 sub-turns : tie.Need-sub-turns Inv-loop μ-loop
 sub-turns c = search needs
@@ -41,7 +45,12 @@ loop-less : tie.Need-loop-less Inv-loop μ-loop
 loop-less c = search needs
 
 loop-again : tie.Need-loop-again Inv-loop μ-loop
-loop-again c = sym (onward _ _ _ _ (c .before .before .before .before .before .loop-test .taken) _ _ _ (sym (c .before .before .before .before .parameter .ensures) ∙ c .before .before .found .given .1) (c .if1 .left)) ∙ c .before .before .before .before .before .before .loop .inv
+loop-again c =
+    let after-parameter = c .before .before .before .before in
+    let turn = after-parameter .before in
+    sym (onward _ _ _ _ (turn .loop-test .taken) _ _ _
+    (sym (after-parameter .parameter .ensures) ∙ c .before .before .found .given .1) (c .if1 .left))
+    ∙ turn .before .loop .inv
 
 enum-told : tie.Need-enum-told Inv-loop μ-loop
 enum-told c = search needs

@@ -22,13 +22,23 @@ text-length-requires : tie.Need-text-length-requires
 text-length-requires c κs = search needs
 
 returns : tie.Need-returns
-returns c = entry-number _ _ _ (omega arith) _ _ _ (c .before .before .before .before .before .before .before .class-of .ensures) (c .before .before .before .before .before .before .flatten .ensures) (c .before .before .before .before .before .form-of .ensures) _ (c .before .before .before .if1 .taken) (c .before .if2 .taken) (c .number-length .ensures)
+returns c =
+    let after-form-of = c .before .before .before .before .before in
+    entry-number _ _ _ (omega arith) _ _ _ (after-form-of .before .before .class-of .ensures)
+    (after-form-of .before .flatten .ensures) (after-form-of .form-of .ensures) _
+    (c .before .before .before .if1 .taken) (c .before .if2 .taken) (c .number-length .ensures)
 
 returns-2 : tie.Need-returns-2
-returns-2 c = entry-text _ _ _ (omega arith) _ _ _ (c .before .before .before .before .before .before .before .class-of .ensures) (c .before .before .before .before .before .before .flatten .ensures) (c .before .before .before .before .before .form-of .ensures) _ (c .before .before .before .if1 .taken) (c .before .if2 .left) (c .text-length .ensures)
+returns-2 c =
+    let after-form-of = c .before .before .before .before .before in
+    entry-text _ _ _ (omega arith) _ _ _ (after-form-of .before .before .class-of .ensures)
+    (after-form-of .before .flatten .ensures) (after-form-of .form-of .ensures) _
+    (c .before .before .before .if1 .taken) (c .before .if2 .left) (c .text-length .ensures)
 
 returns-3 : tie.Need-returns-3
-returns-3 c = entry-none _ _ _ (omega arith) _ _ _ (c .before .before .before .before .class-of .ensures) (c .before .before .before .flatten .ensures) (c .before .before .form-of .ensures) (c .if1 .left)
+returns-3 c =
+    entry-none _ _ _ (omega arith) _ _ _ (c .before .before .before .before .class-of .ensures)
+    (c .before .before .before .flatten .ensures) (c .before .before .form-of .ensures) (c .if1 .left)
 
 pub entry-length-spec : {M : Type 1} → statement M
 entry-length-spec =

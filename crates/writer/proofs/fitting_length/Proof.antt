@@ -1,8 +1,9 @@
--- `writer::fitting_length` meets its contract: the length is one of the class's, and each octet may stand where it stands.
+-- `writer::fitting_length` meets its contract: the length is one of the class's, and each octet may stand where it
+-- stands.
 -- Assumes nothing.
 use mathlib.Core.Path.{refl}
-use Rattle.rules.specs.Returns.{via}
-use Rattle.writer.proofs.Fitting.{too-long, length-not, octets-not, both-fit}
+use Rattle.rules.proofs.Returns.{via}
+use Rattle.writer.proofs.Contents.{too-long, length-not, octets-not, both-fit}
 use borrow.Author.Needs.{needs}
 use Rattle.writer.proofs.fitting_length.Statement.{statement}
 use Rattle.writer.proofs.fitting_length.Tie as tie
@@ -23,10 +24,14 @@ octets-fit-requires : tie.Need-octets-fit-requires
 octets-fit-requires c κs = refl
 
 returns-2 : tie.Need-returns-2
-returns-2 c = both-fit _ _ _ refl (via _ _ _ (c .before .before .before .length-fits .ensures) (c .before .before .if2 .taken)) (via _ _ _ (c .before .octets-fit .ensures) (c .if3 .taken))
+returns-2 c =
+    both-fit _ _ _ refl (via _ _ _ (c .before .before .before .length-fits .ensures)
+    (c .before .before .if2 .taken)) (via _ _ _ (c .before .octets-fit .ensures) (c .if3 .taken))
 
 returns-3 : tie.Need-returns-3
-returns-3 c = octets-not _ _ _ refl (via _ _ _ (c .before .before .before .length-fits .ensures) (c .before .before .if2 .taken)) (via _ _ _ (c .before .octets-fit .ensures) (c .if3 .left))
+returns-3 c =
+    octets-not _ _ _ refl (via _ _ _ (c .before .before .before .length-fits .ensures)
+    (c .before .before .if2 .taken)) (via _ _ _ (c .before .octets-fit .ensures) (c .if3 .left))
 
 returns-4 : tie.Need-returns-4
 returns-4 c = length-not _ _ _ refl (via _ _ _ (c .before .length-fits .ensures) (c .if2 .left))

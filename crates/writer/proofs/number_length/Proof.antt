@@ -24,7 +24,10 @@ fitting-length-requires c κs = search needs
 
 returns : tie.Need-returns
 unfolding small
-returns c = c .fitting-length .ensures ∙ ap (λ (s : Spelling). fitting (c .before .before .before .before .args .class) (take (s .length) (s .octets))) (c .before .before .before .spell .ensures)
+returns c =
+    c .fitting-length .ensures
+    ∙ ap (λ (s : Spelling). fitting (c .before .before .before .before .args .class)
+    (take (s .length) (s .octets))) (c .before .before .before .spell .ensures)
 
 pub number-length-spec : {M : Type 1} → statement M
 number-length-spec =

@@ -1,4 +1,5 @@
--- `writer::put_front` meets its contract. The loop's invariant: i entries are laid down behind the first two octets of the output. The measure is what is left.
+-- `writer::put_front` meets its contract. The loop's invariant: i entries are laid down behind the first two octets
+-- of the output. The measure is what is left.
 -- Assumes nothing.
 use mathlib.Core.Path.{_≡_}
 use Prim.Native.Nat.{_-_}
@@ -7,7 +8,7 @@ use lib.ListN.{length, length-map, length-set}
 use Rattle.rules.specs.Message.{most}
 use Rattle.draft.specs.declared.Entry.{Entry}
 use Rattle.draft.specs.declared.Value.the-variants.{Date}
-use Rattle.writer.proofs.Putting.{Wrote, wrote-none, wrote-length, wrote-room, wrote-small, wrote-asked, wrote-more, wrote-end}
+use Rattle.writer.proofs.Laying.{Wrote, wrote-none, wrote-length, wrote-room, wrote-small, wrote-asked, wrote-more, wrote-end}
 use borrow.Author.Needs.{needs}
 use Rattle.writer.proofs.put_front.Statement.{statement}
 use Rattle.writer.proofs.put_front.Tie as tie
@@ -22,7 +23,8 @@ abbrev μ-loop : tie.MeasureT-loop
 μ-loop texts out₀ size n entries at₀ next₀ out at next = n - next
 
 -- a draft has 85 entry places
-full : (c : tie.In-loop Inv-loop μ-loop) → length (c .before .before .before .before .before .args .draft .entries) ≡ most
+full : (c : tie.In-loop Inv-loop μ-loop) →
+    length (c .before .before .before .before .before .args .draft .entries) ≡ most
 full c = simp length-map at (c .before .before .before .before .before .good .0 .1 .1 .1 .1 .0 .1 .0 .1)
 
 slice-write-out : tie.Need-slice-write-out Inv-loop μ-loop
@@ -43,12 +45,20 @@ array-copy-out-e c = search needs
 sub-put-entry : tie.Need-sub-put-entry Inv-loop μ-loop
 sub-put-entry c =
     let start = c .before .before .before .before .before .before in
-    omega (arith, wrote-room _ _ (start .args .out .now) _ (start .pre) (full (c .before)) _ _ _ (c .before .before .loop .inv) any (c .before .loop-test .taken))
+    omega (
+      arith,
+      wrote-room _ _ (start .args .out .now) _ (start .pre) (full (c .before)) _ _ _
+          (c .before .before .loop .inv) any (c .before .loop-test .taken),
+    )
 
 part-put-entry-start : tie.Need-part-put-entry-start Inv-loop μ-loop
 part-put-entry-start c =
     let start = c .before .before .before .before .before .before in
-    omega (arith, wrote-room _ _ (start .args .out .now) _ (start .pre) (full (c .before)) _ _ _ (c .before .before .loop .inv) any (c .before .loop-test .taken))
+    omega (
+      arith,
+      wrote-room _ _ (start .args .out .now) _ (start .pre) (full (c .before)) _ _ _
+          (c .before .before .loop .inv) any (c .before .loop-test .taken),
+    )
 
 part-put-entry-end : tie.Need-part-put-entry-end Inv-loop μ-loop
 part-put-entry-end c = search needs
@@ -56,12 +66,19 @@ part-put-entry-end c = search needs
 put-entry-requires : tie.Need-put-entry-requires Inv-loop μ-loop
 put-entry-requires c κs =
     let start = c .before .before .before .before .before .before .before in
-    wrote-asked _ _ (start .args .out .now) _ (start .pre) (full (c .before .before)) _ _ _ (c .before .before .before .loop .inv) _ (c .before .before .loop-test .taken)
+    wrote-asked _ _ (start .args .out .now) _ (start .pre) (full (c .before .before)) _ _ _
+    (c .before .before .before .loop .inv) _ (c .before .before .loop-test .taken)
 
 add-at : tie.Need-add-at Inv-loop μ-loop
 add-at c =
-    let start = c .before .before .before .before .before .before .before .before .before .before in
-    omega (arith, wrote-small _ _ (start .args .out .now) _ (start .pre) (full (c .before .before .before .before .before)) _ _ _ (c .before .before .before .before .before .before .loop .inv) any (c .before .before .before .before .before .loop-test .taken), c .before .before .put-entry .ensures .1)
+    let turn = c .before .before .before .before .before in
+    let start = turn .before .before .before .before .before in
+    omega (
+      arith,
+      wrote-small _ _ (start .args .out .now) _ (start .pre) (full (turn)) _ _ _
+          (turn .before .loop .inv) any (turn .loop-test .taken),
+      c .before .before .put-entry .ensures .1,
+    )
 
 add-next : tie.Need-add-next Inv-loop μ-loop
 add-next c = search needs
@@ -71,18 +88,22 @@ loop-less c = search needs
 
 loop-again : tie.Need-loop-again Inv-loop μ-loop
 loop-again c =
-    let start = c .before .before .before .before .before .before .before .before .before .before in
-    wrote-more _ _ (start .args .out .now) _ (start .pre) (full (c .before .before .before .before .before)) _ _ _ (c .before .before .before .before .before .before .loop .inv) _ (c .before .before .before .before .before .loop-test .taken) _ _ (c .before .before .put-entry .ensures) (c .before .before .put-entry .kept .0)
+    let turn = c .before .before .before .before .before in
+    let start = turn .before .before .before .before .before in
+    wrote-more _ _ (start .args .out .now) _ (start .pre) (full (turn)) _ _ _ (turn .before .loop .inv) _
+    (turn .loop-test .taken) _ _ (c .before .before .put-entry .ensures) (c .before .before .put-entry .kept .0)
 
 same-length : tie.Need-same-length Inv-loop μ-loop
 same-length c =
     let start = c .before .before .before .before .before in
-    wrote-length _ _ (start .args .out .now) _ (start .pre) (simp length-map at (start .good .0 .1 .1 .1 .1 .0 .1 .0 .1)) _ _ _ (c .before .loop .inv)
+    wrote-length _ _ (start .args .out .now) _ (start .pre)
+    (simp length-map at (start .good .0 .1 .1 .1 .1 .0 .1 .0 .1)) _ _ _ (c .before .loop .inv)
 
 returns : tie.Need-returns Inv-loop μ-loop
 returns c =
     let start = c .before .before .before .before .before in
-    wrote-end _ _ (start .args .out .now) _ (start .pre) (simp length-map at (start .good .0 .1 .1 .1 .1 .0 .1 .0 .1)) _ _ _ (c .before .loop .inv) (c .loop-test .left)
+    wrote-end _ _ (start .args .out .now) _ (start .pre)
+    (simp length-map at (start .good .0 .1 .1 .1 .1 .0 .1 .0 .1)) _ _ _ (c .before .loop .inv) (c .loop-test .left)
 
 pub put-front-spec : {M : Type 1} → statement M
 put-front-spec =

@@ -4,7 +4,7 @@ use mathlib.Core.Path.{sym}
 use native.Mathlib.Omega.{arith}
 use lib.ListN.{length-set}
 use lib.Seq.{length-take-le}
-use Rattle.writer.proofs.Putting.{front-fits, sealed}
+use Rattle.writer.proofs.Laying.{front-fits, sealed}
 use borrow.Author.Needs.{needs}
 use Rattle.writer.proofs.put_message.Statement.{statement}
 use Rattle.writer.proofs.put_message.Tie as tie
@@ -15,12 +15,23 @@ put-front-requires c κs = c .before .before .before .pre
 slice-reshare-prefix-sum-of : tie.Need-slice-reshare-prefix-sum-of
 slice-reshare-prefix-sum-of c =
     let start = c .before .before .before .before .before .before in
-    omega (arith, c .before .before .put-front .ensures .1, front-fits (start .args .draft) (start .args .texts .now) _ _ (start .pre))
+    omega (
+      arith,
+      c .before .before .put-front .ensures .1,
+      front-fits (start .args .draft)
+          (start .args .texts .now) _ _ (start .pre),
+    )
 
 slice-aggregate-sum-of : tie.Need-slice-aggregate-sum-of
 slice-aggregate-sum-of c =
     let start = c .before .before .before .before .before .before .before in
-    sym (length-take-le _ _ (omega (arith, c .before .before .before .put-front .ensures .1, front-fits (start .args .draft) (start .args .texts .now) _ _ (start .pre))))
+    sym (length-take-le _ _
+    (omega (
+      arith,
+      c .before .before .before .put-front .ensures .1,
+      front-fits (start .args .draft)
+          (start .args .texts .now) _ _ (start .pre),
+    )))
 
 sum-of-requires : tie.Need-sum-of-requires
 sum-of-requires c κs = search needs
@@ -30,16 +41,30 @@ wrapping-sub-u8-requires c κs = search needs
 
 slice-write-out : tie.Need-slice-write-out
 slice-write-out c =
-    let start = c .before .before .before .before .before .before .before .before .before in
-    omega (arith, c .before .before .before .before .before .put-front .ensures .1, front-fits (start .args .draft) (start .args .texts .now) _ _ (start .pre))
+    let after-put-front = c .before .before .before .before .before in
+    let start = after-put-front .before .before .before .before in
+    omega (
+      arith,
+      after-put-front .put-front .ensures .1,
+      front-fits (start .args .draft) (start .args .texts .now)
+          _ _ (start .pre),
+    )
 
 same-length : tie.Need-same-length
 same-length c = simp length-set (search needs)
 
 returns : tie.Need-returns
 returns c =
-    let start = c .before .before .before .before .before .before .before .before .before in
-    sealed _ _ _ _ _ (c .before .before .before .before .before .put-front .ensures) (omega (arith, c .before .before .before .before .before .put-front .ensures .1, front-fits (start .args .draft) (start .args .texts .now) _ _ (start .pre))) _ _ (c .before .sum-of .ensures) (omega arith) (c .wrapping-sub-u8 .ensures)
+    let after-put-front = c .before .before .before .before .before in
+    let start = after-put-front .before .before .before .before in
+    sealed _ _ _ _ _ (after-put-front .put-front .ensures)
+    (omega (
+      arith,
+      after-put-front .put-front .ensures .1,
+      front-fits (start .args .draft)
+          (start .args .texts .now) _ _ (start .pre),
+    )) _ _ (c .before .sum-of .ensures) (omega arith)
+    (c .wrapping-sub-u8 .ensures)
 
 pub put-message-spec : {M : Type 1} → statement M
 put-message-spec =

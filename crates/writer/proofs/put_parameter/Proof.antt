@@ -4,7 +4,7 @@ use Prim.Native.Nat.{_-_}
 use mathlib.Core.Path.{refl}
 use native.Mathlib.Omega.{arith}
 use lib.ListN.{length, set, length-set, length-take, length-drop}
-use Rattle.writer.proofs.Putting.{parameter-laid, parameter-length}
+use Rattle.writer.proofs.Laying.{parameter-laid, parameter-length}
 use borrow.Author.Needs.{needs}
 use Rattle.writer.proofs.put_parameter.Statement.{statement}
 use Rattle.writer.proofs.put_parameter.Tie as tie
@@ -36,12 +36,18 @@ add-result c = search needs
 same-length : tie.Need-same-length
 same-length c =
     let start = c .before .before .before .before .before .before in
-    parameter-length (start .args .out .now) (c .before .before .copy .last .1 .0) (start .args .kind) (length (start .args .part .now)) (length (set (set (start .args .out .now) 0 (start .args .kind)) 1 (length (start .args .part .now))) - 2) (c .before .before .copy .kept .1 .0)
+    parameter-length (start .args .out .now) (c .before .before .copy .last .1 .0) (start .args .kind)
+    (length (start .args .part .now)) (length
+    (set (set (start .args .out .now) 0 (start .args .kind)) 1 (length (start .args .part .now))) - 2)
+    (c .before .before .copy .kept .1 .0)
 
 returns : tie.Need-returns
 returns c =
-    let start = c .before .before .before .before .before .before in
-    (parameter-laid (start .args .out .now) (start .args .part .now) _ _ _ (start .pre .0) (c .before .before .copy .ensures .1), refl)
+    let start = c .before .before .before .before .before .before in (
+      parameter-laid (start .args .out .now) (start .args .part .now) _ _ _ (start .pre .0)
+          (c .before .before .copy .ensures .1),
+      refl,
+    )
 
 pub put-parameter-spec : {M : Type 1} → statement M
 put-parameter-spec =

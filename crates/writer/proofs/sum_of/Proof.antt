@@ -1,10 +1,11 @@
--- `writer::sum_of` meets its contract. The loop's invariant: the sum of the octets before i. The measure is what is left.
+-- `writer::sum_of` meets its contract. The loop's invariant: the sum of the octets before i. The measure is what is
+-- left.
 -- Assumes nothing.
 use mathlib.Core.Path.{_≡_, refl, _∙_}
 use Prim.Native.Nat.{_≤_, _-_, _%_}
 use lib.ListN.{length, take}
 use Rattle.rules.specs.Octets.{total}
-use Rattle.writer.proofs.Putting.{sum-more, sum-all}
+use Rattle.writer.proofs.Laying.{sum-more, sum-all}
 use borrow.Author.Needs.{needs}
 use Rattle.writer.proofs.sum_of.Statement.{statement}
 use Rattle.writer.proofs.sum_of.Tie as tie
@@ -32,7 +33,11 @@ loop-less : tie.Need-loop-less Inv-loop μ-loop
 loop-less c = search needs
 
 loop-again : tie.Need-loop-again Inv-loop μ-loop
-loop-again c = (search needs, sum-more _ _ _ _ (c .before .before .before .loop .inv .1) (c .before .before .loop-test .taken) (c .wrapping-add-u8 .ensures))
+loop-again c = (
+  search needs,
+  sum-more _ _ _ _ (c .before .before .before .loop .inv .1) (c .before .before .loop-test .taken)
+      (c .wrapping-add-u8 .ensures),
+)
 
 returns : tie.Need-returns Inv-loop μ-loop
 returns c = c .before .loop .inv .1 ∙ sum-all _ _ (c .loop-test .left)

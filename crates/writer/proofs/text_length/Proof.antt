@@ -2,8 +2,8 @@
 -- Assumes nothing.
 use mathlib.Core.Path.{refl, _∙_, ap}
 use native.Mathlib.Omega.{arith}
-use Rattle.rules.specs.Laying.{part-is}
-use Rattle.rules.specs.Returns.{pick-t, pick-f, via, told-le}
+use Rattle.rules.proofs.Laying.{part-is}
+use Rattle.rules.proofs.Returns.{pick-t, pick-f, via, told-le}
 use Rattle.writer.specs.Judging.{fitting}
 use borrow.Author.Needs.{needs}
 use Rattle.writer.proofs.text_length.Statement.{statement}
@@ -30,7 +30,9 @@ fitting-length-requires c κs = search needs
 returns : tie.Need-returns
 returns c =
     let start = c .before .before .before .before .before in
-    pick-t _ _ _ _ (via _ _ _ (c .before .before .before .lies .ensures) (c .before .before .if1 .taken)) (c .fitting-length .ensures ∙ ap (fitting (start .args .class)) (part-is (start .args .texts .now) (start .args .start) (start .args .length)))
+    pick-t _ _ _ _ (via _ _ _ (c .before .before .before .lies .ensures) (c .before .before .if1 .taken))
+    (c .fitting-length .ensures ∙ ap (fitting (start .args .class))
+    (part-is (start .args .texts .now) (start .args .start) (start .args .length)))
 
 returns-2 : tie.Need-returns-2
 returns-2 c = pick-f _ _ _ _ (via _ _ _ (c .before .lies .ensures) (c .if1 .left)) refl

@@ -25,14 +25,18 @@ with-room-requires c κs = search needs
 returns : tie.Need-returns
 unfolding onMeasure
 returns c =
-    let start = c .before .before .before .before .before .before in
-    entries-went _ _ _ _ _ (simp length-map at (start .good .1 .0 .1 .1 .1 .1 .0 .1 .0 .1)) (start .pre) (c .before .before .before .before .measure-entries .ensures) (c .before .before .measured .given .1) (c .refusal .ensures)
+    let after-measure-entries = c .before .before .before .before in
+    let start = after-measure-entries .before .before in
+    entries-went _ _ _ _ _ (simp length-map at (start .good .1 .0 .1 .1 .1 .1 .0 .1 .0 .1)) (start .pre)
+    (after-measure-entries .measure-entries .ensures) (c .before .before .measured .given .1) (c .refusal .ensures)
 
 returns-2 : tie.Need-returns-2
 unfolding onMeasure
 returns-2 c =
-    let start = c .before .before .before .before .before .before in
-    entries-went _ _ _ _ _ (simp length-map at (start .good .1 .0 .1 .1 .1 .1 .0 .1 .0 .1)) (start .pre) (c .before .before .before .before .measure-entries .ensures) (c .before .before .measured2 .given .1) (c .with-room .ensures)
+    let after-measure-entries = c .before .before .before .before in
+    let start = after-measure-entries .before .before in
+    entries-went _ _ _ _ _ (simp length-map at (start .good .1 .0 .1 .1 .1 .1 .0 .1 .0 .1)) (start .pre)
+    (after-measure-entries .measure-entries .ensures) (c .before .before .measured2 .given .1) (c .with-room .ensures)
 
 pub with-entries-spec : {M : Type 1} → statement M
 with-entries-spec =

@@ -2,7 +2,7 @@
 -- Assumes nothing.
 use mathlib.Core.Path.{refl, _∙_}
 use native.Mathlib.Omega.{arith}
-use Rattle.rules.specs.Returns.{pick-t, pick-f, yes-le, no-le}
+use Rattle.rules.proofs.Returns.{pick-t, pick-f, yes-le, no-le}
 use Rattle.writer.specs.Writing.{sized}
 use borrow.Author.Needs.{needs}
 use Rattle.writer.proofs.with_room.Statement.{statement}
@@ -29,7 +29,9 @@ refusal-requires-2 c κs = search needs
 
 returns-2 : tie.Need-returns-2
 unfolding sized
-returns-2 c = c .refusal2 .ensures ∙ pick-f _ _ _ _ (no-le _ _ (omega arith)) (pick-t _ _ _ _ (yes-le _ _ (c .before .if2 .taken)) refl)
+returns-2 c =
+    c .refusal2 .ensures ∙ pick-f _ _ _ _ (no-le _ _ (omega arith))
+    (pick-t _ _ _ _ (yes-le _ _ (c .before .if2 .taken)) refl)
 
 returns-3 : tie.Need-returns-3
 unfolding sized

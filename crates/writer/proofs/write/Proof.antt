@@ -16,18 +16,24 @@ enum-known-answer c = search needs
 
 sub-put-message : tie.Need-sub-put-message
 sub-put-message c =
-    let start = c .before .before .before .before .before .before .before in
-    let h = layable _ (start .args .draft) (start .args .texts .now) _ _ _ (c .before .before .before .before .judge .ensures) (c .before .before .answer .given .1) in omega arith
+    let after-judge = c .before .before .before .before in
+    let start = after-judge .before .before .before in
+    let h = layable _ (start .args .draft) (start .args .texts .now) _ _ _ (after-judge .judge .ensures)
+    (c .before .before .answer .given .1) in omega arith
 
 cast-put-message : tie.Need-cast-put-message
 cast-put-message c =
-    let start = c .before .before .before .before .before .before .before in
-    let h = layable _ (start .args .draft) (start .args .texts .now) _ _ _ (c .before .before .before .before .judge .ensures) (c .before .before .answer .given .1) in omega arith
+    let after-judge = c .before .before .before .before in
+    let start = after-judge .before .before .before in
+    let h = layable _ (start .args .draft) (start .args .texts .now) _ _ _ (after-judge .judge .ensures)
+    (c .before .before .answer .given .1) in omega arith
 
 put-message-requires : tie.Need-put-message-requires
 put-message-requires c κs =
-    let start = c .before .before .before .before .before .before .before in
-    layable _ (start .args .draft) (start .args .texts .now) _ _ _ (c .before .before .before .before .judge .ensures) (c .before .before .answer .given .1) .0
+    let after-judge = c .before .before .before .before in
+    let start = after-judge .before .before .before in
+    layable _ (start .args .draft) (start .args .texts .now) _ _ _ (after-judge .judge .ensures)
+    (c .before .before .answer .given .1) .0
 
 enum-known-answer-2 : tie.Need-enum-known-answer-2
 enum-known-answer-2 c = search needs
@@ -37,7 +43,11 @@ same-length c = search needs
 
 returns : tie.Need-returns
 unfolding outputAfter
-returns c = (sym (c .before .before .before .before .before .answer .given .1) ∙ c .before .before .before .before .before .before .before .judge .ensures, c .before .before .put-message .ensures)
+returns c =
+    let after-answer = c .before .before .before .before .before in (
+      sym (after-answer .answer .given .1) ∙ after-answer .before .before .judge .ensures,
+      c .before .before .put-message .ensures,
+    )
 
 returns-2 : tie.Need-returns-2
 unfolding outputAfter

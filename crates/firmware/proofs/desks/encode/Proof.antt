@@ -5,7 +5,7 @@ use mathlib.Core.List.{_∷_, _++_, []}
 use native.Mathlib.Omega.{arith}
 use lib.ListN.{length-set}
 use Rattle.firmware.specs.DeskRecord.{placesCells, deskRecord}
-use Rattle.firmware.proofs.Desking.{first-four}
+use Rattle.firmware.proofs.RecordPlaces.{first-four}
 use borrow.Author.Needs.{needs}
 use Rattle.firmware.proofs.desks.encode.Statement.{statement}
 use Rattle.firmware.proofs.desks.encode.Tie as tie
@@ -40,10 +40,16 @@ same-length c = simp length-set at (c .before .cells .given)
 returns : tie.Need-returns
 unfolding deskRecord
 returns c =
-    let places = c .before .before .before .before .before .before .before .before .before .args .d .places in
+    let after-lamp-code = c .before .before .before .before in
+    let start = after-lamp-code .before .before .before .before .before in
+    let places = start .args .d .places in
     c .before .before .lay-places .ensures
-    ∙ (λ i. first-four (c .before .before .before .before .before .before .before .before .before .args .cells .now) (omega (arith, c .before .before .before .before .before .before .before .before .before .pre)) (c .before .before .before .before .before .before .waiting-code .result) (c .before .before .before .before .before .waiting-number .result) (c .before .before .before .before .lamp-code .result) 0 i ++ placesCells places)
-    ∙ (λ i. c .before .before .before .before .before .before .waiting-code .ensures i ∷ c .before .before .before .before .before .waiting-number .ensures i ∷ c .before .before .before .before .lamp-code .ensures i ∷ 0 ∷ placesCells places)
+    ∙ (λ i. first-four (start .args .cells .now) (omega (arith, start .pre))
+    (after-lamp-code .before .before .waiting-code .result) (after-lamp-code .before .waiting-number .result)
+    (after-lamp-code .lamp-code .result) 0 i ++ placesCells places)
+    ∙ (λ i. after-lamp-code .before .before .waiting-code .ensures i
+    ∷ after-lamp-code .before .waiting-number .ensures i ∷ after-lamp-code .lamp-code .ensures i ∷ 0 ∷ placesCells
+    places)
 
 pub encode-spec : {M : Type 1} → statement M
 encode-spec =

@@ -1,7 +1,7 @@
 -- `firmware::is_desk` meets its contract.
 -- Assumes nothing.
 use Rattle.firmware.specs.DeskRecord.{isDesk}
-use Rattle.rules.specs.Returns.{tests}
+use Rattle.rules.proofs.Returns.{tests}
 use borrow.Author.Needs.{needs}
 use Rattle.firmware.proofs.desks.is_desk.Statement.{statement}
 use Rattle.firmware.proofs.desks.is_desk.Tie as tie

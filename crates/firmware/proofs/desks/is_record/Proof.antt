@@ -1,7 +1,7 @@
 -- `firmware::is_record` meets its contract: the size first.
 -- Assumes nothing.
 use mathlib.Core.Path.{refl}
-use Rattle.rules.specs.Returns.{and-t, and-f, yes-eq, no-eq}
+use Rattle.rules.proofs.Returns.{and-t, and-f, yes-eq, no-eq}
 use Rattle.firmware.specs.DeskRecord.{isRecord}
 use borrow.Author.Needs.{needs}
 use Rattle.firmware.proofs.desks.is_record.Statement.{statement}

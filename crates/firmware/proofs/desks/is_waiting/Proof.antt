@@ -1,7 +1,7 @@
 -- `firmware::is_waiting` meets its contract.
 -- Assumes nothing.
 use Rattle.firmware.specs.DeskRecord.{isWaiting}
-use Rattle.rules.specs.Returns.{tests}
+use Rattle.rules.proofs.Returns.{tests}
 use Rattle.firmware.proofs.desks.is_waiting.Statement.{statement}
 use Rattle.firmware.proofs.desks.is_waiting.Tie as tie
 

@@ -1,7 +1,7 @@
 -- `firmware::lamp_of` meets its contract.
 -- Assumes nothing.
 use Rattle.firmware.specs.DeskRecord.{lampOf}
-use Rattle.rules.specs.Returns.{tests}
+use Rattle.rules.proofs.Returns.{tests}
 use Rattle.firmware.proofs.desks.lamp_of.Statement.{statement}
 use Rattle.firmware.proofs.desks.lamp_of.Tie as tie
 

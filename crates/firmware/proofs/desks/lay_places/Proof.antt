@@ -4,15 +4,15 @@ use mathlib.Core.Path.{_≡_, refl}
 use Prim.Native.Nat.{_+_, _*_, _-_}
 use native.Mathlib.Omega.{arith}
 use lib.ListN.{length, length-take, length-drop}
-use Rattle.desk.specs.Open.{placeCount}
-use Rattle.firmware.proofs.Desking.{Laid, laid-first, laid-more, laid-end}
-use Rattle.rules.specs.Laying.{rest-laid}
+use Rattle.desk.specs.References.{placeCount}
+use Rattle.firmware.proofs.RecordPlaces.{LaidPlaces, laid-first, laid-more, laid-end}
+use Rattle.rules.proofs.Laying.{rest-laid}
 use borrow.Author.Needs.{needs}
 use Rattle.firmware.proofs.desks.lay_places.Statement.{statement}
 use Rattle.firmware.proofs.desks.lay_places.Tie as tie
 
 abbrev Inv-loop : tie.InvT-loop
-Inv-loop cells₀ places i₀ cells i = Laid cells₀ places i cells
+Inv-loop cells₀ places i₀ cells i = LaidPlaces cells₀ places i cells
 
 abbrev μ-loop : tie.MeasureT-loop
 μ-loop cells₀ places i₀ cells i = placeCount - i
@@ -52,8 +52,11 @@ loop-less c = search needs
 
 loop-again : tie.Need-loop-again Inv-loop μ-loop
 loop-again c =
-    let l : length (c .before .before .before .before .before .before .before .args .t2) ≡ placeCount = search needs in
-    laid-more _ _ _ _ (c .before .before .before .before .before .loop .inv) l (c .before .before .before .before .loop-test .taken) _ refl _ (rest-laid _ _ _ (4 + 3 * c .before .before .before .before .before .loop .i) (c .before .before .lay-place .ensures))
+    let turn = c .before .before .before .before in
+    let start = turn .before .before .before in
+    let l : length (start .args .t2) ≡ placeCount = search needs in
+    laid-more _ _ _ _ (turn .before .loop .inv) l (turn .loop-test .taken) _ refl _
+    (rest-laid _ _ _ (4 + 3 * turn .before .loop .i) (c .before .before .lay-place .ensures))
 
 same-length : tie.Need-same-length Inv-loop μ-loop
 same-length c = search needs

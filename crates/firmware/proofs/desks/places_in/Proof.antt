@@ -3,14 +3,14 @@
 use mathlib.Core.Path.{refl}
 use Prim.Native.Nat.{_-_}
 use native.Mathlib.Omega.{arith}
-use Rattle.desk.specs.Open.{placeCount}
-use Rattle.firmware.proofs.Desking.{Taken, taken-first, taken-more, taken-end}
+use Rattle.desk.specs.References.{placeCount}
+use Rattle.firmware.proofs.RecordPlaces.{ReadPlaces, taken-first, taken-more, taken-end}
 use borrow.Author.Needs.{needs}
 use Rattle.firmware.proofs.desks.places_in.Statement.{statement}
 use Rattle.firmware.proofs.desks.places_in.Tie as tie
 
 abbrev Inv-loop : tie.InvT-loop
-Inv-loop cells places₀ i₀ places i = Taken cells i places
+Inv-loop cells places₀ i₀ places i = ReadPlaces cells i places
 
 abbrev μ-loop : tie.MeasureT-loop
 μ-loop cells places₀ i₀ places i = placeCount - i

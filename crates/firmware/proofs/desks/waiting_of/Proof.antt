@@ -1,7 +1,7 @@
 -- `firmware::waiting_of` meets its contract.
 -- Assumes nothing.
 use Rattle.firmware.specs.DeskRecord.{waitingOf}
-use Rattle.rules.specs.Returns.{tests}
+use Rattle.rules.proofs.Returns.{tests}
 use Rattle.firmware.proofs.desks.waiting_of.Statement.{statement}
 use Rattle.firmware.proofs.desks.waiting_of.Tie as tie
 

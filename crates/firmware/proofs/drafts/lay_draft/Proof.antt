@@ -8,7 +8,7 @@ use Rattle.rules.specs.Table.{rulesOf}
 use Rattle.rules.specs.declared.Book.the-variants.{PresentLenient}
 use Rattle.draft.specs.Packing.{draftOf}
 use Rattle.message.specs.Parameters.{messageIn}
-use Rattle.firmware.proofs.DraftRecord.{headed, kind-of, count-small}
+use Rattle.firmware.proofs.DraftRecord.{headed, draft-kind, count-small}
 use borrow.Author.Needs.{needs}
 use Rattle.firmware.proofs.drafts.lay_draft.Statement.{statement}
 use Rattle.firmware.proofs.drafts.lay_draft.Tie as tie
@@ -17,7 +17,9 @@ clear-requires : tie.Need-clear-requires
 clear-requires c κs = search needs
 
 lay-entries-requires : tie.Need-lay-entries-requires
-lay-entries-requires c κs = c .before .before .before .clear .ensures ∙ ap (λ (k : ℕ). replicate {A = ℕ} k 0) (c .before .before .before .before .before .before .before .pre)
+lay-entries-requires c κs =
+    let start = c .before .before .before .before .before .before .before in
+    c .before .before .before .clear .ensures ∙ ap (λ (k : ℕ). replicate {A = ℕ} k 0) (start .pre)
 
 octet-requires : tie.Need-octet-requires
 octet-requires c κs = search needs
@@ -26,7 +28,9 @@ slice-write-cells : tie.Need-slice-write-cells
 slice-write-cells c = search needs
 
 cast-cells : tie.Need-cast-cells
-cast-cells c = omega (arith, count-small (c .before .before .before .before .before .before .before .before .before .before .before .args .octets .now), c .before .before .before .lay-entries .ensures .0)
+cast-cells c =
+    let start = c .before .before .before .before .before .before .before .before .before .before .before in
+    omega (arith, count-small (start .args .octets .now), c .before .before .before .lay-entries .ensures .0)
 
 slice-write-cells-2 : tie.Need-slice-write-cells-2
 slice-write-cells-2 c = simp length-set (omega arith)
@@ -37,7 +41,7 @@ same-length c = search needs
 returns : tie.Need-returns
 returns c =
     let start = c .before .before .before .before .before .before .before .before .before .before .before in
-    headed (draftOf (rulesOf PresentLenient) (messageIn (start .args .octets .now))) _ _ _ (c .octet .ensures ∙ kind-of (start .args .octets .now)) (c .before .before .before .lay-entries .ensures .0) (c .before .before .before .lay-entries .ensures .1)
+    headed (draftOf (rulesOf PresentLenient) (messageIn (start .args .octets .now))) _ _ _ (c .octet .ensures ∙ draft-kind (start .args .octets .now)) (c .before .before .before .lay-entries .ensures .0) (c .before .before .before .lay-entries .ensures .1)
 
 pub lay-draft-spec : {M : Type 1} → statement M
 lay-draft-spec =

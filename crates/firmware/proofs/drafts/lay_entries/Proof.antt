@@ -9,7 +9,7 @@ use Rattle.rules.specs.Table.{rulesOf}
 use Rattle.rules.specs.declared.Book.the-variants.{PresentLenient}
 use Rattle.reader.proofs.Laying.{left-ended, left-full}
 use Rattle.firmware.proofs.DraftRecord.{Recorded, recorded-first, recorded-long, recorded-small, recorded-more, recorded-end}
-use Rattle.rules.specs.Laying.{rest-laid}
+use Rattle.rules.proofs.Laying.{rest-laid}
 use borrow.Author.Needs.{needs}
 use Rattle.firmware.proofs.drafts.lay_entries.Statement.{statement}
 use Rattle.firmware.proofs.drafts.lay_entries.Tie as tie
@@ -45,10 +45,20 @@ part-lay-entry-end : tie.Need-part-lay-entry-end Inv-loop μ-loop
 part-lay-entry-end c = search needs
 
 lay-entry-requires : tie.Need-lay-entry-requires Inv-loop μ-loop
-lay-entry-requires c κs = simp (length-take, length-drop) (omega (arith, recorded-long _ _ _ _ _ (c .before .before .before .before .before .before .loop .inv), c .before .before .before .before .before .loop-test .taken))
+lay-entry-requires c κs =
+    let turn = c .before .before .before .before .before in
+    simp (length-take, length-drop)
+    (omega (arith, recorded-long _ _ _ _ _ (turn .before .loop .inv), turn .loop-test .taken))
 
 add-used : tie.Need-add-used Inv-loop μ-loop
-add-used c = omega (arith, recorded-small _ _ _ _ _ (c .before .before .before .before .before .before .before .before .before .loop .inv) (c .before .before .before .before .before .before .before .before .loop-test .taken) _ _ _ (sym (c .before .before .before .before .before .taken .given .1) ∙ c .before .before .before .before .before .before .before .entry .ensures))
+add-used c =
+    let after-taken = c .before .before .before .before .before in
+    let turn = after-taken .before .before .before in
+    omega (
+      arith,
+      recorded-small _ _ _ _ _ (turn .before .loop .inv) (turn .loop-test .taken) _ _ _
+          (sym (after-taken .taken .given .1) ∙ after-taken .before .before .entry .ensures),
+    )
 
 add-count : tie.Need-add-count Inv-loop μ-loop
 add-count c = search needs
@@ -58,14 +68,21 @@ loop-less c = search needs
 
 loop-again : tie.Need-loop-again Inv-loop μ-loop
 loop-again c =
-    let start = c .before .before .before .before .before .before .before .before .before in
-    recorded-more _ _ _ _ _ (start .loop .inv) (c .before .before .before .before .before .before .before .before .loop-test .taken) _ _ _ (sym (c .before .before .before .before .before .taken .given .1) ∙ c .before .before .before .before .before .before .before .entry .ensures) _ (rest-laid _ _ _ (8 + 8 * start .loop .count) (c .before .before .lay-entry .ensures))
+    let after-taken = c .before .before .before .before .before in
+    let turn = after-taken .before .before .before in
+    let start = turn .before in
+    recorded-more _ _ _ _ _ (start .loop .inv) (turn .loop-test .taken) _ _ _
+    (sym (after-taken .taken .given .1) ∙ after-taken .before .before .entry .ensures) _
+    (rest-laid _ _ _ (8 + 8 * start .loop .count) (c .before .before .lay-entry .ensures))
 
 enum-told : tie.Need-enum-told Inv-loop μ-loop
 enum-told c = search needs
 
 same-length : tie.Need-same-length Inv-loop μ-loop
-same-length c = recorded-long _ _ _ _ _ (c .before .before .before .before .loop .inv) ∙ sym (ap length (c .before .before .before .before .before .before .before .pre) ∙ length-replicate {A = ℕ} 688 0)
+same-length c =
+    let turn = c .before .before .before .before in
+    let start = turn .before .before .before in
+    recorded-long _ _ _ _ _ (turn .loop .inv) ∙ sym (ap length (start .pre) ∙ length-replicate {A = ℕ} 688 0)
 
 returns : tie.Need-returns Inv-loop μ-loop
 returns c = recorded-end _ _ _ _ _ (c .before .before .before .before .loop .inv) (left-ended (rulesOf PresentLenient) _ _ _ _ (c .before .before .before .loop-test .taken) (sym (c .enum-told .given .1) ∙ c .before .before .entry .ensures))

@@ -4,6 +4,7 @@ use Rattle.firmware.specs.DraftRecord.{numbersOf}
 use borrow.Author.Needs.{needs}
 use Rattle.firmware.proofs.drafts.numbers_of.Statement.{statement}
 use Rattle.firmware.proofs.drafts.numbers_of.Tie as tie
+use Rattle.draft.specs.Meaning.{formNumber}
 
 enum-known-v : tie.Need-enum-known-v
 enum-known-v c = search needs
@@ -33,23 +34,23 @@ numbers-text-requires-2 : tie.Need-numbers-text-requires-2
 numbers-text-requires-2 c κs = search needs
 
 returns : tie.Need-returns
-unfolding numbersOf
+unfolding numbersOf formNumber
 returns c = rw (c .before .v .given .1)
 
 returns-2 : tie.Need-returns-2
-unfolding numbersOf
+unfolding numbersOf formNumber
 returns-2 c = rw (c .before .v2 .given .1)
 
 returns-3 : tie.Need-returns-3
-unfolding numbersOf
+unfolding numbersOf formNumber
 returns-3 c = rw (c .before .v3 .given .1)
 
 returns-4 : tie.Need-returns-4
-unfolding numbersOf
+unfolding numbersOf formNumber
 returns-4 c = rw (c .before .before .v4 .given .1) (c .numbers-text .ensures)
 
 returns-5 : tie.Need-returns-5
-unfolding numbersOf
+unfolding numbersOf formNumber
 returns-5 c = rw (c .before .before .v5 .given .1) (c .numbers-text2 .ensures)
 
 pub numbers-of-spec : {M : Type 1} → statement M

@@ -1,6 +1,6 @@
 -- `firmware::lay_part` meets its contract: side, start and length stand behind one another.
 -- Assumes nothing.
-use Rattle.rules.specs.Laying.{rest-laid}
+use Rattle.rules.proofs.Laying.{rest-laid}
 use Rattle.firmware.proofs.PartRecord.{part-laid}
 use borrow.Author.Needs.{needs}
 use Rattle.firmware.proofs.parts.lay_part.Statement.{statement}
@@ -37,7 +37,13 @@ same-length : tie.Need-same-length
 same-length c = search needs
 
 returns : tie.Need-returns
-returns c = part-laid _ _ _ _ (c .before .before .before .before .before .before .before .before .before .before .before .before .before .pre) _ _ _ (c .before .before .before .before .before .before .before .before .before .before .lay-side .ensures) (rest-laid _ _ _ 8 (c .before .before .before .before .before .before .lay-number .ensures)) (rest-laid _ _ _ 16 (c .before .before .lay-number2 .ensures))
+returns c =
+    let after-lay-number = c .before .before .before .before .before .before in
+    let after-lay-side = after-lay-number .before .before .before .before in
+    let entry = after-lay-side .before .before .before in
+    part-laid _ _ _ _ (entry .pre) _ _ _ (after-lay-side .lay-side .ensures)
+    (rest-laid _ _ _ 8 (after-lay-number .lay-number .ensures))
+    (rest-laid _ _ _ 16 (c .before .before .lay-number2 .ensures))
 
 pub lay-part-spec : {M : Type 1} → statement M
 lay-part-spec =

@@ -1,0 +1,618 @@
+/* The listener, the whole read and the desk as an embedded C programmer would
+ * tune them, on the records of include/anthercup.h and with its answers: one
+ * table of octet kinds and one of types, the record taken as two words (low
+ * octet first, so for little-endian machines), each stage reading and writing
+ * only what it needs, contents in runs, a header judged at once where its
+ * length octet is there too. Portable C99: no intrinsics, no alignment asked.
+ */
+#include "tuned.h"
+
+#include <string.h>
+
+enum { KIND, SIZE, HEADER, LENGTH, CONTENT, MESSAGE, REFUSED };
+enum {
+    CARRIED,
+    DATE,
+    NUMBER,
+    ABSENT,
+    NAME,
+    LAMP,
+    IDENTITY,
+    CALL_TYPE,
+    WAITING,
+    FORWARDED,
+    USER,
+    CLASSES
+};
+enum { CODE_VALUE, DATE_VALUE, STATE_VALUE, TEXT_VALUE, CARRIED_VALUE };
+
+/* The kinds that an octet belongs to, a bit for each class that judges octets
+ * by a set. */
+enum {
+    IN_NUMBER = 1,
+    IN_NAME = 2,
+    IN_ABSENT = 4,
+    IN_LAMP = 8,
+    IN_IDENTITY = 16,
+    IN_CALL_TYPE = 32,
+    IN_FORWARDED = 64,
+    IN_USER = 128
+};
+
+#define LOW(x)                                                      \
+    ((x) == 0x00 ? IN_LAMP | IN_IDENTITY : 0)                       \
+        | ((x) >= 1 && (x) <= 7 ? IN_CALL_TYPE : 0)                 \
+        | ((x) <= 6 ? IN_FORWARDED : 0) | ((x) <= 15 ? IN_USER : 0) \
+        | ((x) == 0x10 || (x) == 0x11 ? IN_CALL_TYPE : 0)
+#define MID(x)                                                    \
+    ((x) >= 0x20 && (x) <= 0x7E ? IN_NAME : 0)                    \
+        | (((x) >= '0' && (x) <= '9') || (x) == ' ' || (x) == '#' \
+                   || ((x) >= '(' && (x) <= '*') || (x) == '-'    \
+               ? IN_NUMBER                                        \
+               : 0)                                               \
+        | ((x) == 'O' || (x) == 'P' ? IN_ABSENT : 0)              \
+        | ((x) == 0x55 ? IN_IDENTITY : 0)                         \
+        | ((x) == 0x50 || (x) == 0x51 ? IN_CALL_TYPE : 0)
+#define HIGH(x)                                                         \
+    ((x) >= 0x81 ? IN_CALL_TYPE : 0) | ((x) >= 0x80 ? IN_FORWARDED : 0) \
+        | ((x) == 0xFF ? IN_LAMP | IN_IDENTITY : 0)
+#define OF(x) (uint8_t)((LOW(x)) | (MID(x)) | (HIGH(x)))
+#define ROW4(x) OF(x), OF((x) + 1), OF((x) + 2), OF((x) + 3)
+#define ROW16(x) ROW4(x), ROW4((x) + 4), ROW4((x) + 8), ROW4((x) + 12)
+#define ROW64(x) ROW16(x), ROW16((x) + 16), ROW16((x) + 32), ROW16((x) + 48)
+static const uint8_t kinds_of[256] = {ROW64(0), ROW64(64), ROW64(128),
+                                      ROW64(192)};
+
+static const uint8_t class_of[256] = {
+    [0x01] = DATE,      [0x02] = NUMBER,    [0x03] = NUMBER, [0x04] = ABSENT,
+    [0x07] = NAME,      [0x08] = ABSENT,    [0x0B] = LAMP,   [0x0D] = IDENTITY,
+    [0x0E] = NUMBER,    [0x11] = CALL_TYPE, [0x12] = NUMBER, [0x13] = WAITING,
+    [0x15] = FORWARDED, [0x16] = USER,
+};
+
+/* By class: the least length and how far above it the greatest is, the kinds
+ * that octets are judged by (0: by none, or as a date), and the form of the
+ * value; of texts every octet is judged, of all others the first. */
+static const struct rule {
+    uint8_t least, span, kinds, form;
+} rules[CLASSES] = {
+    {1, 252, 0, CARRIED_VALUE},
+    {8, 0, 0, DATE_VALUE},
+    {1, 19, IN_NUMBER, TEXT_VALUE},
+    {1, 0, IN_ABSENT, CODE_VALUE},
+    {1, 49, IN_NAME, TEXT_VALUE},
+    {1, 0, IN_LAMP, CODE_VALUE},
+    {3, 0, IN_IDENTITY, STATE_VALUE},
+    {1, 0, IN_CALL_TYPE, CODE_VALUE},
+    {1, 0, 0, CODE_VALUE},
+    {1, 0, IN_FORWARDED, CODE_VALUE},
+    {1, 0, IN_USER, CODE_VALUE},
+};
+
+static uint64_t word(unsigned number, unsigned place, unsigned size,
+                     size_t taken)
+{
+    return number | (uint64_t)place << 8 | (uint64_t)size << 24
+           | (uint64_t)taken << 40;
+}
+
+static uint64_t load(const uint8_t *p)
+{
+    uint64_t w;
+    memcpy(&w, p, 8);
+    return w;
+}
+
+static void store(uint8_t *p, uint64_t w)
+{
+    memcpy(p, &w, 8);
+}
+
+static void record(uint8_t *r, uint64_t low, uint64_t high)
+{
+    store(r, low);
+    store(r + 8, high);
+}
+
+/* a length of the class that leaves 0 or at least 3 octets of the room */
+static int length_fits(struct rule c, unsigned room, unsigned n)
+{
+    unsigned left = room - n - 2;
+    return n - c.least <= c.span && (left == 0 || left - 3 < 253);
+}
+
+static int possible(struct rule c, unsigned room)
+{
+    unsigned over = room - c.least - 2u;
+    return over <= c.span || over - 3 < 253;
+}
+
+static int date_octet(unsigned index, unsigned memory, unsigned x)
+{
+    static const uint8_t from[4] = {1, 1, 0, 0}, to[4] = {12, 31, 23, 59};
+    unsigned pair = index >> 1, v = x - '0';
+    if (index >= 8)
+        return 1;
+    if (v > 9)
+        return 0;
+    if (index & 1)
+        return 10 * memory + v - from[pair] <= (unsigned)to[pair] - from[pair];
+    return from[pair] <= 10 * v + 9 && 10 * v <= to[pair];
+}
+
+/* The first place from p on whose octet may not stand there, or the end; the
+ * first of them, one at least, stands at `index`. */
+static const uint8_t *fine(struct rule c, const uint8_t *p, const uint8_t *end,
+                           unsigned index, unsigned memory)
+{
+    if (c.form == TEXT_VALUE) {
+        while (kinds_of[*p] & c.kinds)
+            if (++p == end)
+                break;
+        return p;
+    }
+    if (c.form == DATE_VALUE) {
+        for (; p < end; p++) {
+            if (!date_octet(index++, memory, *p))
+                break;
+            memory = *p >= '0' ? *p - '0' : 0;
+        }
+        return p;
+    }
+    return index || !c.kinds || kinds_of[*p] & c.kinds ? end : p;
+}
+
+static unsigned sum_of(const uint8_t *p, const uint8_t *end, unsigned sum)
+{
+    uint8_t s = (uint8_t)sum;
+    while (p < end)
+        s = (uint8_t)(s + *p++);
+    return s;
+}
+
+uint64_t tuned_reset(uint8_t *r, size_t size)
+{
+    if (size != 16)
+        return word(17, 0, 0, 0);
+    record(r, 0, 0);
+    return 0;
+}
+
+static uint64_t refused(uint8_t *r, unsigned number, unsigned place,
+                        size_t taken)
+{
+    record(r, REFUSED | (uint64_t)place << 16, number << 8);
+    return word(number, place, 0, taken);
+}
+
+/* A run of octets, or none; tuned_listen has judged the record of a waiting
+ * listener. What the run took is summed where it stops. */
+static uint64_t run_on(uint8_t *r, uint64_t low, unsigned room,
+                       const uint8_t *o, size_t count)
+{
+    const uint8_t *p = o, *end = o + count, *stop, *good;
+    unsigned sum = (unsigned)(low >> 8) & 0xff,
+             place = (unsigned)(low >> 16) & 0xffff, class, length, index = 0,
+             memory = 0, number;
+    if (count == 0)
+        return 0;
+    switch (low & 0xff) {
+    case KIND:
+        number = 1;
+        if (*p != 0x80 && *p != 0x82)
+            goto refuse;
+        if (++p == end) {
+            record(r, SIZE | ((sum + *o) & 0xff) << 8 | 1 << 16, 0);
+            return word(0, 0, 0, count);
+        }
+        /* fall through */
+    case SIZE:
+        room = *p;
+        number = 2;
+        if (room < 3)
+            goto refuse;
+        p++;
+        break;
+    case HEADER:
+        break;
+    case LENGTH:
+        class = (unsigned)(low >> 32);
+        number = 4;
+        if (!length_fits(rules[class], room, *p))
+            goto refuse;
+        length = *p++;
+        room -= length + 2;
+        if (p == end)
+            goto cut;
+        goto content;
+    default:
+        class = (unsigned)(low >> 32) & 0xff;
+        length = (unsigned)(low >> 40) & 0xff;
+        index = (unsigned)(low >> 48) & 0xff;
+        memory = (unsigned)(low >> 56);
+    content:
+        number = 5;
+        stop = (size_t)(end - p) < length - index ? end : p + (length - index);
+        good = fine(rules[class], p, stop, index, memory);
+        index += (unsigned)(stop - p);
+        p = good;
+        if (good < stop)
+            goto refuse;
+        if (index < length)
+            goto cut;
+    }
+    while (p < end) {
+        if (room == 0) {
+            p++;
+            place += (unsigned)(p - o);
+            if (sum_of(o, p, sum))
+                return refused(r, 6, place - 1, (size_t)(p - o));
+            record(r, MESSAGE | place << 16, 0);
+            return word(0, 0, place, (size_t)(p - o));
+        }
+        class = class_of[*p];
+        /* a length that fits says that the type was possible */
+        if (p + 1 == end || !length_fits(rules[class], room, p[1])) {
+            number = 3;
+            if (!possible(rules[class], room))
+                goto refuse;
+            number = 4;
+            if (++p < end)
+                goto refuse;
+            record(r,
+                   LENGTH | (uint64_t)sum_of(o, p, sum) << 8
+                       | (uint64_t)(place + count) << 16
+                       | (uint64_t) class << 32,
+                   room);
+            return word(0, 0, 0, count);
+        }
+        length = p[1];
+        room -= length + 2;
+        p += 2;
+        index = memory = 0;
+        if ((size_t)(end - p) < length) {
+            if (p == end)
+                goto cut;
+            goto content;
+        }
+        stop = p + length;
+        number = 5;
+        p = fine(rules[class], p, stop, 0, 0);
+        if (p < stop)
+            goto refuse;
+    }
+    record(r,
+           HEADER | (uint64_t)sum_of(o, p, sum) << 8
+               | (uint64_t)(place + count) << 16,
+           room);
+    return word(0, 0, 0, count);
+cut:
+    if (class == DATE && index)
+        memory = p[-1] >= '0' ? p[-1] - '0' : 0;
+    record(r,
+           CONTENT | (uint64_t)sum_of(o, p, sum) << 8
+               | (uint64_t)(place + count) << 16 | (uint64_t) class << 32
+               | (uint64_t)length << 40 | (uint64_t)index << 48
+               | (uint64_t)(class == DATE ? memory : 0) << 56,
+           room);
+    return word(0, 0, 0, count);
+refuse:
+    return refused(r, number, place + (unsigned)(p - o), (size_t)(p - o) + 1);
+}
+
+/* A record of a waiting listener, a message or a refusal is in range, and what
+ * it does not use is 0. */
+static int content_known(const uint8_t *r, unsigned place)
+{
+    return load(r + 8) <= 0xff && r[4] < CLASSES && r[6] < r[5]
+           && place + r[5] - r[6] + r[8] - 5u <= 252;
+}
+
+static int header_known(const uint8_t *r, unsigned place)
+{
+    return !(load(r) >> 32) && load(r + 8) <= 0xff && place + r[8] - 5u <= 252;
+}
+
+static int length_known(const uint8_t *r, unsigned place)
+{
+    return load(r) >> 32 < CLASSES && load(r + 8) <= 0xff && r[8]
+           && place + r[8] - 6u <= 252;
+}
+
+static int start_known(const uint8_t *r)
+{
+    return load(r) >> 16 == r[0] && !load(r + 8);
+}
+
+static int message_known(const uint8_t *r, unsigned place)
+{
+    return !(load(r) & 0xffffffff0000ff00) && !load(r + 8) && place - 6 <= 252;
+}
+
+static int refusal_known(const uint8_t *r, unsigned place)
+{
+    return !(load(r) & 0xffffffff0000ff00) && load(r + 8) == (uint64_t)r[9] << 8
+           && r[9] - 1u <= 5 && place <= 257;
+}
+
+static void spot(uint8_t *r, unsigned stage, unsigned sum, unsigned place)
+{
+    uint32_t w = stage | (sum & 0xff) << 8 | place << 16;
+    memcpy(r, &w, 4);
+}
+
+/* One octet of a parameter, as a modem hands them over: only what its stage
+ * uses is read and written. Anything else goes to run_on. */
+uint64_t tuned_listen(uint8_t *r, size_t size, const uint8_t *o, size_t count)
+{
+    unsigned place, x;
+    if (size != 16)
+        return word(17, 0, 0, 0);
+    place = r[2] | (unsigned)r[3] << 8;
+    switch (r[0]) {
+    case CONTENT:
+        if (!content_known(r, place))
+            break;
+        if (count != 1)
+            return run_on(r, load(r), r[8], o, count);
+        x = *o;
+        if (r[4] == DATE) {
+            if (!date_octet(r[6], r[7], x))
+                return refused(r, 5, place, 1);
+            r[7] = (uint8_t)(x >= '0' ? x - '0' : 0);
+        } else {
+            struct rule c = rules[r[4]];
+            if (c.kinds && (r[6] == 0 || c.form == TEXT_VALUE)
+                && !(kinds_of[x] & c.kinds))
+                return refused(r, 5, place, 1);
+            r[7] = 0;
+        }
+        if (++r[6] == r[5]) {
+            store(r, HEADER | ((r[1] + x) & 0xff) << 8
+                         | (uint64_t)(place + 1) << 16);
+        } else {
+            spot(r, CONTENT, r[1] + x, place + 1);
+        }
+        return word(0, 0, 0, 1);
+    case HEADER:
+        if (!header_known(r, place))
+            break;
+        if (count != 1)
+            return run_on(r, load(r), r[8], o, count);
+        x = *o;
+        if (r[8] == 0) {
+            if ((r[1] + x) & 0xff)
+                return refused(r, 6, place, 1);
+            spot(r, MESSAGE, 0, place + 1);
+            return word(0, 0, place + 1, 1);
+        }
+        if (!possible(rules[class_of[x]], r[8]))
+            return refused(r, 3, place, 1);
+        spot(r, LENGTH, r[1] + x, place + 1);
+        r[4] = class_of[x];
+        return word(0, 0, 0, 1);
+    case LENGTH:
+        if (!length_known(r, place))
+            break;
+        if (count != 1)
+            return run_on(r, load(r), r[8], o, count);
+        x = *o;
+        if (!length_fits(rules[r[4]], r[8], x))
+            return refused(r, 4, place, 1);
+        spot(r, CONTENT, r[1] + x, place + 1);
+        r[5] = (uint8_t)x;
+        r[8] = (uint8_t)(r[8] - 2 - x);
+        return word(0, 0, 0, 1);
+    case KIND:
+    case SIZE:
+        if (!start_known(r))
+            break;
+        return run_on(r, load(r), 0, o, count);
+    case MESSAGE:
+        if (!message_known(r, place))
+            break;
+        return word(0, 0, place, 0);
+    case REFUSED:
+        if (!refusal_known(r, place))
+            break;
+        return word(r[9], place, 0, 0);
+    }
+    return word(17, 0, 0, 0);
+}
+
+/* The verdict on a whole message, 0 or 1 to 8 with its place as a word; `texts`
+ * gets the text octets of an accepted one. */
+static uint64_t judge(const uint8_t *o, size_t n, unsigned *texts)
+{
+    const uint8_t *p = o + 2, *end = o + n, *stop;
+    unsigned room, text = 0, number;
+    if (n == 0)
+        return word(8, 0, 0, 0);
+    if (o[0] != 0x80 && o[0] != 0x82)
+        return word(1, 0, 0, 0);
+    if (n == 1)
+        return word(8, 1, 0, 0);
+    room = o[1];
+    if (room < 3)
+        return word(2, 1, 0, 0);
+    while (room) {
+        struct rule c;
+        unsigned length;
+        if (p == end)
+            return word(8, (unsigned)n, 0, 0);
+        c = rules[class_of[*p]];
+        if (p + 1 == end || !length_fits(c, room, p[1])) {
+            number = 3;
+            if (!possible(c, room))
+                goto refuse;
+            number = 4;
+            if (++p < end)
+                goto refuse;
+            return word(8, (unsigned)n, 0, 0);
+        }
+        length = p[1];
+        p += 2;
+        room -= length + 2;
+        number = 5;
+        if ((size_t)(end - p) < length) {
+            if (p < end)
+                p = fine(c, p, end, 0, 0);
+            if (p < end)
+                goto refuse;
+            return word(8, (unsigned)n, 0, 0);
+        }
+        stop = p + length;
+        p = fine(c, p, stop, 0, 0);
+        if (p < stop)
+            goto refuse;
+        if (c.form >= TEXT_VALUE)
+            text += length;
+    }
+    if (p == end)
+        return word(8, (unsigned)n, 0, 0);
+    number = 6;
+    if (sum_of(o, p + 1, 0))
+        goto refuse;
+    p++;
+    if (p != end)
+        return word(7, (unsigned)(p - o), 0, 0);
+    *texts = text;
+    return 0;
+refuse:
+    return word(number, (unsigned)(p - o), 0, 0);
+}
+
+static unsigned digits(const uint8_t *p)
+{
+    return 10u * (p[0] & 15u) + (p[1] & 15u);
+}
+
+uint64_t tuned_read(const uint8_t *o, size_t n, uint8_t *draft,
+                    size_t draft_size, uint8_t *texts, size_t texts_size)
+{
+    const uint8_t *p, *end;
+    uint8_t *cell = draft + 8, *to = texts;
+    unsigned text = 0;
+    uint64_t answer;
+    if (draft_size != 688)
+        return word(17, 0, 0, 0);
+    answer = judge(o, n, &text);
+    if (answer)
+        return answer;
+    if (texts_size < text)
+        return word(9, text, 0, 0);
+    for (p = o + 2, end = o + n - 1; p < end; cell += 8) {
+        unsigned type = p[0], length = p[1], form = rules[class_of[type]].form;
+        uint64_t value;
+        p += 2;
+        switch (form) {
+        case CODE_VALUE:
+            value = p[0];
+            break;
+        case DATE_VALUE:
+            value = digits(p) | digits(p + 2) << 8 | digits(p + 4) << 16
+                    | digits(p + 6) << 24;
+            break;
+        case STATE_VALUE:
+            value = p[0] | (unsigned)p[2] << 16 | (unsigned)p[1] << 24;
+            break;
+        default:
+            value = (unsigned)(to - texts) | length << 16;
+            memcpy(to, p, length);
+            to += length;
+        }
+        store(cell, type | form << 8 | value << 16);
+        p += length;
+    }
+    store(draft, o[0] | (uint64_t)(cell - draft - 8) / 8 << 8);
+    memset(cell, 0, (size_t)(draft + 688 - cell));
+    return word(0, 0, text, 0);
+}
+
+uint64_t tuned_new_desk(uint8_t *desk, size_t size)
+{
+    if (size != 52)
+        return word(17, 0, 0, 0);
+    memset(desk, 0, 52);
+    return 0;
+}
+
+static uint32_t place_at(const uint8_t *desk, unsigned i)
+{
+    const uint8_t *p = desk + 4 + 3 * i;
+    return p[0] | (uint32_t)p[1] << 8 | (uint32_t)p[2] << 16;
+}
+
+static void put(uint8_t *desk, unsigned i, uint32_t place)
+{
+    uint8_t *p = desk + 4 + 3 * i;
+    p[0] = (uint8_t)place;
+    p[1] = (uint8_t)(place >> 8);
+    p[2] = (uint8_t)(place >> 16);
+}
+
+static int is_desk(const uint8_t *desk)
+{
+    uint32_t held[16];
+    unsigned count = 0;
+    if (desk[0] > 1 || (desk[0] == 0 && desk[1]) || desk[2] > 2 || desk[3])
+        return 0;
+    for (unsigned i = 0; i < 16; i++) {
+        uint32_t place = place_at(desk, i);
+        if (place == 0)
+            continue;
+        if (place > 65536)
+            return 0;
+        for (unsigned j = 0; j < count; j++)
+            if (held[j] == place)
+                return 0;
+        held[count++] = place;
+    }
+    return 1;
+}
+
+static unsigned find(const uint8_t *desk, uint32_t place)
+{
+    unsigned i = 0;
+    while (i < 16 && place_at(desk, i) != place)
+        i++;
+    return i;
+}
+
+uint64_t tuned_settle(uint8_t *desk, size_t size, const uint8_t *o, size_t n)
+{
+    const uint8_t *waiting = NULL, *lamp = NULL, *state = NULL;
+    unsigned text, at;
+    uint64_t answer;
+    if (size != 52 || !is_desk(desk))
+        return word(17, 0, 0, 0);
+    answer = judge(o, n, &text);
+    if (answer || o[0] != 0x82)
+        return answer;
+    for (const uint8_t *p = o + 2; p < o + n - 1; p += 2 + p[1]) {
+        if (p[0] == 0x13 && !waiting)
+            waiting = p + 2;
+        if (p[0] == 0x0B && !lamp)
+            lamp = p + 2;
+        if (p[0] == 0x0D && !state)
+            state = p + 2;
+    }
+    if (state && state[0] != 0x55) {
+        uint32_t place = 1 + (state[1] * 256u + state[2]);
+        at = find(desk, place);
+        if (state[0] == 0x00) {
+            if (at < 16)
+                put(desk, at, 0);
+        } else if (at == 16) {
+            at = find(desk, 0);
+            if (at == 16)
+                return word(21, 0, 0, 0);
+            put(desk, at, place);
+        }
+    }
+    if (waiting)
+        desk[0] = 1, desk[1] = *waiting;
+    if (lamp)
+        desk[2] = *lamp ? 2 : 1;
+    return 0;
+}

@@ -1,0 +1,62 @@
+-- The sentences on a verdict leave one: each way to be accepted or declined is told by the octets alone, and no
+-- number is without its sentence.
+-- Assumes nothing.
+use Prim.Native.Nat.{ℕ, _≤_}
+use mathlib.Core.Path.{_≡_, refl, sym, _∙_, ap}
+use mathlib.Core.Logic.{_⊎_, inl, inr}
+use mathlib.Core.List.{List}
+use mathlib.Core.Option.{Option, none, some}
+use native.Mathlib.Omega.{arith}
+use lib.ListN.{length}
+use lib.Dec.{T}
+use Rattle.rules.specs.Table.{Rules}
+use Rattle.rules.specs.Message.{Message}
+use Rattle.rules.specs.Counting.{counted}
+use Rattle.rules.proofs.Counting.{counted-iff}
+use Rattle.rules.specs.Language.{Language}
+use Rattle.rules.specs.Refusals.{noted}
+use Rattle.rules.specs.declared.Fault.{Fault}
+use Rattle.message.specs.declared.Part.{Part}
+use Rattle.message.specs.Places.{CountsAt}
+use Rattle.message.specs.declared.Verdict.{Verdict}
+use Rattle.message.specs.declared.Verdict.the-variants.{Accepted, Declined}
+use Rattle.message.specs.Judges.{Judges}
+use Rattle.message.proofs.Judges.{verdict-number}
+
+module _ (L : Language) (o : List ℕ) where
+  -- octets that the one declines, the other declines with the same number and place
+  declined-too : (v w : Verdict) → Judges L o v → Judges L o w → (f : Fault) → v ≡ Declined f → w ≡ Declined f
+  declined-too v w A B f e = go (verdict-number L _ (A .numbers f e))
+    where
+      at : (k : ℕ) → f .number ≡ k → Declined f ≡ Declined (noted k (f .place))
+      at k z = ap (λ (n : ℕ). Declined (noted n (f .place))) z
+
+      go : T (L .given (f .number)) ⊎ ((f .number ≡ 7) ⊎ (f .number ≡ 8)) → w ≡ Declined f
+      go (inl t) = B .spoilt f t .1 (A .spoilt f t .0 e)
+      go (inr (inl k)) = B .followed (f .place) .1 (A .followed (f .place) .0 (e ∙ at 7 k)) ∙ sym (at 7 k)
+      go (inr (inr k)) = B .early (f .place) .1 (A .early (f .place) .0 (e ∙ at 8 k)) ∙ sym (at 8 k)
+
+  -- any octets have one verdict
+  pub judges-one : (v w : Verdict) → Judges L o v → Judges L o w → v ≡ w
+  judges-one (Accepted n) w A B = sym (B .accepted n .1 (A .accepted n .0 refl))
+  judges-one (Declined f) w A B = sym (declined-too _ w A B f refl)
+
+-- the place of a refusal is one of the octets, or, where they end early, their number
+pub placed : (L : Language) (o : List ℕ) (v : Verdict) → Judges L o v → (f : Fault) → v ≡ Declined f → f .place ≤ length o
+placed L o v A f e = go (verdict-number L _ (A .numbers f e))
+  where
+    at : (k : ℕ) → f .number ≡ k → Declined f ≡ Declined (noted k (f .place))
+    at k z = ap (λ (n : ℕ). Declined (noted n (f .place))) z
+
+    go : T (L .given (f .number)) ⊎ ((f .number ≡ 7) ⊎ (f .number ≡ 8)) → f .place ≤ length o
+    go (inl t) = omega (arith, A .spoilt f t .0 e .0 .place)
+    go (inr (inl k)) = omega (arith, A .followed (f .place) .0 (e ∙ at 7 k) .0)
+    go (inr (inr k)) = omega (arith, A .early (f .place) .0 (e ∙ at 8 k) .0)
+
+-- of a message and a type there is one part that counts
+pub counts-at-one : (R : Rules) (m : Message) (t : ℕ) (p q : Part) → CountsAt R m t p → CountsAt R m t q → p ≡ q
+counts-at-one R m t p q A B = go (counted R m t) refl
+  where
+    go : (x : Option (List ℕ)) → counted R m t ≡ x → p ≡ q
+    go none e = A .nowhere e ∙ sym (B .nowhere e)
+    go (some v) e = let c = counted-iff R m t v .0 e in A .at v c ∙ sym (B .at v c)

@@ -1,0 +1,224 @@
+-- How the texts and entries go on from parameter to parameter.
+-- Assumes nothing.
+use Prim.Native.Nat.{ℕ, zero, suc, _+_, _-_, _*_, _≤_, _<_}
+use mathlib.Core.Path.{_≡_, refl, sym, _∙_, ap, ap₂}
+use mathlib.Core.List.{List, [], _∷_, _++_}
+use native.Mathlib.Omega.{arith}
+use lib.ListN.{length, length-append, length-drop, take, drop}
+use lib.Seq.{length-take-le, take-length, take-take}
+use Rattle.rules.proofs.Laying.{part-is}
+use Rattle.rules.specs.Tests.{pick}
+use Rattle.rules.proofs.Tests.{picked-by, eq-of, clash}
+use Rattle.rules.specs.Table.{Rules}
+use Rattle.rules.specs.declared.Form.{Form}
+use Rattle.rules.specs.declared.Form.the-variants.{DateValue, CodeValue, StateValue, TextValue, CarriedValue}
+use Rattle.rules.specs.Message.{Parameter, body, most}
+use Rattle.rules.specs.Machine.{answer}
+use Rattle.rules.specs.Judge.{machine}
+use Rattle.rules.specs.declared.State.{State}
+use Rattle.rules.specs.declared.State.the-variants.{Waiting, Message, Refused}
+use Rattle.message.specs.Verdict.{judged, verdictOf}
+use Rattle.message.specs.declared.Verdict.the-variants.{Accepted}
+use Rattle.message.specs.Walking.{parameterAt}
+use Rattle.message.specs.Parameters as message
+use Rattle.message.specs.Parameters.{parametersFrom, parametersIn}
+use Rattle.message.proofs.Parameters.{none-here, one-here}
+use Rattle.message.proofs.Searching.{found-inside, found-behind}
+use Rattle.message.specs.declared.Found.{Found}
+use Rattle.message.specs.declared.Found.the-variants as found
+use Rattle.draft.specs.declared.Value.{Value}
+use Rattle.draft.specs.declared.Entry.{Entry}
+use Rattle.draft.specs.Meaning.{kindOf, meant, textIn}
+use Rattle.draft.specs.Packing.{valueAt, meaningIn, entryOf, textOf, entriesOf, textsOf}
+use Rattle.reader.specs.declared.Taken.the-variants as taken
+use Rattle.reader.specs.declared.Text.the-variants as text
+use Rattle.reader.specs.Read.{standing, hasText, takenFrom, takenAt, textFrom, textAt, textSize}
+
+-- the text is the contents, or nothing
+text-or-none : (f : Form) (v : List ℕ) → length (textIn (meant f v)) ≡ pick (hasText f) (length v) 0
+unfolding textIn meant hasText pick
+text-or-none DateValue v = refl
+text-or-none CodeValue v = refl
+text-or-none StateValue v = refl
+text-or-none TextValue v = refl
+text-or-none CarriedValue v = refl
+
+short : (f : Form) (v : List ℕ) → length (textIn (meant f v)) ≤ length v
+unfolding textIn meant
+short DateValue v = omega arith
+short CodeValue v = omega arith
+short StateValue v = omega arith
+short TextValue v = omega arith
+short CarriedValue v = omega arith
+
+text-taken : (f : Form) (v : List ℕ) → take (length (textIn (meant f v))) v ≡ textIn (meant f v)
+unfolding textIn meant
+text-taken DateValue v = refl
+text-taken CodeValue v = refl
+text-taken StateValue v = refl
+text-taken TextValue v = take-length v
+text-taken CarriedValue v = take-length v
+
+module _ (R : Rules) (o : List ℕ) (k start n : ℕ) (h : start + n ≤ length o) where
+  part-length : length (take n (drop start o)) ≡ n
+  part-length = length-take-le n (drop start o) (omega (arith, length-drop start o))
+
+  pub text-length : length (textOf R (standing o k start n)) ≡ pick (hasText (kindOf R k)) n 0
+  unfolding textOf meaningIn
+  text-length =
+      text-or-none (kindOf R k) (take n (drop start o)) ∙ ap (λ (x : ℕ). pick (hasText (kindOf R k)) x 0) part-length
+
+  -- where a text stands, and that it lies within the contents
+  pub text-short : length (textOf R (standing o k start n)) ≤ n
+  unfolding textOf meaningIn
+  text-short = omega (arith, short (kindOf R k) (take n (drop start o)), part-length)
+
+  pub text-stands : take (length (textOf R (standing o k start n))) (drop start o) ≡ textOf R (standing o k start n)
+  unfolding textOf meaningIn
+  text-stands = sym (take-take _ n (drop start o) text-short) ∙ text-taken (kindOf R k) (take n (drop start o))
+
+-- ---- the next turn of a loop
+module _ (R : Rules) (o : List ℕ) (turns at : ℕ) (h : 0 < turns) where
+  -- a text was found: it lies inside, and the other texts stand behind it
+  pub record TextHere (start n place : ℕ) : Type 0 where
+    pub lies : start + n ≤ length o
+    pub texts : textsOf R (parametersFrom turns o at) ≡
+        take n (drop start o) ++ textsOf R (parametersFrom (turns - 1) o place)
+
+  pub text-here : (start n place : ℕ) → text.At start n place ≡ textAt R o at → TextHere start n place
+  unfolding textAt textFrom textsOf
+  text-here start n place e = go (parameterAt o at) refl e
+    where
+      go : (f : Found) → f ≡ parameterAt o at → text.At start n place ≡ textFrom R o f → TextHere start n place
+      go (found.Parameter k s l) q e =
+          let i = found-inside o at (found.Parameter k s l) k s l q refl in
+          let a : start ≡ s = cc in
+          let b : n ≡ length (textOf R (standing o k s l)) = cc in
+          let d : place ≡ s + l = cc in
+          record {
+            lies = omega (arith, text-short R o k s l (omega arith));
+            texts =
+                ap (textsOf R) (one-here turns o at h k s l q)
+                ∙ ap (λ (v : List ℕ). v ++ textsOf R (parametersFrom (turns - 1) o (s + l)))
+                (sym (text-stands R o k s l (omega arith)))
+                ∙ (λ i. take (sym b i) (drop (sym a i) o) ++ textsOf R (parametersFrom (turns - 1) o (sym d i)));
+          }
+      go found.Nothing q e = clash cc
+
+  pub text-none : text.End ≡ textAt R o at → parametersFrom turns o at ≡ []
+  unfolding textAt textFrom
+  text-none e = go (parameterAt o at) refl e
+    where
+      go : (f : Found) → f ≡ parameterAt o at → text.End ≡ textFrom R o f → parametersFrom turns o at ≡ []
+      go (found.Parameter k s l) q e = clash cc
+      go found.Nothing q e = none-here turns o at h q
+
+  module _ (used : ℕ) where
+    -- an entry was found: the other entries stand behind it, and the texts so far are shorter than what they were
+    -- read from
+    pub record EntryHere (e : Entry) (n place : ℕ) : Type 0 where
+      pub entries : entriesOf R used (parametersFrom turns o at) ≡
+          e ∷ entriesOf R (used + n) (parametersFrom (turns - 1) o place)
+      pub behind : at + n ≤ place
+      pub lies : place ≤ length o
+
+    pub entry-here : (e : Entry) (n place : ℕ) → taken.Next e n place ≡ takenAt R o at used → EntryHere e n place
+    unfolding takenAt takenFrom entriesOf
+    entry-here e n place t = go (parameterAt o at) refl t
+      where
+        go : (f : Found) → f ≡ parameterAt o at → taken.Next e n place ≡ takenFrom R o used f → EntryHere e n place
+        go (found.Parameter k s l) q t =
+            let a : entryOf R used (standing o k s l) ≡ e = cc in
+            let b : length (textOf R (standing o k s l)) ≡ n = cc in
+            let d : s + l ≡ place = cc in
+            let i = found-inside o at (found.Parameter k s l) k s l q refl in
+            record {
+              entries =
+                  ap (entriesOf R used) (one-here turns o at h k s l q)
+                  ∙ (λ i. a i ∷ entriesOf R (used + b i) (parametersFrom (turns - 1) o (d i)));
+              behind = omega (arith, text-short R o k s l (omega arith), found-behind o at k s l q);
+              lies = omega arith;
+            }
+        go found.Nothing q t = clash cc
+
+    pub entry-none : taken.End ≡ takenAt R o at used → parametersFrom turns o at ≡ []
+    unfolding takenAt takenFrom
+    entry-none e = go (parameterAt o at) refl e
+      where
+        go : (f : Found) → f ≡ parameterAt o at → taken.End ≡ takenFrom R o used f → parametersFrom turns o at ≡ []
+        go (found.Parameter k s l) q e = clash cc
+        go found.Nothing q e = none-here turns o at h q
+
+-- ---- texts are no longer than what they are read from
+pub texts-within : (R : Rules) (turns : ℕ) (o : List ℕ) (at : ℕ) →
+    length (textsOf R (parametersFrom turns o at)) ≤ length o - at
+unfolding parametersFrom message.found textsOf
+texts-within R zero o at = omega arith
+texts-within R (suc turns) o at = go (texts-within R turns o) (parameterAt o at) refl
+  where
+    go : ((p : ℕ) → length (textsOf R (parametersFrom turns o p)) ≤ length o - p) → (f : Found) →
+        f ≡ parameterAt o at → length (textsOf R (message.found o f (parametersFrom turns o))) ≤ length o - at
+    go ih (found.Parameter k s l) q =
+        let i = found-inside o at (found.Parameter k s l) k s l q refl in
+        omega (
+          arith,
+          ih (s + l),
+          found-behind o at k s l q,
+          text-short R o k s l (omega arith),
+          length-append
+              (textOf R (standing o k s l)) (textsOf R (parametersFrom turns o (s + l))),
+        )
+    go ih found.Nothing q = omega arith
+
+-- and two octets a parameter are no text's
+pub texts-in-body : (R : Rules) (ps : List Parameter) → length (textsOf R ps) + 2 * length ps ≤ length (body ps)
+unfolding textsOf body textOf meaningIn
+texts-in-body R [] = omega arith
+texts-in-body R (p ∷ ps) =
+    omega (
+      arith,
+      texts-in-body R ps,
+      short (kindOf R (p .kind)) (p .contents),
+      length-append (textOf R p)
+          (textsOf R ps),
+      length-append (p .contents) (body ps),
+    )
+
+pub size-within : (R : Rules) (o : List ℕ) → textSize R o ≤ length o
+unfolding textSize parametersIn
+size-within R o = omega (arith, texts-within R most o 2)
+
+-- an accepted message's size is the number of octets
+pub accepted-long : (R : Rules) (o : List ℕ) (n : ℕ) → Accepted n ≡ verdictOf R o → length o ≡ n
+unfolding verdictOf judged
+accepted-long R o n e = go (answer (machine R) o) e
+  where
+    go : (w : State) → Accepted n ≡ judged o w → length o ≡ n
+    go (Waiting s q) e = clash cc
+    go (Message m) e =
+        picked-by (length o ≡ n) _ _ _ _ (sym e) (λ t d. let k : m ≡ n = cc in eq-of _ _ t ∙ k) (λ _ d. clash cc)
+    go (Refused f) e = clash cc
+
+-- ---- what was found, from its parts
+module _ (R : Rules) (o : List ℕ) (at : ℕ) (f : Found) (e : f ≡ parameterAt o at) where
+  module _ (k start l n : ℕ) (p : f ≡ found.Parameter k start l) (q : n ≡ pick (hasText (kindOf R k)) l 0) where
+    size : n ≡ length (textOf R (standing o k start l))
+    size = q ∙ sym (text-length R o k start l (omega (arith, found-inside o at f k start l e p)))
+
+    pub text-found : text.At start n (start + l) ≡ textAt R o at
+    unfolding textAt textFrom
+    text-found = ap (λ (x : ℕ). text.At start x (start + l)) size ∙ ap (textFrom R o) (sym p ∙ e)
+
+    pub entry-found : (used : ℕ) (v : Value) (g : Form) → g ≡ kindOf R k → v ≡ valueAt used (meant g (take (start + l - start) (drop start o))) → taken.Next (record { kind = k; value = v }) n (start + l) ≡ takenAt R o at used
+    unfolding takenAt takenFrom entryOf meaningIn
+    entry-found used v g a d =
+        let z : v ≡ valueAt used (meant (kindOf R k) (take l (drop start o))) = d ∙ ap₂ (λ (x : Form) (y : List ℕ). valueAt used (meant x y)) a (part-is o start l) in
+        (λ i. taken.Next (record { kind = k; value = z i }) (size i) (start + l)) ∙ ap (takenFrom R o used) (sym p ∙ e)
+
+  pub text-ended : f ≡ found.Nothing → text.End ≡ textAt R o at
+  unfolding textAt textFrom
+  text-ended p = ap (textFrom R o) (sym p ∙ e)
+
+  pub entry-ended : (used : ℕ) → f ≡ found.Nothing → taken.End ≡ takenAt R o at used
+  unfolding takenAt takenFrom
+  entry-ended used p = ap (takenFrom R o used) (sym p ∙ e)

@@ -1,0 +1,49 @@
+-- A class is told by its code, and the codes are 0 to 15: computed, class by class and code by code.
+-- Assumes nothing.
+use Prim.Native.Nat.{ℕ, zero, suc, _≤_}
+use mathlib.Core.Path.{_≡_, refl}
+use native.Mathlib.Omega.{arith}
+use Rattle.rules.specs.Tests.{_=?_, pick}
+use Rattle.rules.specs.Codes.{classCode, laterClass, classCoded}
+use Rattle.rules.specs.declared.Class.{Class}
+use Rattle.rules.specs.declared.Class.the-variants.{Date, Number, Absent, Name, Lamp, Identity, CallType, Waiting, Forwarded, User, Carried, OldNumber, ShortText, OldForwarded, OldUser, Unlisted}
+
+pub coded-code : (c : Class) → classCoded (classCode c) ≡ c
+unfolding classCoded laterClass classCode pick _=?_
+coded-code Date = refl
+coded-code Number = refl
+coded-code Absent = refl
+coded-code Name = refl
+coded-code Lamp = refl
+coded-code Identity = refl
+coded-code CallType = refl
+coded-code Waiting = refl
+coded-code Forwarded = refl
+coded-code User = refl
+coded-code Carried = refl
+coded-code OldNumber = refl
+coded-code ShortText = refl
+coded-code OldForwarded = refl
+coded-code OldUser = refl
+coded-code Unlisted = refl
+
+-- the codes are 0 to 15
+pub code-coded : (k : ℕ) → k ≤ 15 → classCode (classCoded k) ≡ k
+unfolding classCoded laterClass classCode pick _=?_
+code-coded zero h = refl
+code-coded (suc zero) h = refl
+code-coded (suc (suc zero)) h = refl
+code-coded (suc (suc (suc zero))) h = refl
+code-coded (suc (suc (suc (suc zero)))) h = refl
+code-coded (suc (suc (suc (suc (suc zero))))) h = refl
+code-coded (suc (suc (suc (suc (suc (suc zero)))))) h = refl
+code-coded (suc (suc (suc (suc (suc (suc (suc zero))))))) h = refl
+code-coded (suc (suc (suc (suc (suc (suc (suc (suc zero)))))))) h = refl
+code-coded (suc (suc (suc (suc (suc (suc (suc (suc (suc zero))))))))) h = refl
+code-coded (suc (suc (suc (suc (suc (suc (suc (suc (suc (suc zero)))))))))) h = refl
+code-coded (suc (suc (suc (suc (suc (suc (suc (suc (suc (suc (suc zero))))))))))) h = refl
+code-coded (suc (suc (suc (suc (suc (suc (suc (suc (suc (suc (suc (suc zero)))))))))))) h = refl
+code-coded (suc (suc (suc (suc (suc (suc (suc (suc (suc (suc (suc (suc (suc zero))))))))))))) h = refl
+code-coded (suc (suc (suc (suc (suc (suc (suc (suc (suc (suc (suc (suc (suc (suc zero)))))))))))))) h = refl
+code-coded (suc (suc (suc (suc (suc (suc (suc (suc (suc (suc (suc (suc (suc (suc (suc zero))))))))))))))) h = refl
+code-coded (suc (suc (suc (suc (suc (suc (suc (suc (suc (suc (suc (suc (suc (suc (suc (suc k)))))))))))))))) h = absurd (omega arith)
