@@ -18,7 +18,9 @@ use Rattle.caption.proofs.Directory.{Without}
 no-equals : (s : List Range) → (T (inSet s 0x3D) → ⊥) → (v : List ℕ) → T (allIn s v) → Without 0x3D v
 unfolding allIn
 no-equals s f [] t = tt
-no-equals s f (x ∷ v) t = let b = both _ _ t in (λ e. f (subst (λ (y : ℕ). T (inSet s y)) e (b .0)), no-equals s f v (b .1))
+no-equals s f (x ∷ v) t =
+    let b = both _ _ t in
+    (λ e. f (subst (λ (y : ℕ). T (inSet s y)) e (b .0)), no-equals s f v (b .1))
 
 -- the contents of 02H
 unfoldable callerLengths : Book → List Range
@@ -47,5 +49,8 @@ none-in PresentLenient t = t
 none-in OldStrict t = t
 none-in OldLenient t = t
 
-pub caller-plain : (b : Book) (m : Message) → LegalMessage (rulesOf b) m → (v : List ℕ) → Counts (rulesOf b) m 0x02 v → Without 0x3D v
-caller-plain b m l v c = no-equals (callerSet b) (none-in b) v (both _ _ (subst (λ (w : Whole). T (w .fits v)) (caller-class b) (legal-counts (rulesOf b) m l 0x02 v c)) .1)
+pub caller-plain : (b : Book) (m : Message) → LegalMessage (rulesOf b) m → (v : List ℕ) →
+    Counts (rulesOf b) m 0x02 v → Without 0x3D v
+caller-plain b m l v c =
+    no-equals (callerSet b) (none-in b) v
+    (both _ _ (subst (λ (w : Whole). T (w .fits v)) (caller-class b) (legal-counts (rulesOf b) m l 0x02 v c)) .1)

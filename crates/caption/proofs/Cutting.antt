@@ -27,7 +27,9 @@ module _ (x : ℕ) (s : List ℕ) (i : ℕ) (w : i + indexOf x (drop i s) ≡ in
 
   pub index-on : i < length s → (getD s i 0 ≡ x → ⊥) → i + 1 + indexOf x (drop (i + 1) s) ≡ indexOf x s
   unfolding indexOf
-  index-on h n = let z = ap (indexOf x) (drop-cons s i 0 h) ∙ pick-not _ _ _ (λ t. n (eq-of _ _ t)) in rw add-one (omega arith)
+  index-on h n =
+      let z = ap (indexOf x) (drop-cons s i 0 h) ∙ pick-not _ _ _ (λ t. n (eq-of _ _ t)) in
+      rw add-one (omega arith)
 
   pub index-end : length s ≤ i → i ≡ indexOf x s
   unfolding indexOf
@@ -36,15 +38,20 @@ module _ (x : ℕ) (s : List ℕ) (i : ℕ) (w : i + indexOf x (drop i s) ≡ in
 pub index-most : (x : ℕ) (l : List ℕ) → indexOf x l ≤ length l
 unfolding indexOf
 index-most x [] = omega arith
-index-most x (y ∷ l) = pick-case (λ (k : ℕ). k ≤ suc (length l)) _ _ _ (λ _. omega arith) (λ _. omega (arith, index-most x l))
+index-most x (y ∷ l) =
+    pick-case (λ (k : ℕ). k ≤ suc (length l)) _ _ _ (λ _. omega arith) (λ _. omega (arith, index-most x l))
 
 -- ---- the first line of a directory ends at its first 0AH, or with it
-pub lines-cut : (d : List ℕ) → 0 < length d → linesOf d ≡ take (indexOf 0x0A d) d ∷ linesOf (drop (suc (indexOf 0x0A d)) d)
+pub lines-cut : (d : List ℕ) → 0 < length d →
+    linesOf d ≡ take (indexOf 0x0A d) d ∷ linesOf (drop (suc (indexOf 0x0A d)) d)
 unfolding linesOf indexOf onFirst pick
 lines-cut [] h = absurd (omega arith)
 lines-cut (x ∷ d) h = go (x =? 0x0A) d (lines-cut d)
   where
-    go : (b : Bool) (d : List ℕ) → (0 < length d → linesOf d ≡ take (indexOf 0x0A d) d ∷ linesOf (drop (suc (indexOf 0x0A d)) d)) → pick b ([] ∷ linesOf d) (onFirst x (linesOf d)) ≡ take (pick b 0 (suc (indexOf 0x0A d))) (x ∷ d) ∷ linesOf (drop (suc (pick b 0 (suc (indexOf 0x0A d)))) (x ∷ d))
+    go : (b : Bool) (d : List ℕ) →
+        (0 < length d → linesOf d ≡ take (indexOf 0x0A d) d ∷ linesOf (drop (suc (indexOf 0x0A d)) d)) →
+        pick b ([] ∷ linesOf d) (onFirst x (linesOf d)) ≡
+        take (pick b 0 (suc (indexOf 0x0A d))) (x ∷ d) ∷ linesOf (drop (suc (pick b 0 (suc (indexOf 0x0A d)))) (x ∷ d))
     go true d f = refl
     go false [] f = refl
     go false (y ∷ d) f = ap (onFirst x) (f (omega arith))
@@ -69,7 +76,8 @@ module _ (caller d : List ℕ) (at : ℕ) where
   unfolding lookupFrom linesOf
   entry-end h = ap (λ (r : List ℕ). lookupFrom caller at (linesOf r)) (drop-of-length-le d h)
 
-  module _ (h : at < length d) (rest : List ℕ) (w : rest ≡ drop at d) (l : Line) (e : l .size ≡ indexOf 0x0A rest) (n : l .named ≡ names caller (take (l .size) rest)) where
+  module _ (h : at < length d) (rest : List ℕ) (w : rest ≡ drop at d) (l : Line) (e : l .size ≡ indexOf 0x0A rest)
+      (n : l .named ≡ names caller (take (l .size) rest)) where
     abbrev line : List ℕ
     line = take (l .size) rest
 
@@ -89,13 +97,16 @@ module _ (caller d : List ℕ) (at : ℕ) where
         ∙ ap (λ (k : ℕ). take k rest ∷ linesOf (drop (suc k) rest)) (sym e)
         ∙ ap (λ (r : List ℕ). line ∷ linesOf r) (ap (drop (suc (l .size))) w ∙ drop-drop (suc (l .size)) at d)
 
-    entry-here : l .named ≡ true → Text (at + suc (indexOf 0x3D line)) (length (behind line)) ≡ Text (at + length caller + 1) (l .size - length caller - 1)
+    entry-here : l .named ≡ true →
+        Text (at + suc (indexOf 0x3D line)) (length (behind line)) ≡
+        Text (at + length caller + 1) (l .size - length caller - 1)
     unfolding behind
     entry-here t =
         let c = for-caller t in
         ap₂ Text (omega (arith, c .0)) (omega (arith, c .0, line-size, length-drop (suc (indexOf 0x3D line)) line))
 
-    entry-on : lookupFrom caller (at + suc (length line)) (linesOf (drop (at + suc (l .size)) d)) ≡ lookupFrom caller (at + l .size + 1) (linesOf (drop (at + l .size + 1) d))
+    entry-on : lookupFrom caller (at + suc (length line)) (linesOf (drop (at + suc (l .size)) d)) ≡
+        lookupFrom caller (at + l .size + 1) (linesOf (drop (at + l .size + 1) d))
     entry-on =
         let z : at + suc (l .size) ≡ at + l .size + 1 = omega arith in
         ap (λ (k : ℕ). lookupFrom caller (at + suc k) (linesOf (drop (at + suc (l .size)) d))) line-size

@@ -1,4 +1,5 @@
--- The lines of a directory and its entries are what the words say, and the search finds the first line for the caller, where its text stands.
+-- The lines of a directory and its entries are what the words say, and the search finds the first line for the
+-- caller, where its text stands.
 -- Assumes nothing.
 use Prim.Native.Nat.{ℕ, suc, _+_, _<_}
 use mathlib.Core.Path.{_≡_, refl, sym, _∙_, ap, ap₂, subst}
@@ -43,7 +44,10 @@ module _ (x : ℕ) where
   index-cut [] h = absurd (omega arith)
   index-cut (y ∷ l) h = go (y =? x) (eq-of y x) (index-cut l) h
     where
-      go : (b : Bool) → (T b → y ≡ x) → (indexOf x l < length l → l ≡ take (indexOf x l) l ++ x ∷ drop (suc (indexOf x l)) l) → pick b 0 (suc (indexOf x l)) < suc (length l) → y ∷ l ≡ take (pick b 0 (suc (indexOf x l))) (y ∷ l) ++ x ∷ drop (suc (pick b 0 (suc (indexOf x l)))) (y ∷ l)
+      go : (b : Bool) → (T b → y ≡ x) →
+          (indexOf x l < length l → l ≡ take (indexOf x l) l ++ x ∷ drop (suc (indexOf x l)) l) →
+          pick b 0 (suc (indexOf x l)) < suc (length l) →
+          y ∷ l ≡ take (pick b 0 (suc (indexOf x l))) (y ∷ l) ++ x ∷ drop (suc (pick b 0 (suc (indexOf x l)))) (y ∷ l)
       go true e f h = ap (λ (z : ℕ). z ∷ l) (e tt)
       go false e f h = ap (λ (z : List ℕ). y ∷ z) (f (omega arith))
 
@@ -63,21 +67,26 @@ unfolding linesOf
 lines-last l n h =
     lines-cut l h
     ∙ ap (λ (i : ℕ). take i l ∷ linesOf (drop (suc i) l)) (index-none 0x0A l n)
-    ∙ ap₂ (λ (h : List ℕ) (r : List ℕ). h ∷ linesOf r) (take-length l) (drop-of-length-le l {i = suc (length l)} (omega arith))
+    ∙ ap₂ (λ (h : List ℕ) (r : List ℕ). h ∷ linesOf r) (take-length l)
+    (drop-of-length-le l {i = suc (length l)} (omega arith))
 
 names-for : (caller w : List ℕ) → Without 0x3D caller → T (names caller (caller ++ 0x3D ∷ w))
 unfolding names before
 names-for caller w n =
     let k = index-at 0x3D caller w n in
     join _ _ (of-le _ _ (omega (arith, length-append caller (0x3D ∷ w))))
-    (subst (λ (v : List ℕ). T (sameOctets v caller)) (sym (ap (λ (i : ℕ). take i (caller ++ 0x3D ∷ w)) k ∙ take-append-seam caller (0x3D ∷ w))) (octets-self caller))
+    (subst (λ (v : List ℕ). T (sameOctets v caller))
+    (sym (ap (λ (i : ℕ). take i (caller ++ 0x3D ∷ w)) k ∙ take-append-seam caller (0x3D ∷ w))) (octets-self caller))
 
 is-for : (caller l : List ℕ) → T (names caller l) → For caller l
 unfolding names before
 is-for caller l t =
     let b = both _ _ t in
-    let e = octets-are (take (indexOf 0x3D l) l) caller (b .1) in
-    (drop (suc (indexOf 0x3D l)) l, index-cut 0x3D l (omega (arith, le-of _ _ (b .0))) ∙ ap (λ (v : List ℕ). v ++ 0x3D ∷ drop (suc (indexOf 0x3D l)) l) e)
+    let e = octets-are (take (indexOf 0x3D l) l) caller (b .1) in (
+      drop (suc (indexOf 0x3D l)) l,
+      index-cut 0x3D l (omega (arith, le-of _ _ (b .0)))
+          ∙ ap (λ (v : List ℕ). v ++ 0x3D ∷ drop (suc (indexOf 0x3D l)) l) e,
+    )
 
 -- a line is for the caller where it begins with the caller and =
 abbrev marked : List ℕ → List ℕ
@@ -86,8 +95,11 @@ marked caller = caller ++ 0x3D ∷ []
 module _ (caller l : List ℕ) where
   begins-for : take (suc (length caller)) l ≡ marked caller → For caller l
   begins-for e =
-      let rest = drop (suc (length caller)) l in
-      (rest, sym (take-append-drop (suc (length caller)) l) ∙ ap (λ (v : List ℕ). v ++ rest) e ∙ append-assoc caller (0x3D ∷ []) rest)
+      let rest = drop (suc (length caller)) l in (
+        rest,
+        sym (take-append-drop (suc (length caller)) l) ∙ ap (λ (v : List ℕ). v ++ rest) e
+            ∙ append-assoc caller (0x3D ∷ []) rest,
+      )
 
   for-begins : For caller l → take (suc (length caller)) l ≡ marked caller
   for-begins f =
@@ -97,12 +109,15 @@ module _ (caller l : List ℕ) where
   for-told : For caller l ⊎ (For caller l → ⊥)
   for-told = go (decide (sameOctets (take (suc (length caller)) l) (marked caller)))
     where
-      go : T (sameOctets (take (suc (length caller)) l) (marked caller)) ⊎ (T (sameOctets (take (suc (length caller)) l) (marked caller)) → ⊥) → For caller l ⊎ (For caller l → ⊥)
+      go : T (sameOctets (take (suc (length caller)) l) (marked caller))
+          ⊎ (T (sameOctets (take (suc (length caller)) l) (marked caller)) → ⊥) → For caller l ⊎ (For caller l → ⊥)
       go (inl t) = inl (begins-for (octets-are _ _ t))
       go (inr n) = inr (λ f. n (rw (for-begins f) (octets-self (marked caller))))
 
 abbrev Among : List ℕ → List (List ℕ) → Type 0
-Among caller ls = ((b : List (List ℕ)) × (w : List ℕ) × (a : List (List ℕ)) × (ls ≡ b ++ (caller ++ 0x3D ∷ w) ∷ a) × NoneFor caller b) ⊎ NoneFor caller ls
+Among caller ls =
+    ((b : List (List ℕ)) × (w : List ℕ) × (a : List (List ℕ)) × (ls ≡ b ++ (caller ++ 0x3D ∷ w) ∷ a)
+    × NoneFor caller b) ⊎ NoneFor caller ls
 
 among : (caller : List ℕ) (ls : List (List ℕ)) → Among caller ls
 among caller [] = inr tt
@@ -128,16 +143,20 @@ module _ (caller : List ℕ) where
   entry-none at [] n = refl
   entry-none at (l ∷ ls) n = pick-not _ _ _ (λ t. n .0 (is-for caller l t)) ∙ entry-none (at + suc (length l)) ls (n .1)
 
-  entry-first : (w : List ℕ) → Without 0x3D caller → (later : List (List ℕ)) (at : ℕ) (ls : List (List ℕ)) → NoneFor caller ls → lookupFrom caller at (ls ++ (caller ++ 0x3D ∷ w) ∷ later) ≡ Text (at + (span ls + suc (length caller))) (length w)
+  entry-first : (w : List ℕ) → Without 0x3D caller → (later : List (List ℕ)) (at : ℕ) (ls : List (List ℕ)) →
+      NoneFor caller ls →
+      lookupFrom caller at (ls ++ (caller ++ 0x3D ∷ w) ∷ later) ≡ Text (at + (span ls + suc (length caller))) (length w)
   unfolding lookupFrom span behind
   entry-first w p later at [] n =
       let k = index-at 0x3D caller w p in
       let z : at + suc (length caller) ≡ at + (0 + suc (length caller)) = omega arith in
       pick-yes _ _ _ (names-for caller w p)
-      ∙ ap₂ (λ (i : ℕ) (r : List ℕ). Text (at + suc i) (length r)) k (ap (λ (i : ℕ). drop (suc i) (caller ++ 0x3D ∷ w)) k ∙ behind-at 0x3D caller w)
+      ∙ ap₂ (λ (i : ℕ) (r : List ℕ). Text (at + suc i) (length r)) k
+      (ap (λ (i : ℕ). drop (suc i) (caller ++ 0x3D ∷ w)) k ∙ behind-at 0x3D caller w)
       ∙ ap (λ (i : ℕ). Text i (length w)) z
   entry-first w p later at (l ∷ ls) n =
-      let z : at + suc (length l) + (span ls + suc (length caller)) ≡ at + (suc (length l) + span ls + suc (length caller)) = omega arith in
+      let z : at + suc (length l) + (span ls + suc (length caller)) ≡ at + (suc (length l) + span ls + suc
+      (length caller)) = omega arith in
       pick-not _ _ _ (λ t. n .0 (is-for caller l t))
       ∙ entry-first w p later (at + suc (length l)) ls (n .1)
       ∙ ap (λ (i : ℕ). Text i (length w)) z
@@ -145,7 +164,8 @@ module _ (caller : List ℕ) where
   pub none-found : (d : List ℕ) → NoneFor caller (linesOf d) → lookup caller d ≡ Missing
   none-found d n = entry-none 0 (linesOf d) n
 
-  pub first-found : (d : List ℕ) → Without 0x3D caller → (e : FirstFor caller d) → lookup caller d ≡ Text (textPlace e) (length (e .text))
+  pub first-found : (d : List ℕ) → Without 0x3D caller → (e : FirstFor caller d) →
+      lookup caller d ≡ Text (textPlace e) (length (e .text))
   first-found d p e =
       ap (lookupFrom caller 0) (e .is)
       ∙ entry-first (e .text) p (e .later) 0 (e .earlier) (e .none)
@@ -157,7 +177,8 @@ unfolding linesOf
 lines-some [] l ls e = clash cc
 lines-some (x ∷ d) l ls e = omega arith
 
-line-stands : (b : List (List ℕ)) (l : List ℕ) (a : List (List ℕ)) (d : List ℕ) → linesOf d ≡ b ++ l ∷ a → (rest : List ℕ) × (drop (span b) d ≡ l ++ rest)
+line-stands : (b : List (List ℕ)) (l : List ℕ) (a : List (List ℕ)) (d : List ℕ) → linesOf d ≡ b ++ l ∷ a →
+    (rest : List ℕ) × (drop (span b) d ≡ l ++ rest)
 unfolding span
 line-stands [] l a d e =
     let k = indexOf 0x0A d in
@@ -170,7 +191,8 @@ line-stands (x ∷ b) l a d e =
     let h : take k d ≡ x = cc in
     let t : linesOf (drop (suc k) d) ≡ b ++ l ∷ a = cc in
     let r = line-stands b l a (drop (suc k) d) t in
-    let z : suc (length x) + span b ≡ suc k + span b = omega (arith, ap length h, length-take-le k d (index-most 0x0A d)) in
+    let z : suc (length x) + span b ≡ suc k + span b =
+    omega (arith, ap length h, length-take-le k d (index-most 0x0A d)) in
     (r .0, ap (λ (i : ℕ). drop i d) z ∙ sym (drop-drop (span b) (suc k) d) ∙ r .1)
 
 pub text-stands : (caller d : List ℕ) (e : FirstFor caller d) →

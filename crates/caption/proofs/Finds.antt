@@ -1,4 +1,5 @@
--- The caption finder gives what is promised: its answer follows the verdict on the octets, then the name, the directory's line and the caller that count.
+-- The caption finder gives what is promised: its answer follows the verdict on the octets, then the name, the
+-- directory's line and the caller that count.
 -- Assumes nothing.
 use Prim.Native.Nat.{ℕ, _≤_}
 use mathlib.Core.Path.{_≡_, refl, sym, _∙_, ap, subst}
@@ -59,10 +60,13 @@ module _ (book : Book) where
     nowhere : (t : ℕ) → counted (rulesOf book) m t ≡ none → countedAt (rulesOf book) o t ≡ Nowhere
     nowhere t e = part-none o (countedAt (rulesOf book) o t) (counted-part (rulesOf book) m t ∙ e)
 
-    holds : (t : ℕ) (v : List ℕ) (c : Counts (rulesOf book) m t v) → take (length v) (drop (contentsAt (c .first)) o) ≡ v
+    holds : (t : ℕ) (v : List ℕ) (c : Counts (rulesOf book) m t v) →
+        take (length v) (drop (contentsAt (c .first)) o) ≡ v
     unfolding partOf
     holds t v c =
-        let e : some (take (length v) (drop (contentsAt (c .first)) o)) ≡ some v = sym (ap (partOf o) (counted-at (rulesOf book) m t v c)) ∙ counted-part (rulesOf book) m t ∙ counted-iff (rulesOf book) m t v .1 c in
+        let e : some (take (length v) (drop (contentsAt (c .first)) o)) ≡ some v =
+        sym (ap (partOf o) (counted-at (rulesOf book) m t v c)) ∙ counted-part (rulesOf book) m t
+        ∙ counted-iff (rulesOf book) m t v .1 c in
         cc
 
     found : Shown
@@ -72,23 +76,35 @@ module _ (book : Book) where
     unfolding found byName
     by-name v c = ap (λ (p : Part). byName (rulesOf book) p o d) (counted-at (rulesOf book) m 0x07 v c)
 
-    by-caller : counted (rulesOf book) m 0x07 ≡ none → (v : List ℕ) (c : Counts (rulesOf book) m 0x02 v) (e : Entry) → lookup v d ≡ e → found ≡ byEntry e (contentsAt (c .first)) (length v)
+    by-caller : counted (rulesOf book) m 0x07 ≡ none →
+        (v : List ℕ) (c : Counts (rulesOf book) m 0x02 v) (e : Entry) → lookup v d ≡ e →
+        found ≡ byEntry e (contentsAt (c .first)) (length v)
     unfolding found byName byCaller
     by-caller n v c e f =
         ap (λ (p : Part). byName (rulesOf book) p o d) (nowhere 0x07 n)
         ∙ ap (λ (p : Part). byCaller p o d) (counted-at (rulesOf book) m 0x02 v c)
-        ∙ ap (λ (x : Entry). byEntry x (contentsAt (c .first)) (length v)) (ap (λ (w : List ℕ). lookup w d) (holds 0x02 v c) ∙ f)
+        ∙ ap (λ (x : Entry). byEntry x (contentsAt (c .first)) (length v))
+        (ap (λ (w : List ℕ). lookup w d) (holds 0x02 v c) ∙ f)
 
     empty : counted (rulesOf book) m 0x07 ≡ none → counted (rulesOf book) m 0x02 ≡ none → found ≡ InMessage 0 0
     unfolding found byName byCaller
-    empty n k = ap (λ (p : Part). byName (rulesOf book) p o d) (nowhere 0x07 n) ∙ ap (λ (p : Part). byCaller p o d) (nowhere 0x02 k)
+    empty n k =
+        ap (λ (p : Part). byName (rulesOf book) p o d) (nowhere 0x07 n)
+        ∙ ap (λ (p : Part). byCaller p o d) (nowhere 0x02 k)
 
     captions : LegalMessage (rulesOf book) m → Captions (rulesOf book) m d found
     unfolding byEntry
     captions l = record {
-      name = λ v c. subst (λ (r : Shown). Shows o d r 0 (contentsAt (c .first)) v) (sym (by-name v c)) (message-shows o d _ v (holds 0x07 v c));
-      entry = λ n v c e. subst (λ (r : Shown). Shows o d r 1 (textPlace e) (e .text)) (sym (by-caller n v c _ (first-found v d (caller-plain book m l v c) e))) (directory-shows o d _ (e .text) (text-stands v d e));
-      caller = λ n v c k. subst (λ (r : Shown). Shows o d r 0 (contentsAt (c .first)) v) (sym (by-caller n v c _ (none-found v d k))) (message-shows o d _ v (holds 0x02 v c));
+      name =
+          λ v c. subst (λ (r : Shown). Shows o d r 0 (contentsAt (c .first)) v) (sym (by-name v c))
+          (message-shows o d _ v (holds 0x07 v c));
+      entry =
+          λ n v c e. subst (λ (r : Shown). Shows o d r 1 (textPlace e) (e .text))
+          (sym (by-caller n v c _ (first-found v d (caller-plain book m l v c) e)))
+          (directory-shows o d _ (e .text) (text-stands v d e));
+      caller =
+          λ n v c k. subst (λ (r : Shown). Shows o d r 0 (contentsAt (c .first)) v)
+          (sym (by-caller n v c _ (none-found v d k))) (message-shows o d _ v (holds 0x02 v c));
       nothing = λ n k. subst (λ (r : Shown). Shows o d r 0 0 []) (sym (empty n k)) (message-shows o d 0 [] refl);
     }
 
@@ -121,11 +137,13 @@ module _ (book : Book) where
     by-name-part (At start n) = in-message start n
     by-name-part Nowhere = by-caller-part (countedAt (rulesOf book) o 0x02)
 
-    accepted-is : (v : Verdict) (n : ℕ) → v ≡ Accepted n → findUnder (rulesOf book) v o d ≡ byName (rulesOf book) (countedAt (rulesOf book) o 0x07) o d
+    accepted-is : (v : Verdict) (n : ℕ) → v ≡ Accepted n →
+        findUnder (rulesOf book) v o d ≡ byName (rulesOf book) (countedAt (rulesOf book) o 0x07) o d
     unfolding findUnder
     accepted-is v n e = rw e
 
-    accepted-of : (v : Verdict) → ((f : Fault) → v ≡ Declined f → 1 ≤ f .number) → told (findUnder (rulesOf book) v o d) .number ≡ 0 → (n : ℕ) × (v ≡ Accepted n)
+    accepted-of : (v : Verdict) → ((f : Fault) → v ≡ Declined f → 1 ≤ f .number) →
+        told (findUnder (rulesOf book) v o d) .number ≡ 0 → (n : ℕ) × (v ≡ Accepted n)
     unfolding findUnder told
     accepted-of (Accepted n) h e = (n, refl)
     accepted-of (Declined f) h e = absurd (omega (arith, h f refl))
@@ -135,7 +153,9 @@ module _ (book : Book) where
     refused-of (Accepted n) f = (λ e. absurd (by-name-part (countedAt (rulesOf book) o 0x07) .1 f e), λ e. clash cc)
     refused-of (Declined g) f = (λ e. cc, λ e. cc)
 
-    numbers-of : (v : Verdict) → ((f : Fault) → v ≡ Declined f → T (verdictNumber (languageOf book) (f .number))) → (told (findUnder (rulesOf book) v o d) .number ≡ 0) ⊎ T (verdictNumber (languageOf book) (told (findUnder (rulesOf book) v o d) .number))
+    numbers-of : (v : Verdict) → ((f : Fault) → v ≡ Declined f → T (verdictNumber (languageOf book) (f .number))) →
+        (told (findUnder (rulesOf book) v o d) .number ≡ 0) ⊎ T
+        (verdictNumber (languageOf book) (told (findUnder (rulesOf book) v o d) .number))
     unfolding findUnder told
     numbers-of (Accepted n) h = inl (by-name-part (countedAt (rulesOf book) o 0x07) .0)
     numbers-of (Declined f) h = inr (h f refl)
@@ -155,19 +175,26 @@ module _ (book : Book) where
     abbrev J : Judges (languageOf book) o v
     J = judges-of book o q
 
-    accepted : Accepts (rulesOf book) o → findOf (rulesOf book) o d ≡ byName (rulesOf book) (countedAt (rulesOf book) o 0x07) o d
+    accepted : Accepts (rulesOf book) o →
+        findOf (rulesOf book) o d ≡ byName (rulesOf book) (countedAt (rulesOf book) o 0x07) o d
     unfolding findOf
     accepted a = accepted-is o d v (length o) (J .accepted (length o) .1 (refl, a))
 
-    captions-of : (m : Message) → LegalMessage (rulesOf book) m → octets m ≡ o → Captions (rulesOf book) m d (findOf (rulesOf book) o d)
+    captions-of : (m : Message) → LegalMessage (rulesOf book) m → octets m ≡ o →
+        Captions (rulesOf book) m d (findOf (rulesOf book) o d)
     unfolding found
-    captions-of m l e = subst (Captions (rulesOf book) m d) (sym (accepted (m, l, e) ∙ ap (λ (x : List ℕ). byName (rulesOf book) (countedAt (rulesOf book) x 0x07) x d) (sym e))) (captions m d l)
+    captions-of m l e =
+        subst (Captions (rulesOf book) m d)
+        (sym (accepted (m, l, e) ∙ ap (λ (x : List ℕ). byName (rulesOf book) (countedAt (rulesOf book) x 0x07) x d)
+        (sym e))) (captions m d l)
 
     pub finds : Finds (rulesOf book) o d (findOf (rulesOf book) o d)
     unfolding findOf
     finds = record {
       done = (
-        λ e. let a = accepted-of o d v (λ f k. told-small (spoken-of book) _ (J .numbers f k) .0) e in J .accepted (a .0) .0 (a .1) .1,
+        λ e. let a =
+            accepted-of o d v (λ f k. told-small (spoken-of book) _ (J .numbers f k) .0) e in
+            J .accepted (a .0) .0 (a .1) .1,
         λ a. ap (λ (x : Shown). told x .number) (accepted a) ∙ by-name-part o d (countedAt (rulesOf book) o 0x07) .0,
       );
       verdict = v;

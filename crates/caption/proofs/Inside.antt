@@ -34,10 +34,13 @@ on-first-span x (l ∷ ls) n h = omega arith
 lines-span : (d : List ℕ) → span (linesOf d) ≤ suc (length d)
 unfolding linesOf span
 lines-span [] = omega arith
-lines-span (x ∷ d) = pick-case (λ (ls : List (List ℕ)). span ls ≤ suc (suc (length d))) _ _ _ (λ _. omega (arith, lines-span d)) (λ _. on-first-span x (linesOf d) (length d) (lines-span d))
+lines-span (x ∷ d) =
+    pick-case (λ (ls : List (List ℕ)). span ls ≤ suc (suc (length d))) _ _ _ (λ _. omega (arith, lines-span d))
+    (λ _. on-first-span x (linesOf d) (length d) (lines-span d))
 
 -- ---- an entry's text
-entry-span : (caller : List ℕ) (at : ℕ) (ls : List (List ℕ)) (start n : ℕ) → lookupFrom caller at ls ≡ Text start n → start + n < at + span ls
+entry-span : (caller : List ℕ) (at : ℕ) (ls : List (List ℕ)) (start n : ℕ) →
+    lookupFrom caller at ls ≡ Text start n → start + n < at + span ls
 unfolding lookupFrom span names behind
 entry-span caller at [] start n e = clash cc
 entry-span caller at (l ∷ ls) start n e =
@@ -53,14 +56,17 @@ module _ (o d : List ℕ) where
   abbrev Inside : Shown → Type 0
   Inside r = told r .start + told r .size ≤ length (sliceOf r o d)
 
-  by-entry-inside : (e : Entry) (start n : ℕ) → ((at k : ℕ) → e ≡ Text at k → at + k ≤ length d) → start + n ≤ length o → Inside (byEntry e start n)
+  by-entry-inside : (e : Entry) (start n : ℕ) → ((at k : ℕ) → e ≡ Text at k → at + k ≤ length d) →
+      start + n ≤ length o → Inside (byEntry e start n)
   unfolding byEntry told sliceOf
   by-entry-inside (Text at k) start n f h = f at k refl
   by-entry-inside Missing start n f h = h
 
   by-caller-inside : (p : Part) → Within o p → Inside (byCaller p o d)
   unfolding byCaller told sliceOf
-  by-caller-inside (At start n) i = by-entry-inside _ start n (λ at k e. omega (arith, entry-span _ 0 (linesOf d) at k e, lines-span d)) (omega (arith, i start n refl))
+  by-caller-inside (At start n) i =
+      by-entry-inside _ start n (λ at k e. omega (arith, entry-span _ 0 (linesOf d) at k e, lines-span d))
+      (omega (arith, i start n refl))
   by-caller-inside Nowhere i = omega arith
 
   by-name-inside : (R : Rules) (p : Part) → Within o p → Inside (byName R p o d)
@@ -98,7 +104,8 @@ module _ (R : Rules) (o d : List ℕ) (r : Shown) (f : r ≡ findOf R o d) where
   unfolding partText told sliceOf
   message-part start n e = part-is o start n ∙ sym (caption-is ∙ ap (λ (x : Shown). partText x o d) e)
 
-  pub directory-part : (start n : ℕ) → r ≡ InDirectory start n → take (start + n - start) (drop start d) ≡ captionOf R o d
+  pub directory-part : (start n : ℕ) → r ≡ InDirectory start n →
+      take (start + n - start) (drop start d) ≡ captionOf R o d
   unfolding partText told sliceOf
   directory-part start n e = part-is d start n ∙ sym (caption-is ∙ ap (λ (x : Shown). partText x o d) e)
 

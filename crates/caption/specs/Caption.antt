@@ -20,7 +20,8 @@ use Rattle.caption.specs.declared.Entry.the-variants.{Text, Missing}
 use Rattle.caption.specs.declared.Shown.{Shown}
 use Rattle.caption.specs.declared.Shown.the-variants.{InMessage, InDirectory, Refused}
 
--- where the text after the first = stands on the first line for the caller; the first of the lines begins at a place of the directory
+-- where the text after the first = stands on the first line for the caller; the first of the lines begins at a place
+-- of the directory
 unfoldable pub lookupFrom : List ℕ → ℕ → List (List ℕ) → Entry
 lookupFrom caller at [] = Missing
 lookupFrom caller at (l ∷ ls) =
@@ -97,4 +98,6 @@ codeOf (Refused f) x = x
 pub record Cuts (caller d : List ℕ) (at : ℕ) (l : Line) : Type 0 where
   pub inside : at + l .size ≤ length d
   pub caller-inside : l .named ≡ true → length caller < l .size
-  pub goes : lookupFrom caller at (linesOf (drop at d)) ≡ pick (l .named) (Text (at + length caller + 1) (l .size - length caller - 1)) (lookupFrom caller (at + l .size + 1) (linesOf (drop (at + l .size + 1) d)))
+  pub goes : lookupFrom caller at (linesOf (drop at d)) ≡
+      pick (l .named) (Text (at + length caller + 1) (l .size - length caller - 1))
+      (lookupFrom caller (at + l .size + 1) (linesOf (drop (at + l .size + 1) d)))

@@ -1,4 +1,5 @@
--- What the caption finder gives, over the written rules (document 01, The caption): the part of each case, and refusals exactly as the whole read's.
+-- What the caption finder gives, over the written rules (document 01, The caption): the part of each case, and
+-- refusals exactly as the whole read's.
 -- Assumes nothing.
 use Prim.Native.Nat.{ℕ, _+_, _≤_}
 use mathlib.Core.Path.{_≡_}
@@ -22,7 +23,8 @@ use Rattle.caption.specs.Caption.{told, sliceOf, partText}
 use Rattle.caption.specs.Directory.{NoneFor, FirstFor, textPlace}
 use Rattle.message.specs.Places.{contentsAt}
 
--- nothing is declined, and the part holds the text v; it starts at a place of the message (side 0) or of the directory (side 1)
+-- nothing is declined, and the part holds the text v; it starts at a place of the message (side 0) or of the
+-- directory (side 1)
 pub record Shows (o d : List ℕ) (r : Shown) (which at : ℕ) (v : List ℕ) : Type 0 where
   pub number : told r .number ≡ 0
   pub place : told r .place ≡ 0
@@ -36,9 +38,11 @@ pub record Captions (R : Rules) (m : Message) (d : List ℕ) (r : Shown) : Type 
   -- the name that counts
   pub name : (v : List ℕ) (c : Counts R m 0x07 v) → Shows (octets m) d r 0 (contentsAt (c .first)) v
   -- else, if a caller counts, the text after the = of the first line for it
-  pub entry : counted R m 0x07 ≡ none → (v : List ℕ) (c : Counts R m 0x02 v) (e : FirstFor v d) → Shows (octets m) d r 1 (textPlace e) (e .text)
+  pub entry : counted R m 0x07 ≡ none → (v : List ℕ) (c : Counts R m 0x02 v) (e : FirstFor v d) →
+      Shows (octets m) d r 1 (textPlace e) (e .text)
   -- else the caller
-  pub caller : counted R m 0x07 ≡ none → (v : List ℕ) (c : Counts R m 0x02 v) → NoneFor v (linesOf d) → Shows (octets m) d r 0 (contentsAt (c .first)) v
+  pub caller : counted R m 0x07 ≡ none → (v : List ℕ) (c : Counts R m 0x02 v) → NoneFor v (linesOf d) →
+      Shows (octets m) d r 0 (contentsAt (c .first)) v
   -- else the empty part at the message's start
   pub nothing : counted R m 0x07 ≡ none → counted R m 0x02 ≡ none → Shows (octets m) d r 0 0 []
 
@@ -46,7 +50,8 @@ pub record Captions (R : Rules) (m : Message) (d : List ℕ) (r : Shown) : Type 
 pub record Finds (R : Rules) (o d : List ℕ) (r : Shown) : Type 0 where
   -- number 0 exactly when the octets are a message
   pub done : (told r .number ≡ 0) ↔ Accepts R o
-  -- refused exactly as the whole read declines the octets, with its number and place, and with the empty part at the message's start
+  -- refused exactly as the whole read declines the octets, with its number and place, and with the empty part at the
+  -- message's start
   pub verdict : Verdict
   pub judged : Judges (calls R) o verdict
   pub refused : (f : Fault) → (r ≡ Refused f) ↔ (verdict ≡ Declined f)

@@ -1,4 +1,5 @@
--- Captions computed: document 01's example message with directories of all kinds, a name, names and callers that do not count, and refusals.
+-- Captions computed: document 01's example message with directories of all kinds, a name, names and callers that do
+-- not count, and refusals.
 -- Assumes nothing.
 use mathlib.Core.Path.{_≡_, refl}
 use mathlib.Core.List.{List, [], _∷_}
@@ -22,7 +23,8 @@ use Rattle.caption.specs.Caption.{lookupFrom, byEntry, byCaller, byName,
 
 -- the caller 40912, from octet 14 on
 abbrev call : List ℕ
-call = 0x80 ∷ 0x11 ∷ 0x01 ∷ 0x08 ∷ 0x30 ∷ 0x36 ∷ 0x31 ∷ 0x35 ∷ 0x31 ∷ 0x34 ∷ 0x33 ∷ 0x30 ∷ 0x02 ∷ 0x05 ∷ 0x34 ∷ 0x30 ∷ 0x39 ∷ 0x31 ∷ 0x32 ∷ 0xCB ∷ []
+call =
+    0x80 ∷ 0x11 ∷ 0x01 ∷ 0x08 ∷ 0x30 ∷ 0x36 ∷ 0x31 ∷ 0x35 ∷ 0x31 ∷ 0x34 ∷ 0x33 ∷ 0x30 ∷ 0x02 ∷ 0x05 ∷ 0x34 ∷ 0x30 ∷ 0x39 ∷ 0x31 ∷ 0x32 ∷ 0xCB ∷ []
 
 -- the name Ann and the caller 7; no name and then the name A; no caller and then the caller 7
 abbrev named : List ℕ
@@ -35,7 +37,8 @@ abbrev callerless : List ℕ
 callerless = 0x80 ∷ 0x06 ∷ 0x04 ∷ 0x01 ∷ 0x50 ∷ 0x02 ∷ 0x01 ∷ 0x37 ∷ 0xEB ∷ []
 
 pub record Claim : Type 0 where
-  -- the first line for the caller; a line that only begins with it, and one with no =, are passed over; further = belong to the text
+  -- the first line for the caller; a line that only begins with it, and one with no =, are passed over; further =
+  -- belong to the text
   pub first-line : findOf (rulesOf PresentLenient) call (ascii "409=A\n40912\n40912=B=C\n40912=D\n") ≡ InDirectory 18 3
   -- the last line perhaps without 0AH; an empty text; 0DH is ordinary
   pub last-line : findOf (rulesOf PresentLenient) call (ascii "1=A\n40912=B") ≡ InDirectory 10 1

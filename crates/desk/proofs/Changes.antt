@@ -1,4 +1,5 @@
--- What adding and taking out a reference leave in the places of a desk, and that the same change again leaves what it left.
+-- What adding and taking out a reference leave in the places of a desk, and that the same change again leaves what it
+-- left.
 -- Assumes nothing.
 use Prim.Native.Nat.{ℕ, zero, suc, _≤_, _<_}
 use mathlib.Core.Path.{_≡_, refl, sym, _∙_, ap}
@@ -18,11 +19,15 @@ use Rattle.desk.proofs.Holding.{first-is, first-before, open-inside, ab
 
 -- ---- one place changed
 -- a reference held after it was put there, or was held before
-held-from : (ps : List ℕ) (k x i r : ℕ) → getD (set ps k x) i 0 ≡ held r → ((i ≡ k) × (x ≡ held r)) ⊎ (getD ps i 0 ≡ held r)
+held-from : (ps : List ℕ) (k x i r : ℕ) → getD (set ps k x) i 0 ≡ held r →
+    ((i ≡ k) × (x ≡ held r)) ⊎ (getD ps i 0 ≡ held r)
 held-from ps k x i r e = go (decide (i =? k)) (decide (suc k ≤? length ps))
   where
-    go : T (i =? k) ⊎ (T (i =? k) → ⊥) → T (suc k ≤? length ps) ⊎ (T (suc k ≤? length ps) → ⊥) → ((i ≡ k) × (x ≡ held r)) ⊎ (getD ps i 0 ≡ held r)
-    go (inl t) (inl l) = let z = eq-of i k t in inl (z, sym (getD-set-same ps k x 0 (le-of _ _ l)) ∙ ap (λ (j : ℕ). getD (set ps k x) j 0) (sym z) ∙ e)
+    go : T (i =? k) ⊎ (T (i =? k) → ⊥) → T (suc k ≤? length ps) ⊎ (T (suc k ≤? length ps) → ⊥) →
+        ((i ≡ k) × (x ≡ held r)) ⊎ (getD ps i 0 ≡ held r)
+    go (inl t) (inl l) =
+        let z = eq-of i k t in
+        inl (z, sym (getD-set-same ps k x 0 (le-of _ _ l)) ∙ ap (λ (j : ℕ). getD (set ps k x) j 0) (sym z) ∙ e)
     go (inl t) (inr n) = inr (ap (λ (l : List ℕ). getD l i 0) (sym (set-out ps k x (omega (arith, not-le _ _ n)))) ∙ e)
     go (inr n) l = inr (sym (getD-set-other ps k i x 0 (λ z. n (of-eq i k z))) ∙ e)
 
@@ -30,7 +35,8 @@ held-from ps k x i r e = go (decide (i =? k)) (decide (suc k ≤? length ps))
 held-still : (ps : List ℕ) (k x i r : ℕ) → (i ≡ k → ⊥) → getD ps i 0 ≡ held r → getD (set ps k x) i 0 ≡ held r
 held-still ps k x i r n e = getD-set-other ps k i x 0 n ∙ e
 
-range-set : (ps : List ℕ) (k x : ℕ) → x ≤ 65536 → ((i : ℕ) → getD ps i 0 ≤ 65536) → (i : ℕ) → getD (set ps k x) i 0 ≤ 65536
+range-set : (ps : List ℕ) (k x : ℕ) → x ≤ 65536 → ((i : ℕ) → getD ps i 0 ≤ 65536) → (i : ℕ) →
+    getD (set ps k x) i 0 ≤ 65536
 range-set [] k x h f i = f i
 range-set (p ∷ ps) zero x h f zero = h
 range-set (p ∷ ps) zero x h f (suc i) = f (suc i)
@@ -57,7 +63,8 @@ module _ (r : ℕ) (ps : List ℕ) where
       let k = both _ _ t in
       other (getD ps i 0) refl (absent-before free ps (k .1) i h) (λ e. closed-of r ps (k .0) (i, e))
     where
-      other : (p : ℕ) → getD ps i 0 ≡ p → (getD ps i 0 ≡ free → ⊥) → (getD ps i 0 ≡ held r → ⊥) → (s : ℕ) × (getD ps i 0 ≡ held s) × (s ≡ r → ⊥)
+      other : (p : ℕ) → getD ps i 0 ≡ p → (getD ps i 0 ≡ free → ⊥) → (getD ps i 0 ≡ held r → ⊥) →
+          (s : ℕ) × (getD ps i 0 ≡ held s) × (s ≡ r → ⊥)
       other zero e n m = absurd (n e)
       other (suc s) e n m = (s, e, λ x. m (e ∙ ap suc x))
 
@@ -84,16 +91,21 @@ module _ (r : ℕ) (ps : List ℕ) where
   added n = record {
     there = λ o. pick-not _ _ _ (λ t. closed-of r ps t o);
     new = λ m. let t = absent-of r ps m in (placeWith free ps, lowest-first ps (free-there n t), pick-yes _ _ _ t);
-    holds = pick-case (Open r) (absent (held r) ps) _ _ (λ t. (placeWith free ps, getD-set-same ps (placeWith free ps) (held r) 0 (free-there n t))) (λ m. open-of r ps m);
+    holds =
+        pick-case (Open r) (absent (held r) ps) _ _
+        (λ t. (placeWith free ps, getD-set-same ps (placeWith free ps) (held r) 0 (free-there n t)))
+        (λ m. open-of r ps m);
   }
 
   -- other references stay, in their places
-  pub others-added : (T (isFull (Adds r) ps) → ⊥) → (s i : ℕ) → (s ≡ r → ⊥) → (getD ps i 0 ≡ held s) ↔ (getD (placesAfter (Adds r) ps) i 0 ≡ held s)
+  pub others-added : (T (isFull (Adds r) ps) → ⊥) → (s i : ℕ) → (s ≡ r → ⊥) →
+      (getD ps i 0 ≡ held s) ↔ (getD (placesAfter (Adds r) ps) i 0 ≡ held s)
   unfolding placesAfter
   others-added n s i m =
       pick-case (λ (qs : List ℕ). (getD ps i 0 ≡ held s) ↔ (getD qs i 0 ≡ held s)) (absent (held r) ps) _ _
       (λ t. let h = free-there n t in (
-        λ e. held-still ps (placeWith free ps) (held r) i s (λ z. omega (arith, e, first-is free ps h, ap (λ (k : ℕ). getD ps k 0) z)) e,
+        λ e. held-still ps (placeWith free ps) (held r) i s
+            (λ z. omega (arith, e, first-is free ps h, ap (λ (k : ℕ). getD ps k 0) z)) e,
         λ e. from (held-from ps (placeWith free ps) (held r) i s e),
       ))
       (λ _. (λ e. e, λ e. e))
@@ -119,17 +131,24 @@ module _ (r : ℕ) (ps : List ℕ) where
     pub removed : Removed r ps (placesAfter (Removes r) ps)
     unfolding placesAfter
     removed = record {
-      freed = λ i e. let z = at-first i e in let h = open-inside ps i r e in ap (λ (k : ℕ). getD (set ps k free) i 0) (sym z) ∙ getD-set-same ps i free 0 h;
+      freed =
+          λ i e. let z = at-first i e in let h = open-inside ps i r e in
+          ap (λ (k : ℕ). getD (set ps k free) i 0) (sym z) ∙ getD-set-same ps i free 0 h;
       others = λ i n. other i n (decide (i =? placeWith (held r) ps));
       long = length-set ps (placeWith (held r) ps) free;
     }
       where
-        other : (i : ℕ) → (getD ps i 0 ≡ held r → ⊥) → T (i =? placeWith (held r) ps) ⊎ (T (i =? placeWith (held r) ps) → ⊥) → getD (set ps (placeWith (held r) ps) free) i 0 ≡ getD ps i 0
+        other : (i : ℕ) → (getD ps i 0 ≡ held r → ⊥) →
+            T (i =? placeWith (held r) ps) ⊎ (T (i =? placeWith (held r) ps) → ⊥) →
+            getD (set ps (placeWith (held r) ps) free) i 0 ≡ getD ps i 0
         other i n (inl t) =
             let z = eq-of _ _ t in
-            ap (λ (qs : List ℕ). getD qs i 0) (set-out ps (placeWith (held r) ps) free (outside z (decide (suc (placeWith (held r) ps) ≤? length ps))))
+            ap (λ (qs : List ℕ). getD qs i 0)
+            (set-out ps (placeWith (held r) ps) free (outside z (decide (suc (placeWith (held r) ps) ≤? length ps))))
           where
-            outside : i ≡ placeWith (held r) ps → T (suc (placeWith (held r) ps) ≤? length ps) ⊎ (T (suc (placeWith (held r) ps) ≤? length ps) → ⊥) → length ps ≤ placeWith (held r) ps
+            outside : i ≡ placeWith (held r) ps →
+                T (suc (placeWith (held r) ps) ≤? length ps) ⊎ (T (suc (placeWith (held r) ps) ≤? length ps) → ⊥) →
+                length ps ≤ placeWith (held r) ps
             outside z (inl h) = absurd (n (ap (λ (k : ℕ). getD ps k 0) z ∙ first-is (held r) ps (le-of _ _ h)))
             outside z (inr m) = omega (arith, not-le _ _ m)
         other i n (inr m) = getD-set-other ps (placeWith (held r) ps) i free 0 (λ z. m (of-eq _ _ z))
@@ -137,17 +156,20 @@ module _ (r : ℕ) (ps : List ℕ) where
     pub closed-after : Open r (placesAfter (Removes r) ps) → ⊥
     closed-after o = held-or (o .0) (o .1) (decide (getD ps (o .0) 0 =? held r))
       where
-        held-or : (i : ℕ) → getD (placesAfter (Removes r) ps) i 0 ≡ held r → T (getD ps i 0 =? held r) ⊎ (T (getD ps i 0 =? held r) → ⊥) → ⊥
+        held-or : (i : ℕ) → getD (placesAfter (Removes r) ps) i 0 ≡ held r →
+            T (getD ps i 0 =? held r) ⊎ (T (getD ps i 0 =? held r) → ⊥) → ⊥
         held-or i e (inl t) = omega (arith, e, removed .freed i (eq-of _ _ t))
         held-or i e (inr n) = n (of-eq _ _ (sym (removed .others i (λ x. n (of-eq _ _ x))) ∙ e))
 
-    pub others-removed : (s i : ℕ) → (s ≡ r → ⊥) → (getD ps i 0 ≡ held s) ↔ (getD (placesAfter (Removes r) ps) i 0 ≡ held s)
+    pub others-removed : (s i : ℕ) → (s ≡ r → ⊥) →
+        (getD ps i 0 ≡ held s) ↔ (getD (placesAfter (Removes r) ps) i 0 ≡ held s)
     others-removed s i m = (
       λ e. removed .others i (λ f. m (omega (arith, e, f))) ∙ e,
       λ e. back e (decide (getD ps i 0 =? held r)),
     )
       where
-        back : getD (placesAfter (Removes r) ps) i 0 ≡ held s → T (getD ps i 0 =? held r) ⊎ (T (getD ps i 0 =? held r) → ⊥) → getD ps i 0 ≡ held s
+        back : getD (placesAfter (Removes r) ps) i 0 ≡ held s →
+            T (getD ps i 0 =? held r) ⊎ (T (getD ps i 0 =? held r) → ⊥) → getD ps i 0 ≡ held s
         back e (inl t) = absurd (omega (arith, e, removed .freed i (eq-of _ _ t)))
         back e (inr n) = sym (removed .others i (λ x. n (of-eq _ _ x))) ∙ e
 
@@ -166,20 +188,26 @@ fit-after (Adds r) ps g n w = pick-case Fit (absent (held r) ps) _ _ (λ t. one-
     one-more : T (absent (held r) ps) → Fit (set ps (placeWith free ps) (held r))
     one-more t = record {
       range = range-set ps (placeWith free ps) (held r) (omega arith) (w .range);
-      once = λ i j s l a b. two s i j l (held-from ps (placeWith free ps) (held r) i s a) (held-from ps (placeWith free ps) (held r) j s b);
+      once =
+          λ i j s l a b. two s i j l (held-from ps (placeWith free ps) (held r) i s a)
+          (held-from ps (placeWith free ps) (held r) j s b);
     }
       where
-        two : (s i j : ℕ) → i < j → ((i ≡ placeWith free ps) × (held r ≡ held s)) ⊎ (getD ps i 0 ≡ held s) → ((j ≡ placeWith free ps) × (held r ≡ held s)) ⊎ (getD ps j 0 ≡ held s) → ⊥
+        two : (s i j : ℕ) → i < j → ((i ≡ placeWith free ps) × (held r ≡ held s)) ⊎ (getD ps i 0 ≡ held s) →
+            ((j ≡ placeWith free ps) × (held r ≡ held s)) ⊎ (getD ps j 0 ≡ held s) → ⊥
         two s i j l (inl x) (inl y) = omega (arith, x .0, y .0)
         two s i j l (inl x) (inr b) = closed-of r ps t (j, b ∙ sym (x .1))
         two s i j l (inr a) (inl y) = closed-of r ps t (i, a ∙ sym (y .1))
         two s i j l (inr a) (inr b) = w .once i j s l a b
 fit-after (Removes r) ps g n w = record {
   range = range-set ps (placeWith (held r) ps) free (omega arith) (w .range);
-  once = λ i j s l a b. two s i j l (held-from ps (placeWith (held r) ps) free i s a) (held-from ps (placeWith (held r) ps) free j s b);
+  once =
+      λ i j s l a b. two s i j l (held-from ps (placeWith (held r) ps) free i s a)
+      (held-from ps (placeWith (held r) ps) free j s b);
 }
   where
-    two : (s i j : ℕ) → i < j → ((i ≡ placeWith (held r) ps) × (free ≡ held s)) ⊎ (getD ps i 0 ≡ held s) → ((j ≡ placeWith (held r) ps) × (free ≡ held s)) ⊎ (getD ps j 0 ≡ held s) → ⊥
+    two : (s i j : ℕ) → i < j → ((i ≡ placeWith (held r) ps) × (free ≡ held s)) ⊎ (getD ps i 0 ≡ held s) →
+        ((j ≡ placeWith (held r) ps) × (free ≡ held s)) ⊎ (getD ps j 0 ≡ held s) → ⊥
     two s i j l (inl x) y = omega (arith, x .1)
     two s i j l (inr a) (inl y) = omega (arith, y .1)
     two s i j l (inr a) (inr b) = w .once i j s l a b
@@ -188,7 +216,9 @@ fit-after (Removes r) ps g n w = record {
 pub as-many-after : (k : Change) (ps : List ℕ) → length (placesAfter k ps) ≡ length ps
 unfolding placesAfter
 as-many-after Nothing ps = refl
-as-many-after (Adds r) ps = pick-case (λ (qs : List ℕ). length qs ≡ length ps) (absent (held r) ps) _ _ (λ _. length-set ps (placeWith free ps) (held r)) (λ _. refl)
+as-many-after (Adds r) ps =
+    pick-case (λ (qs : List ℕ). length qs ≡ length ps) (absent (held r) ps) _ _
+    (λ _. length-set ps (placeWith free ps) (held r)) (λ _. refl)
 as-many-after (Removes r) ps = length-set ps (placeWith (held r) ps) free
 
 -- the same change again: it has its place, and changes nothing
@@ -207,9 +237,12 @@ stays-added r ps o = pick-not _ _ _ (λ t. closed-of r ps t o)
 
 stays-removed : (r : ℕ) (ps : List ℕ) → (Open r ps → ⊥) → placesAfter (Removes r) ps ≡ ps
 unfolding placesAfter absent
-stays-removed r ps n = let z = eq-of (placeWith (held r) ps) (length ps) (absent-of r ps n) in set-out ps (placeWith (held r) ps) free (omega (arith, z))
+stays-removed r ps n =
+    let z = eq-of (placeWith (held r) ps) (length ps) (absent-of r ps n) in
+    set-out ps (placeWith (held r) ps) free (omega (arith, z))
 
-pub same-again : (k : Change) (ps : List ℕ) → (T (isFull k ps) → ⊥) → Fit ps → placesAfter k (placesAfter k ps) ≡ placesAfter k ps
+pub same-again : (k : Change) (ps : List ℕ) → (T (isFull k ps) → ⊥) → Fit ps →
+    placesAfter k (placesAfter k ps) ≡ placesAfter k ps
 unfolding placesAfter
 same-again Nothing ps n w = refl
 same-again (Adds r) ps n w = stays-added r (placesAfter (Adds r) ps) (added r ps n .holds)

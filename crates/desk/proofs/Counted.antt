@@ -1,5 +1,5 @@
--- Contents that count in an accepted message are never empty, so that they begin with the octet at their start; in each book those of 13H are one octet,
--- those of 0BH one of two.
+-- Contents that count in an accepted message are never empty, so that they begin with the octet at their start; in
+-- each book those of 13H are one octet, those of 0BH one of two.
 -- Assumes nothing.
 use Prim.Native.Nat.{ℕ, _+_, _-_, _*_, _≤_, _<_}
 use mathlib.Core.Path.{_≡_, refl, sym, _∙_, ap, subst}
@@ -36,7 +36,8 @@ use Rattle.desk.proofs.Changes.{AddsReference}
 use Rattle.desk.specs.Settle.{countedIn, changeIn, changeOf}
 
 -- what counts is the contents of a legal parameter of its type
-legal-counted : (R : Rules) (m : message.Message) → LegalMessage R m → (t : ℕ) (v : List ℕ) → counted R m t ≡ some v → T (contentsFit (classOf R t) v)
+legal-counted : (R : Rules) (m : message.Message) → LegalMessage R m → (t : ℕ) (v : List ℕ) →
+    counted R m t ≡ some v → T (contentsFit (classOf R t) v)
 legal-counted R m l t v e = legal-counts R m l t v (counted-iff R m t v .0 e)
 
 legal-listed : (R : Rules) (m : message.Message) (t : ℕ) (v : List ℕ) → counted R m t ≡ some v → T (listed R t)
@@ -49,13 +50,16 @@ module _ (R : Rules) (o : List ℕ) (a : Accepts R o) (t start n : ℕ) (e : cou
   holds = sym (counted-part R (a .0) t) ∙ ap (λ (x : List ℕ). partOf x (countedAt R x t)) (a .2) ∙ ap (partOf o) e
 
   some-octets : 1 ≤ length (take n (drop start o))
-  some-octets = lawful (classOf R t) .least _ (lawful (classOf R t) .fit-length _ (legal-counted R (a .0) (a .1) t _ holds))
+  some-octets =
+      lawful (classOf R t) .least _ (lawful (classOf R t) .fit-length _ (legal-counted R (a .0) (a .1) t _ holds))
 
   pub start-inside : start < length o
   start-inside = omega (arith, some-octets, length-take n (drop start o), length-drop start o)
 
   pub first-octet : getD (take n (drop start o)) 0 0 ≡ getD o start 0
-  first-octet = getD-take n (drop start o) 0 0 (omega (arith, some-octets, length-take n (drop start o))) ∙ getD-drop start o 0 0 ∙ ap (λ (k : ℕ). getD o k 0) (add-zero start)
+  first-octet =
+      getD-take n (drop start o) 0 0 (omega (arith, some-octets, length-take n (drop start o)))
+      ∙ getD-drop start o 0 0 ∙ ap (λ (k : ℕ). getD o k 0) (add-zero start)
 
 -- ---- what is found is what counts
 module _ (R : Rules) (o : List ℕ) (t : ℕ) (p : Part) (f : p ≡ countedAt R o t) where
@@ -78,7 +82,8 @@ one-octet s [] t = absurd t
 one-octet s (k ∷ []) t = (k, refl, both _ _ t .0)
 one-octet s (k ∷ j ∷ v) t = absurd (both _ _ t .1)
 
-three-octets : (s t u : List Range) (v : List ℕ) → T (columnsFit (s ∷ t ∷ u ∷ []) v) → (a b c : ℕ) × (v ≡ a ∷ b ∷ c ∷ []) × T (inSet s a)
+three-octets : (s t u : List Range) (v : List ℕ) → T (columnsFit (s ∷ t ∷ u ∷ []) v) →
+    (a b c : ℕ) × (v ≡ a ∷ b ∷ c ∷ []) × T (inSet s a)
 unfolding columnsFit
 three-octets s t u [] x = absurd x
 three-octets s t u (a ∷ []) x = absurd (both _ _ x .1)
@@ -100,7 +105,8 @@ lamp-class PresentLenient t = refl
 lamp-class OldStrict t = refl
 lamp-class OldLenient t = refl
 
-identity-class : (b : Book) → T (listed (rulesOf b) 0x0D) → whole (classOf (rulesOf b) 0x0D) ≡ columns (identitySet ∷ anyOctet ∷ anyOctet ∷ [])
+identity-class : (b : Book) → T (listed (rulesOf b) 0x0D) →
+    whole (classOf (rulesOf b) 0x0D) ≡ columns (identitySet ∷ anyOctet ∷ anyOctet ∷ [])
 unfolding listed listedIn classOf rowOf rowIn rulesOf whole pick _or_ _=?_
 identity-class PresentStrict t = refl
 identity-class PresentLenient t = refl
@@ -126,7 +132,8 @@ in-identity k t = first (one-of 0x00 k _ t)
     second (inl e) = inl e
     second (inr x) = inr (third (one-of 0xFF k _ x))
 
-    first : (k ≡ 0x00) ⊎ T ((0x55 ≤? k and k ≤? 0x55) or ((0xFF ≤? k and k ≤? 0xFF) or false)) → (k ≡ 0x00) ⊎ ((k ≡ 0x55) ⊎ (k ≡ 0xFF))
+    first : (k ≡ 0x00) ⊎ T ((0x55 ≤? k and k ≤? 0x55) or ((0xFF ≤? k and k ≤? 0xFF) or false)) →
+        (k ≡ 0x00) ⊎ ((k ≡ 0x55) ⊎ (k ≡ 0xFF))
     first (inl e) = inl e
     first (inr x) = inr (second (one-of 0x55 k _ x))
 
@@ -144,22 +151,32 @@ in-lamp k t = first (one-of 0x00 k _ t)
 
 module _ (b : Book) (m : message.Message) (l : LegalMessage (rulesOf b) m) (v : List ℕ) where
   pub waiting-octet : counted (rulesOf b) m 0x13 ≡ some v → (k : ℕ) × (v ≡ k ∷ [])
-  waiting-octet e = let d = one-octet anyOctet v (subst (λ (w : Whole). T (w .fits v)) (waiting-class b (legal-listed (rulesOf b) m 0x13 v e)) (legal-counted (rulesOf b) m l 0x13 v e)) in (d .0, d .1)
+  waiting-octet e =
+      let d = one-octet anyOctet v (subst (λ (w : Whole). T (w .fits v))
+      (waiting-class b (legal-listed (rulesOf b) m 0x13 v e)) (legal-counted (rulesOf b) m l 0x13 v e)) in
+      (d .0, d .1)
 
   pub lamp-octet : counted (rulesOf b) m 0x0B ≡ some v → (v ≡ 0x00 ∷ []) ⊎ (v ≡ 0xFF ∷ [])
-  lamp-octet e = let d = one-octet lampSet v (subst (λ (w : Whole). T (w .fits v)) (lamp-class b (legal-listed (rulesOf b) m 0x0B v e)) (legal-counted (rulesOf b) m l 0x0B v e)) in go (d .0) (d .1) (in-lamp (d .0) (d .2))
+  lamp-octet e =
+      let d = one-octet lampSet v (subst (λ (w : Whole). T (w .fits v))
+      (lamp-class b (legal-listed (rulesOf b) m 0x0B v e)) (legal-counted (rulesOf b) m l 0x0B v e)) in
+      go (d .0) (d .1) (in-lamp (d .0) (d .2))
     where
       go : (k : ℕ) → v ≡ k ∷ [] → (k ≡ 0x00) ⊎ (k ≡ 0xFF) → (v ≡ 0x00 ∷ []) ⊎ (v ≡ 0xFF ∷ [])
       go k d (inl x) = inl (d ∙ ap (λ (z : ℕ). z ∷ []) x)
       go k d (inr x) = inr (d ∙ ap (λ (z : ℕ). z ∷ []) x)
 
   -- 0DH that counts is a state and a reference
-  pub identity-octets : counted (rulesOf b) m 0x0D ≡ some v → (h l : ℕ) × ((v ≡ 0x00 ∷ h ∷ l ∷ []) ⊎ ((v ≡ 0x55 ∷ h ∷ l ∷ []) ⊎ (v ≡ 0xFF ∷ h ∷ l ∷ [])))
+  pub identity-octets : counted (rulesOf b) m 0x0D ≡ some v →
+      (h l : ℕ) × ((v ≡ 0x00 ∷ h ∷ l ∷ []) ⊎ ((v ≡ 0x55 ∷ h ∷ l ∷ []) ⊎ (v ≡ 0xFF ∷ h ∷ l ∷ [])))
   identity-octets e =
-      let d = three-octets identitySet anyOctet anyOctet v (subst (λ (w : Whole). T (w .fits v)) (identity-class b (legal-listed (rulesOf b) m 0x0D v e)) (legal-counted (rulesOf b) m l 0x0D v e)) in
+      let d = three-octets identitySet anyOctet anyOctet v
+      (subst (λ (w : Whole). T (w .fits v)) (identity-class b (legal-listed (rulesOf b) m 0x0D v e))
+      (legal-counted (rulesOf b) m l 0x0D v e)) in
       (d .1, d .2, state (d .0) (d .1) (d .2) (d .3) (in-identity (d .0) (d .4)))
     where
-      state : (k h l : ℕ) → v ≡ k ∷ h ∷ l ∷ [] → (k ≡ 0x00) ⊎ ((k ≡ 0x55) ⊎ (k ≡ 0xFF)) → (v ≡ 0x00 ∷ h ∷ l ∷ []) ⊎ ((v ≡ 0x55 ∷ h ∷ l ∷ []) ⊎ (v ≡ 0xFF ∷ h ∷ l ∷ []))
+      state : (k h l : ℕ) → v ≡ k ∷ h ∷ l ∷ [] → (k ≡ 0x00) ⊎ ((k ≡ 0x55) ⊎ (k ≡ 0xFF)) →
+          (v ≡ 0x00 ∷ h ∷ l ∷ []) ⊎ ((v ≡ 0x55 ∷ h ∷ l ∷ []) ⊎ (v ≡ 0xFF ∷ h ∷ l ∷ []))
       state k h l d (inl x) = inl (d ∙ ap (λ (z : ℕ). z ∷ h ∷ l ∷ []) x)
       state k h l d (inr (inl x)) = inr (inl (d ∙ ap (λ (z : ℕ). z ∷ h ∷ l ∷ []) x))
       state k h l d (inr (inr x)) = inr (inr (d ∙ ap (λ (z : ℕ). z ∷ h ∷ l ∷ []) x))
@@ -187,7 +204,9 @@ none-range = tt
 
 small : (a b c : ℕ) → b < 256 → c < 256 → AddsReference (changeBy a b c)
 unfolding changeBy
-small a b c h l = pick-case AddsReference (a =? 0xFF) _ _ (λ _. adds) (λ _. pick-case AddsReference (a =? 0x00) _ _ (λ _. removes) (λ _. nothing))
+small a b c h l =
+    pick-case AddsReference (a =? 0xFF) _ _ (λ _. adds)
+    (λ _. pick-case AddsReference (a =? 0x00) _ _ (λ _. removes) (λ _. nothing))
   where
     adds : AddsReference (Adds (referenceOf b c))
     adds = in-range (referenceOf b c) (omega arith)
@@ -204,4 +223,6 @@ small-change R o q t = go (countedIn R o t) refl
   where
     go : (c : Option (List ℕ)) → countedIn R o t ≡ c → AddsReference (changeOf c)
     go none e = none-range
-    go (some v) e = let w = octets-counted R o q t v e in small (getD v 0 0) (getD v 1 0) (getD v 2 0) (octet-at v w 1) (octet-at v w 2)
+    go (some v) e =
+        let w = octets-counted R o q t v e in
+        small (getD v 0 0) (getD v 1 0) (getD v 2 0) (octet-at v w 1) (octet-at v w 2)

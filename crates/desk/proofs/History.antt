@@ -33,7 +33,8 @@ History d [] e = d ≡ e
 History d (c ∷ cs) e = (c .outcome ≡ settleOf (rulesOf (c .book)) d (c .octets)) × History (c .outcome .desk) cs e
 
 -- ---- one change
-stands-changed : (r : ℕ) (k : Change) (ps : List ℕ) → Fit ps → (T (isFull k ps) → ⊥) → OpenBy r ps (saidBy r k) (placesAfter k ps)
+stands-changed : (r : ℕ) (k : Change) (ps : List ℕ) → Fit ps → (T (isFull k ps) → ⊥) →
+    OpenBy r ps (saidBy r k) (placesAfter k ps)
 unfolding saidBy pick placesAfter
 stands-changed r Nothing ps w n = same
   where
@@ -41,18 +42,22 @@ stands-changed r Nothing ps w n = same
     same = (λ o. o, λ o. o)
 stands-changed r (Adds s) ps w n = go (s =? r) (λ t. eq-of s r t) (λ m e. m (of-eq s r e))
   where
-    go : (b : Bool) → (T b → s ≡ r) → ((T b → ⊥) → s ≡ r → ⊥) → OpenBy r ps (pick b (some true) none) (placesAfter (Adds s) ps)
+    go : (b : Bool) → (T b → s ≡ r) → ((T b → ⊥) → s ≡ r → ⊥) →
+        OpenBy r ps (pick b (some true) none) (placesAfter (Adds s) ps)
     go true f g = subst (λ (x : ℕ). Open x (placesAfter (Adds s) ps)) (f tt) (added s ps n .holds)
     go false f g =
         let m : r ≡ s → ⊥ = λ e. g (λ t. t) (sym e) in
         (λ o. (o .0, others-added s ps n r (o .0) m .0 (o .1)), λ o. (o .0, others-added s ps n r (o .0) m .1 (o .1)))
 stands-changed r (Removes s) ps w n = go (s =? r) (λ t. eq-of s r t) (λ m e. m (of-eq s r e))
   where
-    go : (b : Bool) → (T b → s ≡ r) → ((T b → ⊥) → s ≡ r → ⊥) → OpenBy r ps (pick b (some false) none) (placesAfter (Removes s) ps)
+    go : (b : Bool) → (T b → s ≡ r) → ((T b → ⊥) → s ≡ r → ⊥) →
+        OpenBy r ps (pick b (some false) none) (placesAfter (Removes s) ps)
     go true f g = λ o. closed-after s ps w (subst (λ (x : ℕ). Open x (placesAfter (Removes s) ps)) (sym (f tt)) o)
     go false f g =
-        let m : r ≡ s → ⊥ = λ e. g (λ t. t) (sym e) in
-        (λ o. (o .0, others-removed s ps w r (o .0) m .0 (o .1)), λ o. (o .0, others-removed s ps w r (o .0) m .1 (o .1)))
+        let m : r ≡ s → ⊥ = λ e. g (λ t. t) (sym e) in (
+          λ o. (o .0, others-removed s ps w r (o .0) m .0 (o .1)),
+          λ o. (o .0, others-removed s ps w r (o .0) m .1 (o .1)),
+        )
 
 module _ (book : Book) where
   -- ---- one call
@@ -68,13 +73,16 @@ module _ (book : Book) where
     says-message o x w (inl g) = subst (Says o) (sym (g .is)) same
     says-message o x w (inr (inl g)) =
         subst (Says o) (sym (g .is))
-        (subst (λ (b : Option Bool). OpenBy r (d .places) b (placesAfter (changeOf (countedIn (rulesOf book) o 0x0D)) (d .places)))
-        (sym (pick-yes (getD o 0 0 =? 0x82) (saidBy r (changeOf (countedIn (rulesOf book) o 0x0D))) none (of-eq _ _ (g .notice))))
+        (subst (λ (b : Option Bool). OpenBy r (d .places) b
+        (placesAfter (changeOf (countedIn (rulesOf book) o 0x0D)) (d .places)))
+        (sym (pick-yes (getD o 0 0 =? 0x82) (saidBy r (changeOf (countedIn (rulesOf book) o 0x0D))) none
+        (of-eq _ _ (g .notice))))
         (stands-changed r (changeOf (countedIn (rulesOf book) o 0x0D)) (d .places) w (g .room)))
     says-message o x w (inr (inr g)) =
         subst (Says o) (sym (g .is))
         (subst (λ (b : Option Bool). OpenBy r (d .places) b (d .places))
-        (sym (pick-not (getD o 0 0 =? 0x82) (saidBy r (changeOf (countedIn (rulesOf book) o 0x0D))) none (λ t. g .call (eq-of _ _ t)))) same)
+        (sym (pick-not (getD o 0 0 =? 0x82) (saidBy r (changeOf (countedIn (rulesOf book) o 0x0D))) none
+        (λ t. g .call (eq-of _ _ t)))) same)
 
     says-under : (v : Verdict) (o : List ℕ) → Fit (d .places) → Says o (settledUnder (rulesOf book) v o d)
     unfolding settledUnder saidUnder
@@ -86,11 +94,14 @@ module _ (book : Book) where
     says o = go (decide (placesFit (d .places)))
       where
         go : T (placesFit (d .places)) ⊎ (T (placesFit (d .places)) → ⊥) → Says o (settleOf (rulesOf book) d o)
-        go (inl t) = subst (Says o) (sym (pick-yes (placesFit (d .places)) _ _ t)) (says-under (verdictOf (rulesOf book) o) o (fit-of (d .places) t))
+        go (inl t) =
+            subst (Says o) (sym (pick-yes (placesFit (d .places)) _ _ t))
+            (says-under (verdictOf (rulesOf book) o) o (fit-of (d .places) t))
         go (inr n) = subst (Says o) (sym (pick-not (placesFit (d .places)) _ _ n)) same
 
 -- ---- call after call
-stands-later : (r : ℕ) (ps qs rs : List ℕ) (a b : Option Bool) → OpenBy r ps b qs → OpenBy r qs a rs → OpenBy r ps (later a b) rs
+stands-later : (r : ℕ) (ps qs rs : List ℕ) (a b : Option Bool) → OpenBy r ps b qs → OpenBy r qs a rs →
+    OpenBy r ps (later a b) rs
 unfolding later
 stands-later r ps qs rs (some true) b x y = y
 stands-later r ps qs rs (some false) b x y = y
@@ -98,14 +109,18 @@ stands-later r ps qs rs none (some true) x y = y .0 x
 stands-later r ps qs rs none (some false) x y = λ o. x (y .1 o)
 stands-later r ps qs rs none none x y = Iff·trans x y
 
-goes-on : (r : ℕ) (ps : List ℕ) (d : Desk) (cs : List Call) (e : Desk) (b : Option Bool) → OpenBy r ps b (d .places) → History d cs e → OpenBy r ps (lastSaid r cs b) (e .places)
+goes-on : (r : ℕ) (ps : List ℕ) (d : Desk) (cs : List Call) (e : Desk) (b : Option Bool) →
+    OpenBy r ps b (d .places) → History d cs e → OpenBy r ps (lastSaid r cs b) (e .places)
 unfolding lastSaid said
 goes-on r ps d [] e b x h = subst (λ (y : Desk). OpenBy r ps b (y .places)) h x
 goes-on r ps d (c ∷ cs) e b x h =
     goes-on r ps (c .outcome .desk) cs e _
-    (stands-later r ps (d .places) (c .outcome .desk .places) (said r c) b x (subst (λ (y : Outcome). OpenBy r (d .places) (saidUnder (rulesOf (c .book)) r (c .octets) (y .answer)) (y .desk .places)) (sym (h .0)) (says (c .book) r d (c .octets))))
+    (stands-later r ps (d .places) (c .outcome .desk .places) (said r c) b x
+    (subst (λ (y : Outcome). OpenBy r (d .places) (saidUnder (rulesOf (c .book)) r (c .octets) (y .answer))
+    (y .desk .places)) (sym (h .0)) (says (c .book) r d (c .octets))))
     (h .1)
 
 -- from whatever desk: open, closed or as it was, by the last word of all calls
-pub open-by-last : (r : ℕ) (d : Desk) (cs : List Call) (e : Desk) → History d cs e → OpenBy r (d .places) (lastSaid r cs none) (e .places)
+pub open-by-last : (r : ℕ) (d : Desk) (cs : List Call) (e : Desk) → History d cs e →
+    OpenBy r (d .places) (lastSaid r cs none) (e .places)
 open-by-last r d cs e h = goes-on r (d .places) d cs e none (λ o. o, λ o. o) h

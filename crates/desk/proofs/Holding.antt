@@ -1,4 +1,5 @@
--- What the places of a desk say: the first that is one sought, whether they fit, and from place to place in a loop over them.
+-- What the places of a desk say: the first that is one sought, whether they fit, and from place to place in a loop
+-- over them.
 -- Assumes nothing.
 use Prim.Native.Nat.{ℕ, zero, suc, _+_, _≤_, _<_}
 use mathlib.Core.Path.{_≡_, refl, sym, _∙_, ap, subst}
@@ -20,7 +21,8 @@ use Rattle.desk.specs.Holding.{Fit, Open}
 pub first-le : (p : ℕ) (ps : List ℕ) → placeWith p ps ≤ length ps
 unfolding placeWith
 first-le p [] = omega arith
-first-le p (q ∷ ps) = pick-case (λ (n : ℕ). n ≤ suc (length ps)) (q =? p) _ _ (λ _. omega arith) (λ _. omega (arith, first-le p ps))
+first-le p (q ∷ ps) =
+    pick-case (λ (n : ℕ). n ≤ suc (length ps)) (q =? p) _ _ (λ _. omega arith) (λ _. omega (arith, first-le p ps))
 
 -- is p
 pub first-is : (p : ℕ) (ps : List ℕ) → placeWith p ps < length ps → getD ps (placeWith p ps) 0 ≡ p
@@ -28,7 +30,8 @@ unfolding placeWith pick
 first-is p [] h = absurd (omega arith)
 first-is p (q ∷ ps) h = go (q =? p) (λ t. eq-of q p t) (first-is p ps) h
   where
-    go : (b : Bool) → (T b → q ≡ p) → (placeWith p ps < length ps → getD ps (placeWith p ps) 0 ≡ p) → pick b 0 (suc (placeWith p ps)) < suc (length ps) → getD (q ∷ ps) (pick b 0 (suc (placeWith p ps))) 0 ≡ p
+    go : (b : Bool) → (T b → q ≡ p) → (placeWith p ps < length ps → getD ps (placeWith p ps) 0 ≡ p) →
+        pick b 0 (suc (placeWith p ps)) < suc (length ps) → getD (q ∷ ps) (pick b 0 (suc (placeWith p ps))) 0 ≡ p
     go true f g h = f tt
     go false f g h = g (omega arith)
 
@@ -91,9 +94,11 @@ fit-of [] t = record { range = λ i. omega arith; once = λ i j r l e f. omega (
 fit-of (p ∷ ps) t =
     let k = both _ _ t in
     let w = fit-of ps (k .1) in
-    let z = pick-case {A = Bool} (λ (b : Bool). T b → (p ≤ 65536) × ((r : ℕ) → p ≡ held r → Open r ps → ⊥)) (p =? free) true (p ≤? held 65535 and absent p ps)
+    let z = pick-case {A = Bool} (λ (b : Bool). T b → (p ≤ 65536) × ((r : ℕ) → p ≡ held r → Open r ps → ⊥))
+    (p =? free) true (p ≤? held 65535 and absent p ps)
     (λ q x. (omega (arith, eq-of _ _ q), λ r e o. omega (arith, eq-of _ _ q, e)))
-    (λ q x. let y = both _ _ x in (le-of _ _ (y .0), λ r e o. closed-of r ps (subst (λ (v : ℕ). T (absent v ps)) e (y .1)) o)) (k .0) in
+    (λ q x. let y = both _ _ x in
+    (le-of _ _ (y .0), λ r e o. closed-of r ps (subst (λ (v : ℕ). T (absent v ps)) e (y .1)) o)) (k .0) in
     record {
       range = in-range p ps (z .0) (w .range);
       once = only p ps (z .1) (w .once);
@@ -103,7 +108,9 @@ fit-of (p ∷ ps) t =
     in-range p ps h f zero = h
     in-range p ps h f (suc i) = f i
 
-    only : (p : ℕ) (ps : List ℕ) → ((r : ℕ) → p ≡ held r → Open r ps → ⊥) → ((i j r : ℕ) → i < j → getD ps i 0 ≡ held r → getD ps j 0 ≡ held r → ⊥) → (i j r : ℕ) → i < j → getD (p ∷ ps) i 0 ≡ held r → getD (p ∷ ps) j 0 ≡ held r → ⊥
+    only : (p : ℕ) (ps : List ℕ) → ((r : ℕ) → p ≡ held r → Open r ps → ⊥) →
+        ((i j r : ℕ) → i < j → getD ps i 0 ≡ held r → getD ps j 0 ≡ held r → ⊥) → (i j r : ℕ) → i < j →
+        getD (p ∷ ps) i 0 ≡ held r → getD (p ∷ ps) j 0 ≡ held r → ⊥
     only p ps h f zero zero r l a b = omega arith
     only p ps h f zero (suc j) r l a b = h r a (j, b)
     only p ps h f (suc i) zero r l a b = omega arith
@@ -116,22 +123,29 @@ of-fit (p ∷ ps) w =
     join _ _
     (pick-case {A = Bool} (λ (b : Bool). T b) (p =? free) true (p ≤? held 65535 and absent p ps) (λ _. tt)
     (λ q. join _ _ (of-le _ _ (w .range 0)) (alone p refl q)))
-    (of-fit ps (record { range = λ i. w .range (suc i); once = λ i j r l a b. w .once (suc i) (suc j) r (omega arith) a b }))
+    (of-fit ps
+    (record { range = λ i. w .range (suc i); once = λ i j r l a b. w .once (suc i) (suc j) r (omega arith) a b }))
   where
     alone : (v : ℕ) → p ≡ v → (T (p =? free) → ⊥) → T (absent p ps)
     alone zero e q = absurd (q (of-eq _ _ e))
-    alone (suc r) e q = subst (λ (v : ℕ). T (absent v ps)) (sym e) (absent-of r ps (λ o. w .once 0 (suc (o .0)) r (omega arith) e (o .1)))
+    alone (suc r) e q =
+        subst (λ (v : ℕ). T (absent v ps)) (sym e)
+        (absent-of r ps (λ o. w .once 0 (suc (o .0)) r (omega arith) e (o .1)))
 
 -- ---- from place to place
 module _ (p : ℕ) (ps : List ℕ) (i : ℕ) where
   pub first-here : i < length ps → getD ps i 0 ≡ p → i + placeWith p (drop i ps) ≡ i
   unfolding placeWith
-  first-here h e = let z = ap (placeWith p) (drop-cons ps i 0 h) ∙ pick-yes (getD ps i 0 =? p) 0 _ (of-eq _ _ e) in omega (arith, z)
+  first-here h e =
+      let z = ap (placeWith p) (drop-cons ps i 0 h) ∙ pick-yes (getD ps i 0 =? p) 0 _ (of-eq _ _ e) in
+      omega (arith, z)
 
-  pub first-next : i < length ps → (getD ps i 0 ≡ p → ⊥) → i + placeWith p (drop i ps) ≡ i + 1 + placeWith p (drop (i + 1) ps)
+  pub first-next : i < length ps → (getD ps i 0 ≡ p → ⊥) →
+      i + placeWith p (drop i ps) ≡ i + 1 + placeWith p (drop (i + 1) ps)
   unfolding placeWith
   first-next h n =
-      let z = ap (placeWith p) (drop-cons ps i 0 h) ∙ pick-not (getD ps i 0 =? p) 0 (suc (placeWith p (drop (suc i) ps))) (λ t. n (eq-of _ _ t)) in
+      let z = ap (placeWith p) (drop-cons ps i 0 h)
+      ∙ pick-not (getD ps i 0 =? p) 0 (suc (placeWith p (drop (suc i) ps))) (λ t. n (eq-of _ _ t)) in
       omega (arith, z, ap (λ (k : ℕ). placeWith p (drop k ps)) (add-one i))
 
   pub first-end : length ps ≤ i → i + placeWith p (drop i ps) ≡ i
@@ -143,27 +157,33 @@ module _ (p : ℕ) (ps : List ℕ) (i : ℕ) where
   unfolding absent
   absent-from h = go (decide (placeWith p (drop i ps) =? length (drop i ps)))
     where
-      go : T (placeWith p (drop i ps) =? length (drop i ps)) ⊎ (T (placeWith p (drop i ps) =? length (drop i ps)) → ⊥) → eqb (i + placeWith p (drop i ps)) (length ps) ≡ (placeWith p (drop i ps) =? length (drop i ps))
+      go : T (placeWith p (drop i ps) =? length (drop i ps))
+          ⊎ (T (placeWith p (drop i ps) =? length (drop i ps)) → ⊥) →
+          eqb (i + placeWith p (drop i ps)) (length ps) ≡ (placeWith p (drop i ps) =? length (drop i ps))
       go (inl t) =
           let e = eq-of _ _ t in
           let z : i + placeWith p (drop i ps) ≡ length ps = omega (arith, e, length-drop i ps) in
           is-eq _ _ ∙ yes-eq _ _ z ∙ sym (yes-eq _ _ e)
       go (inr n) =
-          let z : i + placeWith p (drop i ps) ≡ length ps → ⊥ = λ e. n (of-eq _ _ (omega (arith, e, length-drop i ps))) in
+          let z : i + placeWith p (drop i ps) ≡ length ps → ⊥ =
+          λ e. n (of-eq _ _ (omega (arith, e, length-drop i ps))) in
           is-eq _ _ ∙ no-eq _ _ z ∙ sym (no-eq _ _ (λ e. n (of-eq _ _ e)))
 
 module _ (ps : List ℕ) (i : ℕ) where
   -- none behind i is p
-  pub absent-behind : (p : ℕ) → i < length ps → eqb (i + 1 + placeWith p (drop (i + 1) ps)) (length ps) ≡ absent p (drop (suc i) ps)
+  pub absent-behind : (p : ℕ) → i < length ps →
+      eqb (i + 1 + placeWith p (drop (i + 1) ps)) (length ps) ≡ absent p (drop (suc i) ps)
   absent-behind p h = absent-from p ps (i + 1) (omega arith) ∙ ap (λ (k : ℕ). absent p (drop k ps)) (add-one i)
 
-  fit-at : i < length ps → placesFit (drop i ps) ≡ (mayStand (getD ps i 0) (drop (suc i) ps) and placesFit (drop (suc i) ps))
+  fit-at : i < length ps →
+      placesFit (drop i ps) ≡ (mayStand (getD ps i 0) (drop (suc i) ps) and placesFit (drop (suc i) ps))
   unfolding placesFit
   fit-at h = ap placesFit (drop-cons ps i 0 h)
 
   -- the places from i on decide
   module _ (e : placesFit ps ≡ placesFit (drop i ps)) where
-    pub fit-more : i < length ps → mayStand (getD ps i 0) (drop (suc i) ps) ≡ true → placesFit ps ≡ placesFit (drop (i + 1) ps)
+    pub fit-more : i < length ps → mayStand (getD ps i 0) (drop (suc i) ps) ≡ true →
+        placesFit ps ≡ placesFit (drop (i + 1) ps)
     fit-more h t = e ∙ fit-at h ∙ sym (and-t _ _ _ t refl) ∙ ap (λ (k : ℕ). placesFit (drop k ps)) (sym (add-one i))
 
     pub fit-fails : i < length ps → mayStand (getD ps i 0) (drop (suc i) ps) ≡ false → false ≡ placesFit ps

@@ -1,5 +1,5 @@
--- Settling does what is promised: by the places of the desk, then by the verdict, then by the three ways of a message; and a second settling goes the same way
--- and changes nothing.
+-- Settling does what is promised: by the places of the desk, then by the verdict, then by the three ways of a
+-- message; and a second settling goes the same way and changes nothing.
 -- Assumes nothing.
 use Prim.Native.Nat.{ℕ}
 use mathlib.Core.Path.{_≡_, refl, sym, _∙_, ap, subst}
@@ -83,22 +83,29 @@ module _ (book : Book) where
     unfolding settledMessage settledNotice refusedWith
     ways = go (decide (getD o 0 0 =? 0x82)) (decide (isFull (changeOf (countedIn (rulesOf book) o 0x0D)) (d .places)))
       where
-        go : T (getD o 0 0 =? 0x82) ⊎ (T (getD o 0 0 =? 0x82) → ⊥) → adds ⊎ (adds → ⊥) → Ways (settledMessage (rulesOf book) o d)
+        go : T (getD o 0 0 =? 0x82) ⊎ (T (getD o 0 0 =? 0x82) → ⊥) → adds ⊎ (adds → ⊥) →
+            Ways (settledMessage (rulesOf book) o d)
         go (inl k) (inl t) = inl (record { notice = eq-of _ _ k; full = t; is = pick-yes _ _ _ k ∙ pick-yes _ _ _ t })
-        go (inl k) (inr n) = inr (inl (record { notice = eq-of _ _ k; room = n; is = pick-yes _ _ _ k ∙ pick-not _ _ _ n }))
+        go (inl k) (inr n) =
+            inr (inl (record { notice = eq-of _ _ k; room = n; is = pick-yes _ _ _ k ∙ pick-not _ _ _ n }))
         go (inr k) t = inr (inr (record { call = λ e. k (of-eq _ _ e); is = pick-not _ _ _ k }))
 
     -- each leaves places that fit
     fit-left : Octets o → Fit (d .places) → (r : Outcome) → Ways r → Fit (r .desk .places)
     unfolding noticed
     fit-left q w r (inl g) = subst (λ (x : Outcome). Fit (x .desk .places)) (sym (g .is)) w
-    fit-left q w r (inr (inl g)) = subst (λ (x : Outcome). Fit (x .desk .places)) (sym (g .is)) (fit-after (changeOf (countedIn (rulesOf book) o 0x0D)) (d .places) (small-change (rulesOf book) o q 0x0D) (g .room) w)
+    fit-left q w r (inr (inl g)) =
+        subst (λ (x : Outcome). Fit (x .desk .places)) (sym (g .is))
+        (fit-after (changeOf (countedIn (rulesOf book) o 0x0D)) (d .places) (small-change (rulesOf book) o q 0x0D)
+        (g .room) w)
     fit-left q w r (inr (inr g)) = subst (λ (x : Outcome). Fit (x .desk .places)) (sym (g .is)) w
 
     many-left : (r : Outcome) → Ways r → length (r .desk .places) ≡ length (d .places)
     unfolding noticed
     many-left r (inl g) = ap (λ (x : Outcome). length (x .desk .places)) (g .is)
-    many-left r (inr (inl g)) = ap (λ (x : Outcome). length (x .desk .places)) (g .is) ∙ as-many-after (changeOf (countedIn (rulesOf book) o 0x0D)) (d .places)
+    many-left r (inr (inl g)) =
+        ap (λ (x : Outcome). length (x .desk .places)) (g .is)
+        ∙ as-many-after (changeOf (countedIn (rulesOf book) o 0x0D)) (d .places)
     many-left r (inr (inr g)) = ap (λ (x : Outcome). length (x .desk .places)) (g .is)
 
   module _ (d : Desk) (o : List ℕ) (q : Octets o) where
@@ -119,10 +126,15 @@ module _ (book : Book) where
           let a : r .answer ≡ Refused (fault 17) = ap (λ (x : Outcome). x .answer) e in
           let k : r .desk ≡ d = ap (λ (x : Outcome). x .desk) e in
           record {
-            seventeen = λ p. (λ x. (place-is _ _ (sym x ∙ a), n), λ x. a ∙ ap (λ (i : ℕ). Refused (noted 17 i)) (sym (x .0)));
+            seventeen =
+                λ p. (λ x. (place-is _ _ (sym x ∙ a), n), λ x. a ∙ ap (λ (i : ℕ). Refused (noted 17 i)) (sym (x .0)));
             verdict = v;
             judged = J;
-            refused = λ f l. (λ x. absurd (omega (arith, told-small (spoken-of book) _ l .1, number-is _ _ (sym x ∙ a))), λ x. absurd (n (x .0)));
+            refused =
+                λ f l. (
+                  λ x. absurd (omega (arith, told-small (spoken-of book) _ l .1, number-is _ _ (sym x ∙ a))),
+                  λ x. absurd (n (x .0)),
+                );
             full = λ p. (λ x. absurd (omega (arith, number-is _ _ (sym x ∙ a))), λ x. absurd (n (x .1)));
             done = (λ x. absurd (no-done _ (sym x ∙ a)), λ x. absurd (n (x .0)));
             numbers = λ f x. inr (inl (number-is _ _ (sym x ∙ a)));
@@ -139,21 +151,35 @@ module _ (book : Book) where
       fit = pick-yes _ _ _ (of-fit (d .places) w)
 
       -- octets that the whole read declines
-      declined-settles : (r : Outcome) (f : Fault) → v ≡ Declined f → r ≡ settle.refused f d → Settles (rulesOf book) d o r
+      declined-settles : (r : Outcome) (f : Fault) → v ≡ Declined f → r ≡ settle.refused f d →
+          Settles (rulesOf book) d o r
       declined-settles r f c e =
           let a : r .answer ≡ Refused f = ap (λ (x : Outcome). x .answer) e in
           let k : r .desk ≡ d = ap (λ (x : Outcome). x .desk) e in
           let t = J .numbers f c in
           let b = told-small (spoken-of book) _ t in
-          let none : (x : Accepts (rulesOf book) o) → ⊥ = λ x. no-verdict _ _ (sym (J .accepted (length o) .1 (refl, x)) ∙ c) in
+          let none : (x : Accepts (rulesOf book) o) → ⊥ =
+          λ x. no-verdict _ _ (sym (J .accepted (length o) .1 (refl, x)) ∙ c) in
           record {
             seventeen = λ p. (λ x. absurd (omega (arith, b .1, number-is _ _ (sym x ∙ a))), λ x. absurd (x .1 w));
             verdict = v;
             judged = J;
-            refused = λ g l. (λ x. (w, c ∙ ap Declined (fault-is _ _ (sym a ∙ x))), λ x. a ∙ ap Refused (declined-is _ _ (sym c ∙ x .1)));
-            full = λ p. (λ x. absurd (omega (arith, b .1, number-is _ _ (sym x ∙ a))), λ x. absurd (none (x .2 .m, x .2 .legal, x .2 .is)));
+            refused =
+                λ g l. (
+                  λ x. (w, c ∙ ap Declined (fault-is _ _ (sym a ∙ x))),
+                  λ x. a
+                      ∙ ap Refused (declined-is _ _ (sym c ∙ x .1)),
+                );
+            full =
+                λ p. (
+                  λ x. absurd (omega (arith, b .1, number-is _ _ (sym x ∙ a))),
+                  λ x. absurd
+                      (none (x .2 .m, x .2 .legal, x .2 .is)),
+                );
             done = (λ x. absurd (no-done _ (sym x ∙ a)), λ x. absurd (none (x .1)));
-            numbers = λ g x. inl (subst (λ (k : ℕ). T (verdictNumber (languageOf book) k)) (sym (number-is _ _ (sym x ∙ a))) t);
+            numbers =
+                λ g x. inl (subst (λ (k : ℕ). T (verdictNumber (languageOf book) k))
+                (sym (number-is _ _ (sym x ∙ a))) t);
             refusal-stays = λ g x. k;
             call-stays = λ m l x y. k;
             notice = λ m l x y z. absurd (no-done _ (sym z ∙ a));
@@ -183,13 +209,25 @@ module _ (book : Book) where
             let a : r .answer ≡ Refused (fault 21) = ap (λ (x : Outcome). x .answer) (g .is) in
             let k : r .desk ≡ d = ap (λ (x : Outcome). x .desk) (g .is) in
             let y = accepts in
-            let f : Fills (rulesOf book) (d .places) o = fills-of book o d (y .0) (y .1) (y .2) (sym (kind-here (y .0) (y .2)) ∙ g .notice) (g .full) in
+            let f : Fills (rulesOf book) (d .places) o =
+            fills-of book o d (y .0) (y .1) (y .2) (sym (kind-here (y .0) (y .2)) ∙ g .notice) (g .full) in
             record {
               seventeen = λ p. (λ x. absurd (omega (arith, number-is _ _ (sym x ∙ a))), λ x. absurd (x .1 w));
               verdict = v;
               judged = J;
-              refused = λ h l. (λ x. absurd (omega (arith, told-small (spoken-of book) _ l .1, number-is _ _ (sym x ∙ a))), λ x. absurd (not-declined h (x .1)));
-              full = λ p. (λ x. (place-is _ _ (sym x ∙ a), w, f), λ x. a ∙ ap (λ (i : ℕ). Refused (noted 21 i)) (sym (x .0)));
+              refused =
+                  λ h l. (
+                    λ x. absurd
+                        (omega (arith, told-small (spoken-of book) _ l .1, number-is _ _ (sym x ∙ a))),
+                    λ x. absurd
+                        (not-declined h (x .1)),
+                  );
+              full =
+                  λ p. (
+                    λ x. (place-is _ _ (sym x ∙ a), w, f),
+                    λ x. a
+                        ∙ ap (λ (i : ℕ). Refused (noted 21 i)) (sym (x .0)),
+                  );
               done = (λ x. absurd (no-done _ (sym x ∙ a)), λ x. absurd (x .2 f));
               numbers = λ h x. inr (inr (number-is _ _ (sym x ∙ a)));
               refusal-stays = λ h x. k;
@@ -200,8 +238,11 @@ module _ (book : Book) where
             }
 
         -- done: which desk, that no reference wanted a place, and what that desk is
-        done-settles : (r : Outcome) → r .answer ≡ Done → (Fills (rulesOf book) (d .places) o → ⊥) → (getD o 0 0 ≡ 0x80 → r .desk ≡ d) →
-            ((m : message.Message) → LegalMessage (rulesOf book) m → octets m ≡ o → m .kind ≡ 0x82 → Notices (rulesOf book) m d (r .desk)) → Fit (r .desk .places) → length (r .desk .places) ≡ length (d .places) → Settles (rulesOf book) d o r
+        done-settles : (r : Outcome) → r .answer ≡ Done → (Fills (rulesOf book) (d .places) o → ⊥) →
+            (getD o 0 0 ≡ 0x80 → r .desk ≡ d) →
+            ((m : message.Message) → LegalMessage (rulesOf book) m → octets m ≡ o → m .kind ≡ 0x82 →
+            Notices (rulesOf book) m d (r .desk)) → Fit (r .desk .places) →
+            length (r .desk .places) ≡ length (d .places) → Settles (rulesOf book) d o r
         done-settles r a f k g u z = record {
           seventeen = λ p. (λ x. absurd (no-done _ (sym a ∙ x)), λ x. absurd (x .1 w));
           verdict = v;
@@ -231,7 +272,8 @@ module _ (book : Book) where
             (λ m l x z. absurd (g .call (kind-here m x ∙ z)))
             (fit-left d o q w r (inr (inr g))) (many-left d o r (inr (inr g)))
 
-      fit-settles : (x : Verdict) → v ≡ x → (r : Outcome) → r ≡ settledUnder (rulesOf book) x o d → Settles (rulesOf book) d o r
+      fit-settles : (x : Verdict) → v ≡ x → (r : Outcome) → r ≡ settledUnder (rulesOf book) x o d →
+          Settles (rulesOf book) d o r
       unfolding settledUnder
       fit-settles (Accepted n) c r e = message-settles n c r (subst (Ways d o) (sym e) (ways d o))
       fit-settles (Declined f) c r e = declined-settles r f c e
@@ -239,9 +281,12 @@ module _ (book : Book) where
     pub settles : Settles (rulesOf book) d o (settleOf (rulesOf book) d o)
     settles = go (decide (placesFit (d .places)))
       where
-        go : T (placesFit (d .places)) ⊎ (T (placesFit (d .places)) → ⊥) → Settles (rulesOf book) d o (settleOf (rulesOf book) d o)
+        go : T (placesFit (d .places)) ⊎ (T (placesFit (d .places)) → ⊥) →
+            Settles (rulesOf book) d o (settleOf (rulesOf book) d o)
         go (inl t) = let w = fit-of (d .places) t in fit-settles w v refl (settleOf (rulesOf book) d o) (fit w)
-        go (inr n) = let m : Fit (d .places) → ⊥ = λ w. n (of-fit (d .places) w) in unfit-settles m (settleOf (rulesOf book) d o) (unfit m)
+        go (inr n) =
+            let m : Fit (d .places) → ⊥ = λ w. n (of-fit (d .places) w) in
+            unfit-settles m (settleOf (rulesOf book) d o) (unfit m)
 
   -- ---- settling twice running
   waiting-twice : (c : Option (List ℕ)) (w : Waiting) → waitingAfter c (waitingAfter c w) ≡ waitingAfter c w
@@ -255,7 +300,9 @@ module _ (book : Book) where
   lamp-twice (some v) l = refl
 
   module _ (o : List ℕ) (d : Desk) (w : Fit (d .places)) where
-    noticed-twice : (T (isFull (changeOf (countedIn (rulesOf book) o 0x0D)) (d .places)) → ⊥) → noticed (countedIn (rulesOf book) o) (noticed (countedIn (rulesOf book) o) d) ≡ noticed (countedIn (rulesOf book) o) d
+    noticed-twice : (T (isFull (changeOf (countedIn (rulesOf book) o 0x0D)) (d .places)) → ⊥) →
+        noticed (countedIn (rulesOf book) o) (noticed (countedIn (rulesOf book) o) d) ≡
+        noticed (countedIn (rulesOf book) o) d
     unfolding noticed
     noticed-twice n = λ i. record {
       waiting = waiting-twice (countedIn (rulesOf book) o 0x13) (d .waiting) i;
@@ -263,18 +310,26 @@ module _ (book : Book) where
       places = same-again (changeOf (countedIn (rulesOf book) o 0x0D)) (d .places) n w i;
     }
 
-    message-twice : (r : Outcome) → r ≡ settledMessage (rulesOf book) o d → Ways d o r → settledMessage (rulesOf book) o (r .desk) ≡ r
+    message-twice : (r : Outcome) → r ≡ settledMessage (rulesOf book) o d → Ways d o r →
+        settledMessage (rulesOf book) o (r .desk) ≡ r
     unfolding noticed
     message-twice r e (inl g) = ap (settledMessage (rulesOf book) o) (ap (λ (x : Outcome). x .desk) (g .is)) ∙ sym e
-    message-twice r e (inr (inl g)) = ap (settledMessage (rulesOf book) o) (ap (λ (x : Outcome). x .desk) (g .is)) ∙ again (settledMessage (rulesOf book) o (noticed (countedIn (rulesOf book) o) d)) refl (ways (noticed (countedIn (rulesOf book) o) d) o)
+    message-twice r e (inr (inl g)) =
+        ap (settledMessage (rulesOf book) o) (ap (λ (x : Outcome). x .desk) (g .is))
+        ∙ again (settledMessage (rulesOf book) o (noticed (countedIn (rulesOf book) o) d)) refl
+        (ways (noticed (countedIn (rulesOf book) o) d) o)
       where
-        again : (s : Outcome) → s ≡ settledMessage (rulesOf book) o (noticed (countedIn (rulesOf book) o) d) → Ways (noticed (countedIn (rulesOf book) o) d) o s → s ≡ r
-        again s x (inl h) = absurd (room-again (changeOf (countedIn (rulesOf book) o 0x0D)) (d .places) (g .room) (h .full))
+        again : (s : Outcome) → s ≡ settledMessage (rulesOf book) o (noticed (countedIn (rulesOf book) o) d) →
+            Ways (noticed (countedIn (rulesOf book) o) d) o s → s ≡ r
+        again s x (inl h) =
+            absurd (room-again (changeOf (countedIn (rulesOf book) o 0x0D)) (d .places) (g .room) (h .full))
         again s x (inr (inl h)) = h .is ∙ ap settle.done (noticed-twice (g .room)) ∙ sym (g .is)
         again s x (inr (inr h)) = absurd (h .call (g .notice))
-    message-twice r e (inr (inr g)) = ap (settledMessage (rulesOf book) o) (ap (λ (x : Outcome). x .desk) (g .is)) ∙ sym e
+    message-twice r e (inr (inr g)) =
+        ap (settledMessage (rulesOf book) o) (ap (λ (x : Outcome). x .desk) (g .is)) ∙ sym e
 
-    under-twice : (v : Verdict) → settledUnder (rulesOf book) v o (settledUnder (rulesOf book) v o d .desk) ≡ settledUnder (rulesOf book) v o d
+    under-twice : (v : Verdict) →
+        settledUnder (rulesOf book) v o (settledUnder (rulesOf book) v o d .desk) ≡ settledUnder (rulesOf book) v o d
     unfolding settledUnder
     under-twice (Accepted n) = message-twice (settledMessage (rulesOf book) o d) refl (ways d o)
     under-twice (Declined f) = refl
@@ -285,14 +340,18 @@ module _ (book : Book) where
     fits-under q (Declined f) = w
 
   -- whatever the octets, the second settling gives what the first gave, desk and answer
-  pub settled-twice : (d : Desk) (o : List ℕ) → Octets o → settleOf (rulesOf book) (settleOf (rulesOf book) d o .desk) o ≡ settleOf (rulesOf book) d o
+  pub settled-twice : (d : Desk) (o : List ℕ) → Octets o →
+      settleOf (rulesOf book) (settleOf (rulesOf book) d o .desk) o ≡ settleOf (rulesOf book) d o
   unfolding settleOf refusedWith
   settled-twice d o q = go (decide (placesFit (d .places)))
     where
-      go : T (placesFit (d .places)) ⊎ (T (placesFit (d .places)) → ⊥) → settleOf (rulesOf book) (settleOf (rulesOf book) d o .desk) o ≡ settleOf (rulesOf book) d o
+      go : T (placesFit (d .places)) ⊎ (T (placesFit (d .places)) → ⊥) →
+          settleOf (rulesOf book) (settleOf (rulesOf book) d o .desk) o ≡ settleOf (rulesOf book) d o
       go (inl t) =
           let w = fit-of (d .places) t in
-          let x : settleOf (rulesOf book) d o ≡ settledUnder (rulesOf book) (verdictOf (rulesOf book) o) o d = pick-yes _ _ _ t in
+          let x : settleOf (rulesOf book) d o ≡ settledUnder (rulesOf book) (verdictOf (rulesOf book) o) o d =
+          pick-yes _ _ _ t in
           ap (λ (y : Outcome). settleOf (rulesOf book) (y .desk) o) x
-          ∙ pick-yes _ _ _ (of-fit _ (fits-under o d w q (verdictOf (rulesOf book) o))) ∙ under-twice o d w (verdictOf (rulesOf book) o) ∙ sym x
+          ∙ pick-yes _ _ _ (of-fit _ (fits-under o d w q (verdictOf (rulesOf book) o)))
+          ∙ under-twice o d w (verdictOf (rulesOf book) o) ∙ sym x
       go (inr n) = ap (λ (y : Outcome). settleOf (rulesOf book) (y .desk) o) (pick-not (placesFit (d .places)) _ _ n)

@@ -1,4 +1,5 @@
--- Which references are open after a history of calls (document 02, Q-6): as the last notice says that was done and added or removed them.
+-- Which references are open after a history of calls (document 02, Q-6): as the last notice says that was done and
+-- added or removed them.
 -- Assumes nothing.
 use Prim.Native.Nat.{ℕ, _+_, _*_}
 use mathlib.Core.Path.{_≡_}

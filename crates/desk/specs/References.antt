@@ -1,4 +1,5 @@
--- Which messages are still open on a desk (document 02, Q-6): sixteen places, each 0, free, or one more than the reference that it holds.
+-- Which messages are still open on a desk (document 02, Q-6): sixteen places, each 0, free, or one more than the
+-- reference that it holds.
 -- Assumes nothing.
 use Prim.Native.Nat.{ℕ, suc, _+_, _*_}
 use mathlib.Core.Bool.{Bool, true, false}
@@ -40,7 +41,8 @@ placesFit (p ∷ ps) = mayStand p ps and placesFit ps
 
 -- what a notice does, by the three octets of 0DH: FFH adds the reference, 00H takes it out, 55H does nothing
 unfoldable pub changeBy : ℕ → ℕ → ℕ → Change
-changeBy state high low = pick (state =? 0xFF) (Adds (referenceOf high low)) (pick (state =? 0x00) (Removes (referenceOf high low)) Nothing)
+changeBy state high low =
+    pick (state =? 0xFF) (Adds (referenceOf high low)) (pick (state =? 0x00) (Removes (referenceOf high low)) Nothing)
 
 -- a reference is to be added, and all places hold others: 21
 unfoldable pub isFull : Change → List ℕ → Bool
@@ -48,7 +50,8 @@ isFull Nothing ps = false
 isFull (Adds r) ps = absent (held r) ps and absent free ps
 isFull (Removes r) ps = false
 
--- adding takes the lowest free place, unless the reference is there; the place of a reference that is taken out is free again
+-- adding takes the lowest free place, unless the reference is there; the place of a reference that is taken out is
+-- free again
 unfoldable pub placesAfter : Change → List ℕ → List ℕ
 placesAfter Nothing ps = ps
 placesAfter (Adds r) ps = pick (absent (held r) ps) (set ps (placeWith free ps) (held r)) ps

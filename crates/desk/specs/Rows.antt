@@ -1,4 +1,5 @@
--- Document 01's rows on a desk, computed: settled notices, a call message, and refusals; then document 02's Q-6: references added, removed and refused.
+-- Document 01's rows on a desk, computed: settled notices, a call message, and refusals; then document 02's Q-6:
+-- references added, removed and refused.
 -- Assumes nothing.
 use Prim.Native.Nat.{ℕ}
 use mathlib.Core.Path.{_≡_, refl}
@@ -47,29 +48,54 @@ refused k p d = record { desk = d; answer = Refused (noted k p) }
 
 -- the references 101H to 110H
 abbrev sixteen : List ℕ
-sixteen = held 0x101 ∷ held 0x102 ∷ held 0x103 ∷ held 0x104 ∷ held 0x105 ∷ held 0x106 ∷ held 0x107 ∷ held 0x108 ∷ held 0x109 ∷ held 0x10A ∷ held 0x10B ∷ held 0x10C ∷ held 0x10D ∷ held 0x10E ∷ held 0x10F ∷ held 0x110 ∷ []
+sixteen =
+    held 0x101 ∷ held 0x102 ∷ held 0x103 ∷ held 0x104 ∷ held 0x105 ∷ held 0x106 ∷ held 0x107 ∷ held 0x108 ∷ held
+    0x109 ∷ held 0x10A ∷ held 0x10B ∷ held 0x10C ∷ held 0x10D ∷ held 0x10E ∷ held 0x10F ∷ held 0x110 ∷ []
 
 pub record Claim : Type 0 where
-  pub lamp-on : settleOf (rulesOf PresentLenient) newDesk (0x82 ∷ 0x03 ∷ 0x0B ∷ 0x01 ∷ 0xFF ∷ 0x70 ∷ []) ≡ done waiting.Unknown lamp.On
-  pub lamp-off : settleOf (rulesOf PresentLenient) (desk (waiting.Number 7) lamp.On) (0x82 ∷ 0x03 ∷ 0x0B ∷ 0x01 ∷ 0x00 ∷ 0x6F ∷ []) ≡ done (waiting.Number 7) lamp.Off
-  pub waiting-two : settleOf (rulesOf PresentLenient) (desk (waiting.Number 7) lamp.On) (0x82 ∷ 0x03 ∷ 0x13 ∷ 0x01 ∷ 0x02 ∷ 0x65 ∷ []) ≡ done (waiting.Number 2) lamp.On
-  pub first-counts : settleOf (rulesOf PresentLenient) newDesk (0x82 ∷ 0x06 ∷ 0x13 ∷ 0x01 ∷ 0x02 ∷ 0x13 ∷ 0x01 ∷ 0x05 ∷ 0x49 ∷ []) ≡ done (waiting.Number 2) lamp.Unknown
-  pub call : settleOf (rulesOf PresentLenient) newDesk (0x80 ∷ 0x03 ∷ 0x13 ∷ 0x01 ∷ 0x02 ∷ 0x67 ∷ []) ≡ done waiting.Unknown lamp.Unknown
+  pub lamp-on : settleOf (rulesOf PresentLenient) newDesk (0x82 ∷ 0x03 ∷ 0x0B ∷ 0x01 ∷ 0xFF ∷ 0x70 ∷ []) ≡
+      done waiting.Unknown lamp.On
+  pub lamp-off : settleOf (rulesOf PresentLenient) (desk (waiting.Number 7) lamp.On)
+      (0x82 ∷ 0x03 ∷ 0x0B ∷ 0x01 ∷ 0x00 ∷ 0x6F ∷ []) ≡ done (waiting.Number 7) lamp.Off
+  pub waiting-two : settleOf (rulesOf PresentLenient) (desk (waiting.Number 7) lamp.On)
+      (0x82 ∷ 0x03 ∷ 0x13 ∷ 0x01 ∷ 0x02 ∷ 0x65 ∷ []) ≡ done (waiting.Number 2) lamp.On
+  pub first-counts : settleOf (rulesOf PresentLenient) newDesk
+      (0x82 ∷ 0x06 ∷ 0x13 ∷ 0x01 ∷ 0x02 ∷ 0x13 ∷ 0x01 ∷ 0x05 ∷ 0x49 ∷ []) ≡ done (waiting.Number 2) lamp.Unknown
+  pub call : settleOf (rulesOf PresentLenient) newDesk (0x80 ∷ 0x03 ∷ 0x13 ∷ 0x01 ∷ 0x02 ∷ 0x67 ∷ []) ≡
+      done waiting.Unknown lamp.Unknown
   pub nothing : settleOf (rulesOf PresentLenient) newDesk [] ≡ refused 8 0 newDesk
   pub wrong-kind : settleOf (rulesOf PresentLenient) newDesk (0x81 ∷ []) ≡ refused 1 0 newDesk
-  pub wrong-sum : settleOf (rulesOf PresentLenient) newDesk (0x82 ∷ 0x03 ∷ 0x0B ∷ 0x01 ∷ 0xFF ∷ 0x71 ∷ []) ≡ refused 6 5 newDesk
-  pub followed : settleOf (rulesOf PresentLenient) newDesk (0x82 ∷ 0x03 ∷ 0x0B ∷ 0x01 ∷ 0xFF ∷ 0x70 ∷ 0x00 ∷ []) ≡ refused 7 6 newDesk
-  pub reference-added : settleOf (rulesOf PresentLenient) newDesk (0x82 ∷ 0x05 ∷ 0x0D ∷ 0x03 ∷ 0xFF ∷ 0x01 ∷ 0x02 ∷ 0x67 ∷ []) ≡ settled (holding (held 0x102 ∷ replicate 15 free))
-  pub reference-there : settleOf (rulesOf PresentLenient) (holding (held 0x102 ∷ replicate 15 free)) (0x82 ∷ 0x05 ∷ 0x0D ∷ 0x03 ∷ 0xFF ∷ 0x01 ∷ 0x02 ∷ 0x67 ∷ []) ≡ settled (holding (held 0x102 ∷ replicate 15 free))
-  pub lowest-free : settleOf (rulesOf PresentLenient) (holding (held 0x102 ∷ free ∷ held 0x103 ∷ replicate 13 free)) (0x82 ∷ 0x05 ∷ 0x0D ∷ 0x03 ∷ 0xFF ∷ 0x00 ∷ 0x00 ∷ 0x6A ∷ []) ≡ settled (holding (held 0x102 ∷ held 0 ∷ held 0x103 ∷ replicate 13 free))
-  pub reference-removed : settleOf (rulesOf PresentLenient) (holding (held 0x102 ∷ held 0 ∷ held 0x103 ∷ replicate 13 free)) (0x82 ∷ 0x05 ∷ 0x0D ∷ 0x03 ∷ 0x00 ∷ 0x00 ∷ 0x00 ∷ 0x69 ∷ []) ≡ settled (holding (held 0x102 ∷ free ∷ held 0x103 ∷ replicate 13 free))
-  pub removed-elsewhere : settleOf (rulesOf PresentLenient) (holding (held 0x102 ∷ replicate 15 free)) (0x82 ∷ 0x05 ∷ 0x0D ∷ 0x03 ∷ 0x00 ∷ 0x01 ∷ 0x03 ∷ 0x65 ∷ []) ≡ settled (holding (held 0x102 ∷ replicate 15 free))
-  pub reference-unset : settleOf (rulesOf PresentLenient) (holding sixteen) (0x82 ∷ 0x05 ∷ 0x0D ∷ 0x03 ∷ 0x55 ∷ 0x02 ∷ 0x00 ∷ 0x12 ∷ []) ≡ settled (holding sixteen)
-  pub no-place : settleOf (rulesOf PresentLenient) (holding sixteen) (0x82 ∷ 0x08 ∷ 0x0B ∷ 0x01 ∷ 0xFF ∷ 0x0D ∷ 0x03 ∷ 0xFF ∷ 0x02 ∷ 0x00 ∷ 0x5A ∷ []) ≡ refused 21 0 (holding sixteen)
-  pub full-and-there : settleOf (rulesOf PresentLenient) (holding sixteen) (0x82 ∷ 0x08 ∷ 0x0B ∷ 0x01 ∷ 0xFF ∷ 0x0D ∷ 0x03 ∷ 0xFF ∷ 0x01 ∷ 0x10 ∷ 0x4B ∷ []) ≡ settled (with-places waiting.Unknown lamp.On sixteen)
-  pub held-twice : settleOf (rulesOf PresentLenient) (holding (held 7 ∷ free ∷ held 7 ∷ replicate 13 free)) [] ≡ refused 17 0 (holding (held 7 ∷ free ∷ held 7 ∷ replicate 13 free))
-  pub out-of-range : settleOf (rulesOf PresentLenient) (holding (65537 ∷ replicate 15 free)) [] ≡ refused 17 0 (holding (65537 ∷ replicate 15 free))
-  pub last-reference : settleOf (rulesOf PresentLenient) (holding (65536 ∷ replicate 15 free)) (0x82 ∷ 0x05 ∷ 0x0D ∷ 0x03 ∷ 0x00 ∷ 0xFF ∷ 0xFF ∷ 0x6B ∷ []) ≡ settled newDesk
+  pub wrong-sum : settleOf (rulesOf PresentLenient) newDesk (0x82 ∷ 0x03 ∷ 0x0B ∷ 0x01 ∷ 0xFF ∷ 0x71 ∷ []) ≡
+      refused 6 5 newDesk
+  pub followed : settleOf (rulesOf PresentLenient) newDesk (0x82 ∷ 0x03 ∷ 0x0B ∷ 0x01 ∷ 0xFF ∷ 0x70 ∷ 0x00 ∷ []) ≡
+      refused 7 6 newDesk
+  pub reference-added : settleOf (rulesOf PresentLenient) newDesk
+      (0x82 ∷ 0x05 ∷ 0x0D ∷ 0x03 ∷ 0xFF ∷ 0x01 ∷ 0x02 ∷ 0x67 ∷ []) ≡ settled (holding (held 0x102 ∷ replicate 15 free))
+  pub reference-there : settleOf (rulesOf PresentLenient) (holding (held 0x102 ∷ replicate 15 free))
+      (0x82 ∷ 0x05 ∷ 0x0D ∷ 0x03 ∷ 0xFF ∷ 0x01 ∷ 0x02 ∷ 0x67 ∷ []) ≡ settled (holding (held 0x102 ∷ replicate 15 free))
+  pub lowest-free : settleOf (rulesOf PresentLenient)
+      (holding (held 0x102 ∷ free ∷ held 0x103 ∷ replicate 13 free))
+      (0x82 ∷ 0x05 ∷ 0x0D ∷ 0x03 ∷ 0xFF ∷ 0x00 ∷ 0x00 ∷ 0x6A ∷ []) ≡
+      settled (holding (held 0x102 ∷ held 0 ∷ held 0x103 ∷ replicate 13 free))
+  pub reference-removed : settleOf (rulesOf PresentLenient)
+      (holding (held 0x102 ∷ held 0 ∷ held 0x103 ∷ replicate 13 free))
+      (0x82 ∷ 0x05 ∷ 0x0D ∷ 0x03 ∷ 0x00 ∷ 0x00 ∷ 0x00 ∷ 0x69 ∷ []) ≡
+      settled (holding (held 0x102 ∷ free ∷ held 0x103 ∷ replicate 13 free))
+  pub removed-elsewhere : settleOf (rulesOf PresentLenient) (holding (held 0x102 ∷ replicate 15 free))
+      (0x82 ∷ 0x05 ∷ 0x0D ∷ 0x03 ∷ 0x00 ∷ 0x01 ∷ 0x03 ∷ 0x65 ∷ []) ≡ settled (holding (held 0x102 ∷ replicate 15 free))
+  pub reference-unset : settleOf (rulesOf PresentLenient) (holding sixteen)
+      (0x82 ∷ 0x05 ∷ 0x0D ∷ 0x03 ∷ 0x55 ∷ 0x02 ∷ 0x00 ∷ 0x12 ∷ []) ≡ settled (holding sixteen)
+  pub no-place : settleOf (rulesOf PresentLenient) (holding sixteen)
+      (0x82 ∷ 0x08 ∷ 0x0B ∷ 0x01 ∷ 0xFF ∷ 0x0D ∷ 0x03 ∷ 0xFF ∷ 0x02 ∷ 0x00 ∷ 0x5A ∷ []) ≡ refused 21 0 (holding sixteen)
+  pub full-and-there : settleOf (rulesOf PresentLenient) (holding sixteen)
+      (0x82 ∷ 0x08 ∷ 0x0B ∷ 0x01 ∷ 0xFF ∷ 0x0D ∷ 0x03 ∷ 0xFF ∷ 0x01 ∷ 0x10 ∷ 0x4B ∷ []) ≡
+      settled (with-places waiting.Unknown lamp.On sixteen)
+  pub held-twice : settleOf (rulesOf PresentLenient) (holding (held 7 ∷ free ∷ held 7 ∷ replicate 13 free)) [] ≡
+      refused 17 0 (holding (held 7 ∷ free ∷ held 7 ∷ replicate 13 free))
+  pub out-of-range : settleOf (rulesOf PresentLenient) (holding (65537 ∷ replicate 15 free)) [] ≡
+      refused 17 0 (holding (65537 ∷ replicate 15 free))
+  pub last-reference : settleOf (rulesOf PresentLenient) (holding (65536 ∷ replicate 15 free))
+      (0x82 ∷ 0x05 ∷ 0x0D ∷ 0x03 ∷ 0x00 ∷ 0xFF ∷ 0xFF ∷ 0x6B ∷ []) ≡ settled newDesk
 
 pub rows : Claim
 unfolding _≤?_ _=?_ _and_ _or_ pick checksum within inSet whole digit rowIn rowOf listedIn listed classOf rivalOf typeFault rulesOf classFault someLength messageKind opens tensFit onesFit pairAt columnAt judgeOf step run roomFits rangePossible somePossible possible final fits contents after fault machine judged verdictOf parameterAt matched searchFrom countedAt partOf waitingAfter lampAfter changeIn changeOf noticed countedIn settledNotice settledMessage settledUnder refusedWith settleOf placeWith absent mayStand placesFit changeBy isFull placesAfter

@@ -82,7 +82,8 @@ unfoldable pub settledUnder : Rules → Verdict → List ℕ → Desk → Outcom
 settledUnder R (Accepted n) o d = settledMessage R o d
 settledUnder R (Declined f) o d = refused f d
 
--- the outcome of settling octets on a desk: 17 for one with a place out of range or a reference twice, else by the whole read's verdict on the octets
+-- the outcome of settling octets on a desk: 17 for one with a place out of range or a reference twice, else by the
+-- whole read's verdict on the octets
 unfoldable pub settleOf : Rules → Desk → List ℕ → Outcome
 settleOf R d o = pick (placesFit (d .places)) (settledUnder R (verdictOf R o) o d) (refusedWith 17 d)
 

@@ -1,5 +1,5 @@
--- What settling means over the written rules (document 01, The desk; document 02, Q-6): which answer, and what a notice, a call message and a refusal do to
--- the desk.
+-- What settling means over the written rules (document 01, The desk; document 02, Q-6): which answer, and what a
+-- notice, a call message and a refusal do to the desk.
 -- Assumes nothing.
 use Prim.Native.Nat.{ℕ, _+_, _*_}
 use mathlib.Core.Path.{_≡_}
@@ -35,9 +35,11 @@ pub record Notices (R : Rules) (m : message.Message) (d e : Desk) : Type 0 where
   pub lamp-off : counted R m 0x0B ≡ some (0x00 ∷ []) → e .lamp ≡ Off
   pub lamp-on : counted R m 0x0B ≡ some (0xFF ∷ []) → e .lamp ≡ On
   pub lamp-stays : counted R m 0x0B ≡ none → e .lamp ≡ d .lamp
-  -- where 0DH counts, FFH adds its reference and 00H takes it out; 55H does nothing, and the places stay where it does not count
+  -- where 0DH counts, FFH adds its reference and 00H takes it out; 55H does nothing, and the places stay where it
+  -- does not count
   pub adds : (h l : ℕ) → counted R m 0x0D ≡ some (0xFF ∷ h ∷ l ∷ []) → Added (referenceOf h l) (d .places) (e .places)
-  pub removes : (h l : ℕ) → counted R m 0x0D ≡ some (0x00 ∷ h ∷ l ∷ []) → Removed (referenceOf h l) (d .places) (e .places)
+  pub removes : (h l : ℕ) → counted R m 0x0D ≡ some (0x00 ∷ h ∷ l ∷ []) →
+      Removed (referenceOf h l) (d .places) (e .places)
   pub unset : (h l : ℕ) → counted R m 0x0D ≡ some (0x55 ∷ h ∷ l ∷ []) → e .places ≡ d .places
   pub places-stay : counted R m 0x0D ≡ none → e .places ≡ d .places
 
@@ -59,18 +61,21 @@ pub record Settles (R : Rules) (d : Desk) (o : List ℕ) (r : Outcome) : Type 0 
   -- else 1 to 8 and 10 exactly as the whole read declines the octets, with its number and place
   pub verdict : Verdict
   pub judged : Judges (calls R) o verdict
-  pub refused : (f : Fault) → T (verdictNumber (calls R) (f .number)) → (r .answer ≡ Refused f) ↔ (Fit (d .places) × (verdict ≡ Declined f))
+  pub refused : (f : Fault) → T (verdictNumber (calls R) (f .number)) →
+      (r .answer ≡ Refused f) ↔ (Fit (d .places) × (verdict ≡ Declined f))
   -- else 21 exactly where a reference to be added has no place
   pub full : (p : ℕ) → (r .answer ≡ Refused (noted 21 p)) ↔ ((p ≡ 0) × Fit (d .places) × Fills R (d .places) o)
   -- else done
   pub done : (r .answer ≡ Done) ↔ (Fit (d .places) × Accepts R o × (Fills R (d .places) o → ⊥))
   -- no other number
-  pub numbers : (f : Fault) → r .answer ≡ Refused f → T (verdictNumber (calls R) (f .number)) ⊎ ((f .number ≡ 17) ⊎ (f .number ≡ 21))
+  pub numbers : (f : Fault) → r .answer ≡ Refused f →
+      T (verdictNumber (calls R) (f .number)) ⊎ ((f .number ≡ 17) ⊎ (f .number ≡ 21))
   -- a refusal and a call message leave the desk as it was
   pub refusal-stays : (f : Fault) → r .answer ≡ Refused f → r .desk ≡ d
   pub call-stays : (m : message.Message) → LegalMessage R m → octets m ≡ o → m .kind ≡ 0x80 → r .desk ≡ d
   -- a notice that is done settles what counts
-  pub notice : (m : message.Message) → LegalMessage R m → octets m ≡ o → m .kind ≡ 0x82 → r .answer ≡ Done → Notices R m d (r .desk)
+  pub notice : (m : message.Message) → LegalMessage R m → octets m ≡ o → m .kind ≡ 0x82 → r .answer ≡ Done →
+      Notices R m d (r .desk)
   -- a desk that fits is left as one that fits, with as many places
   pub fits : Fit (d .places) → Fit (r .desk .places)
   pub as-many : length (r .desk .places) ≡ length (d .places)

@@ -108,7 +108,9 @@ module _ (s : List ℕ) (v : Value) (t : List ℕ) (w : Value) where
       ∙ (λ z. record { form = f z; first = i z; second = j z; third = k z; fourth = l z; octets = o z })
       ∙ sym (shown-flat t w) in
       record {
-        says = sym (raised-shown (meaningOf s v)) ∙ ap (λ (x : FlatMeaning). raised (x .form) x) e ∙ raised-shown (meaningOf t w);
+        says =
+            sym (raised-shown (meaningOf s v)) ∙ ap (λ (x : FlatMeaning). raised (x .form) x) e
+            ∙ raised-shown (meaningOf t w);
         left = rw (inside-flat s v) (x .0);
         right = rw (inside-flat t w) (y .0);
       }
@@ -116,14 +118,18 @@ module _ (s : List ℕ) (v : Value) (t : List ℕ) (w : Value) where
   alike-value : Alike s v t w → T (sameFlat s (flatOf v) t (flatOf w))
   unfolding sameFlat sameNumbers sameText shownIn
   alike-value q =
-      let e : shownIn s (flatOf v) ≡ shownIn t (flatOf w) = sym (shown-flat s v) ∙ ap shown (q .says) ∙ shown-flat t w in
+      let e : shownIn s (flatOf v) ≡ shownIn t (flatOf w) =
+      sym (shown-flat s v) ∙ ap shown (q .says) ∙ shown-flat t w in
       join _ _ (of-eq _ _ (ap (λ (x : FlatMeaning). x .form) e))
       (join _ _
       (join _ _ (of-eq _ _ (ap (λ (x : FlatMeaning). x .first) e))
-      (join _ _ (of-eq _ _ (ap (λ (x : FlatMeaning). x .second) e)) (join _ _ (of-eq _ _ (ap (λ (x : FlatMeaning). x .third) e)) (of-eq _ _ (ap (λ (x : FlatMeaning). x .fourth) e)))))
+      (join _ _ (of-eq _ _ (ap (λ (x : FlatMeaning). x .second) e))
+      (join _ _ (of-eq _ _ (ap (λ (x : FlatMeaning). x .third) e))
+      (of-eq _ _ (ap (λ (x : FlatMeaning). x .fourth) e)))))
       (join _ _ (rw (inside-flat s v) at (q .left))
       (join _ _ (rw (inside-flat t w) at (q .right))
-      (subst (λ (o : List ℕ). T (sameOctets (take (flatOf v .length) (drop (flatOf v .start) s)) o)) (ap (λ (x : FlatMeaning). x .octets) e) (octets-self _)))))
+      (subst (λ (o : List ℕ). T (sameOctets (take (flatOf v .length) (drop (flatOf v .start) s)) o))
+      (ap (λ (x : FlatMeaning). x .octets) e) (octets-self _)))))
 
 -- ---- entries
 -- all texts lie inside, and the entries say the same

@@ -126,7 +126,8 @@ two n h =
     ap₂ (λ (x y : ℕ). 10 * x + y) (low-half (48 + n / 10) (omega arith) h)
     (low-half (48 + n % 10) (omega arith) (omega arith)) ∙ omega arith
 
-date-said : (a b c d : Range) (m y h n : ℕ) → T (pairsFit (a ∷ b ∷ c ∷ d ∷ []) (spelled (dateIs m y h n))) → meant DateValue (spelled (dateIs m y h n)) ≡ dateIs m y h n
+date-said : (a b c d : Range) (m y h n : ℕ) → T (pairsFit (a ∷ b ∷ c ∷ d ∷ []) (spelled (dateIs m y h n))) →
+    meant DateValue (spelled (dateIs m y h n)) ≡ dateIs m y h n
 unfolding meant spelled digitsAt
 date-said a b c d m y h n f =
     let p = peel _ _ _ f in

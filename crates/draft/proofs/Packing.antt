@@ -50,12 +50,14 @@ allMeant R [] = []
 allMeant R (p ∷ ps) = (record { kind = p .kind; meaning = meaningIn R p }) ∷ allMeant R ps
 
 module _ (R : Rules) where
-  -- the entries of some parameters, in an area that holds their texts from a place on: they say what the parameters say, and lie inside
+  -- the entries of some parameters, in an area that holds their texts from a place on: they say what the parameters
+  -- say, and lie inside
   pub record EntriesSay (texts : List ℕ) (at : ℕ) (ps : List Parameter) : Type 0 where
     pub says : allSaid texts (entriesOf R at ps) ≡ allMeant R ps
     pub lies : T (allInside texts (entriesOf R at ps))
 
-  pub pack : (texts : List ℕ) (at : ℕ) (rest : List ℕ) (ps : List Parameter) → at ≤ length texts → drop at texts ≡ textsOf R ps ++ rest → EntriesSay texts at ps
+  pub pack : (texts : List ℕ) (at : ℕ) (rest : List ℕ) (ps : List Parameter) → at ≤ length texts →
+      drop at texts ≡ textsOf R ps ++ rest → EntriesSay texts at ps
   unfolding allSaid allInside every entriesOf entryOf textsOf textOf allMeant saidOf
   pack texts at rest [] l e = record { says = refl; lies = tt }
   pack texts at rest (p ∷ ps) l e =

@@ -15,12 +15,16 @@ use Rattle.draft.proofs.same.Reads as same
 
 -- of the draft d with the text area s and the draft e with t, `same` answers x
 abbrev pub same-gives : Draft → List ℕ → Draft → List ℕ → Bool → Type 0
-same-gives d s e t x = (κs : _) × (a : _) × (z : _) × same.Post κs a x z × (a .0 ≡ d) × (a .1 .0 .now ≡ s) × (a .1 .1 .0 ≡ e) × (a .1 .1 .1 .0 .now ≡ t)
+same-gives d s e t x =
+    (κs : _) × (a : _) × (z : _) × same.Post κs a x z × (a .0 ≡ d) × (a .1 .0 .now ≡ s) × (a .1 .1 .0 ≡ e)
+    × (a .1 .1 .1 .0 .now ≡ t)
 
 module _ (d : Draft) (s : List ℕ) (e : Draft) (t : List ℕ) (x : Bool) (h : same-gives d s e t x) where
   -- it answers true exactly where they are equal
   pub same-tells : T x ↔ Equal d s e t
-  same-tells = subst (λ (y : Bool). T y ↔ Equal d s e t) (sym (h .3 ∙ (λ i. sameDraft (h .4 i) (h .5 i) (h .6 i) (h .7 i)))) (same-equal d s e t)
+  same-tells =
+      subst (λ (y : Bool). T y ↔ Equal d s e t) (sym (h .3 ∙ (λ i. sameDraft (h .4 i) (h .5 i) (h .6 i) (h .7 i))))
+      (same-equal d s e t)
 
   -- and then they stand for the same message
   pub same-stands : T x → messageOf d s ≡ messageOf e t

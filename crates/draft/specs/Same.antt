@@ -24,9 +24,12 @@ flatText form start n = record { form = form; first = 0; second = 0; third = 0; 
 
 -- the number of its kind (`formNumber`), its numbers, the place and the length of its text; 0 where it has none
 unfoldable pub flatOf : Value → Flat
-flatOf (Date m d h n) = record { form = formNumber DateValue; first = m; second = d; third = h; fourth = n; start = 0; length = 0 }
-flatOf (Code x) = record { form = formNumber CodeValue; first = x; second = 0; third = 0; fourth = 0; start = 0; length = 0 }
-flatOf (State s r) = record { form = formNumber StateValue; first = s; second = r; third = 0; fourth = 0; start = 0; length = 0 }
+flatOf (Date m d h n) =
+    record { form = formNumber DateValue; first = m; second = d; third = h; fourth = n; start = 0; length = 0 }
+flatOf (Code x) =
+    record { form = formNumber CodeValue; first = x; second = 0; third = 0; fourth = 0; start = 0; length = 0 }
+flatOf (State s r) =
+    record { form = formNumber StateValue; first = s; second = r; third = 0; fourth = 0; start = 0; length = 0 }
 flatOf (Text s n) = flatText 3 s n
 flatOf (Carried s n) = flatText 4 s n
 

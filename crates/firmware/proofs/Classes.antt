@@ -1,4 +1,5 @@
--- The classes that a record of the present edition holds have codes up to `lastPresent`, and a run keeps them so; and types without a row are never 10 there.
+-- The classes that a record of the present edition holds have codes up to `lastPresent`, and a run keeps them so; and
+-- types without a row are never 10 there.
 -- Assumes nothing.
 use Prim.Native.Nat.{ℕ, _≤_}
 use mathlib.Core.Path.{_≡_, subst}
@@ -33,7 +34,8 @@ Coded (Waiting s q) = CodedAt s
 Coded (Message n) = Unit {0}
 Coded (Refused f) = Unit {0}
 
-row-code : (d : Row) (rs : List Row) (t : ℕ) → classCode (d .class) ≤ lastPresent → T (every (λ (r : Row). classCode (r .class) ≤? lastPresent) rs) → classCode (rowIn d rs t .class) ≤ lastPresent
+row-code : (d : Row) (rs : List Row) (t : ℕ) → classCode (d .class) ≤ lastPresent →
+    T (every (λ (r : Row). classCode (r .class) ≤? lastPresent) rs) → classCode (rowIn d rs t .class) ≤ lastPresent
 unfolding rowIn
 row-code d [] t k h = k
 row-code d (r ∷ rs) t k h =
@@ -56,7 +58,8 @@ after-coded (Content c n i m r) x h = pick-case CodedAt _ _ _ (λ _. tt) (λ _. 
 step-coded : (w : State) (x : ℕ) → Coded w → Coded (step (machine (rulesOf PresentLenient)) w x)
 unfolding step machine
 step-coded (Waiting s q) x h =
-    pick-case Coded _ _ _ (λ _. pick-case Coded _ _ _ (λ _. tt) (λ _. tt)) (λ _. pick-case Coded _ _ _ (λ _. after-coded s x h) (λ _. tt))
+    pick-case Coded _ _ _ (λ _. pick-case Coded _ _ _ (λ _. tt) (λ _. tt))
+    (λ _. pick-case Coded _ _ _ (λ _. after-coded s x h) (λ _. tt))
 step-coded (Message n) x h = tt
 step-coded (Refused f) x h = tt
 
@@ -65,7 +68,8 @@ unfolding run
 lenient-run w [] h = h
 lenient-run w (x ∷ o) h = lenient-run (step (machine (rulesOf PresentLenient)) w x) o (step-coded w x h)
 
-pub run-coded : (b : Book) → PresentLenient ≡ b → (w : State) (o : List ℕ) → Coded w → Coded (run (machine (rulesOf b)) w o)
+pub run-coded : (b : Book) → PresentLenient ≡ b → (w : State) (o : List ℕ) → Coded w →
+    Coded (run (machine (rulesOf b)) w o)
 run-coded b e w o h = subst (λ (x : Book). Coded (run (machine (rulesOf x)) w o)) e (lenient-run w o h)
 
 -- ---- numbers

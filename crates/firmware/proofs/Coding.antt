@@ -1,4 +1,5 @@
--- A record and what it stands for are each other's inverse: decode (encode l) is l, and encode (decode r) is r where r decodes.
+-- A record and what it stands for are each other's inverse: decode (encode l) is l, and encode (decode r) is r where
+-- r decodes.
 -- Assumes nothing.
 use mathlib.Core.Path.{_≡_, refl, sym, _∙_, ap, subst}
 use mathlib.Core.Bool.{Bool}
@@ -38,9 +39,15 @@ state-fields (Waiting Kind q) h = refl
 state-fields (Waiting Size q) h = refl
 state-fields (Waiting (Header r) q) h = refl
 state-fields (Waiting (Length c r) q) h =
-    pick-yes (classCode c ≤? lastPresent) (Known (record { book = PresentLenient; state = Waiting (Length (classCoded (classCode c)) r) q })) Unknown (of-le _ _ h) ∙ ap (λ (d : Class). Known (record { book = PresentLenient; state = Waiting (Length d r) q })) (coded-code c)
+    pick-yes (classCode c ≤? lastPresent)
+    (Known (record { book = PresentLenient; state = Waiting (Length (classCoded (classCode c)) r) q })) Unknown
+    (of-le _ _ h) ∙ ap (λ (d : Class). Known (record { book = PresentLenient; state = Waiting (Length d r) q }))
+    (coded-code c)
 state-fields (Waiting (Content c n i m r) q) h =
-    pick-yes (classCode c ≤? lastPresent) (Known (record { book = PresentLenient; state = Waiting (Content (classCoded (classCode c)) n i m r) q })) Unknown (of-le _ _ h) ∙ ap (λ (d : Class). Known (record { book = PresentLenient; state = Waiting (Content d n i m r) q })) (coded-code c)
+    pick-yes (classCode c ≤? lastPresent)
+    (Known (record { book = PresentLenient; state = Waiting (Content (classCoded (classCode c)) n i m r) q }))
+    Unknown (of-le _ _ h)
+    ∙ ap (λ (d : Class). Known (record { book = PresentLenient; state = Waiting (Content d n i m r) q })) (coded-code c)
 state-fields (Message n) h = refl
 state-fields (Refused f) h = refl
 
@@ -48,7 +55,18 @@ fields-laid : (f : Fields) → f .spare ≡ 0 → fieldsOf (laidFields f) ≡ f
 unfolding fieldsOf laidFields
 fields-laid f e =
     let p : f .place % 256 + 256 * (f .place / 256) ≡ f .place = omega arith in
-    λ i. record { stage = f .stage; sum = f .sum; place = p i; class = f .class; length = f .length; index = f .index; memory = f .memory; room = f .room; number = f .number; spare = sym e i }
+    λ i. record {
+      stage = f .stage;
+      sum = f .sum;
+      place = p i;
+      class = f .class;
+      length = f .length;
+      index = f .index;
+      memory = f .memory;
+      room = f .room;
+      number = f .number;
+      spare = sym e i;
+    }
 
 no-spare : (s : State) → fieldsFor s .spare ≡ 0
 unfolding fieldsFor fieldsAt fieldsWaiting fieldsEnded
@@ -87,16 +105,19 @@ state-good : (f : Fields) (l : Listener) → stateOf f ≡ Known l → Good l
 unfolding stateOf openingOf parameterState endedOf
 state-good f l e =
     picked-by (Good l) _ _ _ _ e
-    (λ _ e. picked-by (Good l) _ _ _ _ e (λ _ e. known-good _ _ l tt e) (λ _ e. picked-by (Good l) _ _ _ _ e (λ _ e. known-good _ _ l tt e) (λ _ e. known-good _ _ l tt e)))
+    (λ _ e. picked-by (Good l) _ _ _ _ e (λ _ e. known-good _ _ l tt e)
+    (λ _ e. picked-by (Good l) _ _ _ _ e (λ _ e. known-good _ _ l tt e) (λ _ e. known-good _ _ l tt e)))
     (λ _ e.
     picked-by (Good l) _ _ _ _ e
     (λ _ e.
     picked-by (Good l) _ _ _ _ e
     (λ t e.
-    let h : classCode (classCoded (f .class)) ≤ lastPresent = let k = le-of _ _ t in omega (arith, code-coded (f .class) (omega arith)) in
+    let h : classCode (classCoded (f .class)) ≤ lastPresent = let k =
+    le-of _ _ t in omega (arith, code-coded (f .class) (omega arith)) in
     picked-by (Good l) _ _ _ _ e (λ _ e. known-good _ _ l h e) (λ _ e. known-good _ _ l h e))
     (λ _ e. absurd (unknown-not l e)))
-    (λ _ e. picked-by (Good l) _ _ _ _ e (λ _ e. known-good _ _ l tt e) (λ _ e. picked-by (Good l) _ _ _ _ e (λ _ e. known-good _ _ l tt e) (λ _ e. absurd (unknown-not l e)))))
+    (λ _ e. picked-by (Good l) _ _ _ _ e (λ _ e. known-good _ _ l tt e)
+    (λ _ e. picked-by (Good l) _ _ _ _ e (λ _ e. known-good _ _ l tt e) (λ _ e. absurd (unknown-not l e)))))
 
 pub decoded-good : (c : List ℕ) (l : Listener) → decodeOf c ≡ Known l → Good l
 unfolding decodeOf
@@ -107,7 +128,8 @@ known-is : (n : ℕ) (s : State) (l : Listener) → known (n =? 0) s ≡ Known l
 unfolding known
 known-is n s l e =
     picked-by _ _ _ _ _ e
-    (λ t d. let k : _≡_ {A = Listener} (record { book = PresentLenient; state = s }) l = cc in (eq-of _ _ t, sym (ap (λ (x : Listener). x .state) k)))
+    (λ t d. let k : _≡_ {A = Listener} (record { book = PresentLenient; state = s }) l = cc in
+    (eq-of _ _ t, sym (ap (λ (x : Listener). x .state) k)))
     (λ _ d. absurd (unknown-not l d))
 
 third : (n : ℕ) → n ≤ 2 → (n ≡ 0 → ⊥) → (n ≡ 1 → ⊥) → n ≡ 2
@@ -116,49 +138,79 @@ third n h a b = omega arith
 fifth : (n : ℕ) → n ≤ 4 → (n ≤ 2 → ⊥) → (n ≡ 3 → ⊥) → n ≡ 4
 fifth n h a b = omega arith
 
-same-fields : (f g : Fields) → f .stage ≡ g .stage → f .sum ≡ g .sum → f .place ≡ g .place → f .class ≡ g .class → f .length ≡ g .length → f .index ≡ g .index → f .memory ≡ g .memory → f .room ≡ g .room → f .number ≡ g .number → f .spare ≡ g .spare → f ≡ g
-same-fields f g a b c d e h m r n s = λ i. record { stage = a i; sum = b i; place = c i; class = d i; length = e i; index = h i; memory = m i; room = r i; number = n i; spare = s i }
+same-fields : (f g : Fields) → f .stage ≡ g .stage → f .sum ≡ g .sum → f .place ≡ g .place → f .class ≡ g .class →
+    f .length ≡ g .length → f .index ≡ g .index → f .memory ≡ g .memory → f .room ≡ g .room → f .number ≡ g .number →
+    f .spare ≡ g .spare → f ≡ g
+same-fields f g a b c d e h m r n s =
+    λ i. record {
+      stage = a i;
+      sum = b i;
+      place = c i;
+      class = d i;
+      length = e i;
+      index = h i;
+      memory = m i;
+      room = r i;
+      number = n i;
+      spare = s i;
+    }
 
 -- what nothing uses is 0, and is read back as 0
 module _ (f : Fields) (l : Listener) where
   abbrev Back : Type 0
   Back = fieldsFor (l .state) ≡ f
 
-  opening-back : f .stage ≤ 2 → openingOf (f .stage) (spotOf f) (f .room) (f .class + f .length + f .index + f .memory + f .number + f .spare) ≡ Known l → Back
+  opening-back : f .stage ≤ 2 →
+      openingOf (f .stage) (spotOf f) (f .room) (f .class + f .length + f .index + f .memory + f .number + f .spare) ≡
+      Known l → Back
   unfolding openingOf fieldsFor fieldsAt fieldsWaiting
   opening-back h e =
       picked-by Back _ _ _ _ e
-      (λ t e. let k = eq-of _ _ t in let n = known-is _ _ l e in rw (n .1) (same-fields _ f (omega arith) refl refl (omega arith) (omega arith) (omega arith) (omega arith) (omega arith) (omega arith) (omega arith)))
+      (λ t e. let k = eq-of _ _ t in let n = known-is _ _ l e in
+      rw (n .1) (same-fields _ f (omega arith) refl refl (omega arith) (omega arith) (omega arith) (omega arith)
+      (omega arith) (omega arith) (omega arith)))
       (λ a e.
       picked-by Back _ _ _ _ e
-      (λ t e. let k = eq-of _ _ t in let n = known-is _ _ l e in rw (n .1) (same-fields _ f (omega arith) refl refl (omega arith) (omega arith) (omega arith) (omega arith) (omega arith) (omega arith) (omega arith)))
+      (λ t e. let k = eq-of _ _ t in let n = known-is _ _ l e in
+      rw (n .1) (same-fields _ f (omega arith) refl refl (omega arith) (omega arith) (omega arith) (omega arith)
+      (omega arith) (omega arith) (omega arith)))
       (λ b e.
       let s : f .stage ≡ 2 = third (f .stage) h (λ k. a (of-eq _ _ k)) (λ k. b (of-eq _ _ k)) in
       let n = known-is _ _ l e in
-      rw (n .1) (same-fields _ f (omega arith) refl refl (omega arith) (omega arith) (omega arith) (omega arith) refl (omega arith) (omega arith))))
+      rw (n .1) (same-fields _ f (omega arith) refl refl (omega arith) (omega arith) (omega arith) (omega arith)
+      refl (omega arith) (omega arith))))
 
-  parameter-back : f .stage ≤ 4 → (f .stage ≤ 2 → ⊥) → parameterState (f .stage) (spotOf f) (f .class) (f .length) (f .index) (f .memory) (f .room) (f .number + f .spare) ≡ Known l → Back
+  parameter-back : f .stage ≤ 4 → (f .stage ≤ 2 → ⊥) →
+      parameterState (f .stage) (spotOf f) (f .class) (f .length) (f .index) (f .memory) (f .room)
+      (f .number + f .spare) ≡ Known l → Back
   unfolding parameterState fieldsFor fieldsAt fieldsWaiting
   parameter-back h g e =
       picked-by Back _ _ _ _ e
       (λ t e.
       let c = code-coded (f .class) (let k = le-of _ _ t in omega arith) in
       picked-by Back _ _ _ _ e
-      (λ t e. let k = eq-of _ _ t in let n = known-is _ _ l e in rw (n .1) (same-fields _ f (omega arith) refl refl c (omega arith) (omega arith) (omega arith) refl (omega arith) (omega arith)))
+      (λ t e. let k = eq-of _ _ t in let n = known-is _ _ l e in
+      rw (n .1) (same-fields _ f (omega arith) refl refl c (omega arith) (omega arith) (omega arith) refl
+      (omega arith) (omega arith)))
       (λ b e.
       let s : f .stage ≡ 4 = fifth (f .stage) h g (λ k. b (of-eq _ _ k)) in
       let n = known-is _ _ l e in
       rw (n .1) (same-fields _ f (omega arith) refl refl c refl refl refl refl (omega arith) (omega arith))))
       (λ _ e. absurd (unknown-not l e))
 
-  ended-back : endedOf (f .stage) (f .place) (f .number) (f .class + f .length + f .index + f .memory + f .sum + f .room + f .spare) ≡ Known l → Back
+  ended-back : endedOf (f .stage) (f .place) (f .number)
+      (f .class + f .length + f .index + f .memory + f .sum + f .room + f .spare) ≡ Known l → Back
   unfolding endedOf fieldsFor fieldsEnded
   ended-back e =
       picked-by Back _ _ _ _ e
-      (λ t e. let k = eq-of _ _ t in let n = known-is _ _ l e in rw (n .1) (same-fields _ f (omega arith) (omega arith) refl (omega arith) (omega arith) (omega arith) (omega arith) (omega arith) (omega arith) (omega arith)))
+      (λ t e. let k = eq-of _ _ t in let n = known-is _ _ l e in
+      rw (n .1) (same-fields _ f (omega arith) (omega arith) refl (omega arith) (omega arith) (omega arith)
+      (omega arith) (omega arith) (omega arith) (omega arith)))
       (λ _ e.
       picked-by Back _ _ _ _ e
-      (λ t e. let k = eq-of _ _ t in let n = known-is _ _ l e in rw (n .1) (same-fields _ f (omega arith) (omega arith) refl (omega arith) (omega arith) (omega arith) (omega arith) (omega arith) refl (omega arith)))
+      (λ t e. let k = eq-of _ _ t in let n = known-is _ _ l e in
+      rw (n .1) (same-fields _ f (omega arith) (omega arith) refl (omega arith) (omega arith) (omega arith)
+      (omega arith) (omega arith) refl (omega arith)))
       (λ _ e. absurd (unknown-not l e)))
 
   fields-state : stateOf f ≡ Known l → Back

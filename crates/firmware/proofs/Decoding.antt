@@ -26,11 +26,14 @@ known-eq r a b s e = e
 
 -- a list of which every place is stored
 pub stored : (vs l : List ℕ) → length l ≡ length vs → sets l 0 vs ≡ vs
-stored vs l e = let h : length l ≤ 0 + length vs = omega arith in sets-eq vs l 0 (omega arith) ∙ ap (λ (r : List ℕ). vs ++ r) (drop-of-length-le l h) ∙ append-nil vs
+stored vs l e =
+    let h : length l ≤ 0 + length vs = omega arith in
+    sets-eq vs l 0 (omega arith) ∙ ap (λ (r : List ℕ). vs ++ r) (drop-of-length-le l h) ∙ append-nil vs
 
 -- ---- a call of the listener
 module _ (c o : List ℕ) (got : Decoded) (p : got ≡ decodeOf c) where
-  pub known-answers : (l : Listener) (d : Outcome) (last : List ℕ) → got ≡ Known l → d ≡ outcomeOf l o → last ≡ recordOf (d .listener) → (d .word ≡ listenAnswer c o) × (last ≡ listenRecord c o)
+  pub known-answers : (l : Listener) (d : Outcome) (last : List ℕ) → got ≡ Known l → d ≡ outcomeOf l o →
+      last ≡ recordOf (d .listener) → (d .word ≡ listenAnswer c o) × (last ≡ listenRecord c o)
   unfolding listenAnswer listenRecord answered recorded outcomeOf
   known-answers l d last q k f =
       let e : decodeOf c ≡ Known l = sym p ∙ q in
@@ -40,6 +43,8 @@ module _ (c o : List ℕ) (got : Decoded) (p : got ≡ decodeOf c) where
   unfolding listenAnswer listenRecord answered recorded
   unknown-answers r q g = let e : decodeOf c ≡ Unknown = sym p ∙ q in (rw e g, rw e)
 
-pub outcome : (l : Listener) (o : List ℕ) (h : Heard) (w : ℕ) → h ≡ heardOf l o → w ≡ packed (told (h .answer) .number) (told (h .answer) .place) (told (h .answer) .size) (h .taken) → _≡_ {A = Outcome} (record { listener = h .listener; word = w }) (outcomeOf l o)
+pub outcome : (l : Listener) (o : List ℕ) (h : Heard) (w : ℕ) → h ≡ heardOf l o →
+    w ≡ packed (told (h .answer) .number) (told (h .answer) .place) (told (h .answer) .size) (h .taken) →
+    _≡_ {A = Outcome} (record { listener = h .listener; word = w }) (outcomeOf l o)
 unfolding outcomeOf wordOf
 outcome l o h w e f = rw (f, e)

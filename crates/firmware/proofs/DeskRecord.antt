@@ -73,7 +73,11 @@ places-small (suc n) c q (suc i) = places-small n (drop 3 c) (octets-drop 3 c q)
 
 pub small-in : (c : List ℕ) → Octets c → Small (deskIn c .places)
 unfolding deskIn
-small-in c q = record { long = places-length placeCount (drop 4 c); below = places-small placeCount (drop 4 c) (octets-drop 4 c q) }
+small-in c q =
+    record {
+      long = places-length placeCount (drop 4 c);
+      below = places-small placeCount (drop 4 c) (octets-drop 4 c q);
+    }
 
 codes-fit : (w : Waiting) (l : Lamp) → T (isDesk (waitingCode w) (waitingNumber w) (lampCode l) 0)
 unfolding isDesk isWaiting waitingCode waitingNumber lampCode pick _=?_ _≤?_ _and_
@@ -104,14 +108,17 @@ module _ (d : Desk) (w : Small (d .places)) where
   pub decode-encode : deskIn (deskRecord d) ≡ d
   unfolding deskIn deskRecord
   decode-encode =
-      let z : placesIn placeCount (placesCells (d .places)) ≡ d .places = ap (λ (n : ℕ). placesIn n (placesCells (d .places))) (sym (w .long)) ∙ places-back (d .places) (w .below) in
+      let z : placesIn placeCount (placesCells (d .places)) ≡ d .places =
+      ap (λ (n : ℕ). placesIn n (placesCells (d .places))) (sym (w .long)) ∙ places-back (d .places) (w .below) in
       λ i. record { waiting = waiting-decoded (d .waiting) i; lamp = lamp-decoded (d .lamp) i; places = z i }
 
 waiting-back : (w n : ℕ) → T (isWaiting w n) → (waitingCode (waitingOf w n) ≡ w) × (waitingNumber (waitingOf w n) ≡ n)
 unfolding isWaiting waitingOf waitingCode waitingNumber pick
 waiting-back w n t = go (w =? 0) (λ x. eq-of _ _ x) t
   where
-    go : (b : Bool) → (T b → w ≡ 0) → T (pick b (n =? 0) (w =? 1)) → (waitingCode (pick b waiting.Unknown (waiting.Number n)) ≡ w) × (waitingNumber (pick b waiting.Unknown (waiting.Number n)) ≡ n)
+    go : (b : Bool) → (T b → w ≡ 0) → T (pick b (n =? 0) (w =? 1)) →
+        (waitingCode (pick b waiting.Unknown (waiting.Number n)) ≡ w)
+        × (waitingNumber (pick b waiting.Unknown (waiting.Number n)) ≡ n)
     go true f t = (sym (f tt), sym (eq-of _ _ t))
     go false f t = (sym (eq-of _ _ t), refl)
 

@@ -51,7 +51,8 @@ unfolding entriesCells entryCells numbersOf formNumber
 none-cells zero = refl
 none-cells (suc n) =
     let z : 8 * suc n ≡ 8 + 8 * n = omega arith in
-    ap (λ (l : List ℕ). replicate {A = ℕ} 8 0 ++ l) (none-cells n) ∙ replicate-append-replicate 8 (8 * n) 0 ∙ ap (λ (k : ℕ). replicate {A = ℕ} k 0) (sym z)
+    ap (λ (l : List ℕ). replicate {A = ℕ} 8 0 ++ l) (none-cells n) ∙ replicate-append-replicate 8 (8 * n) 0
+    ∙ ap (λ (k : ℕ). replicate {A = ℕ} k 0) (sym z)
 
 cells-take : (i : ℕ) (es : List Entry) → take (8 * i) (entriesCells es) ≡ entriesCells (take i es)
 unfolding entriesCells
@@ -59,7 +60,9 @@ cells-take zero es = refl
 cells-take (suc i) [] = take-nil (8 * suc i)
 cells-take (suc i) (e ∷ es) =
     let z : 8 * suc i ≡ length (entryCells e) + 8 * i = omega (arith, entry-length e) in
-    ap (λ (k : ℕ). take k (entryCells e ++ entriesCells es)) z ∙ take-append-add (entryCells e) (entriesCells es) (8 * i) ∙ ap (λ (l : List ℕ). entryCells e ++ l) (cells-take i es)
+    ap (λ (k : ℕ). take k (entryCells e ++ entriesCells es)) z
+    ∙ take-append-add (entryCells e) (entriesCells es) (8 * i)
+    ∙ ap (λ (l : List ℕ). entryCells e ++ l) (cells-take i es)
 
 cells-drop : (i : ℕ) (es : List Entry) → drop (8 * i) (entriesCells es) ≡ entriesCells (drop i es)
 unfolding entriesCells
@@ -67,26 +70,32 @@ cells-drop zero es = refl
 cells-drop (suc i) [] = drop-nil (8 * suc i)
 cells-drop (suc i) (e ∷ es) =
     let z : 8 * suc i ≡ length (entryCells e) + 8 * i = omega (arith, entry-length e) in
-    ap (λ (k : ℕ). drop k (entryCells e ++ entriesCells es)) z ∙ drop-append-add (entryCells e) (entriesCells es) (8 * i) ∙ cells-drop i es
+    ap (λ (k : ℕ). drop k (entryCells e ++ entriesCells es)) z
+    ∙ drop-append-add (entryCells e) (entriesCells es) (8 * i) ∙ cells-drop i es
 
 cells-append : (es fs : List Entry) → entriesCells (es ++ fs) ≡ entriesCells es ++ entriesCells fs
 unfolding entriesCells
 cells-append [] fs = refl
-cells-append (e ∷ es) fs = ap (λ (l : List ℕ). entryCells e ++ l) (cells-append es fs) ∙ sym (append-assoc (entryCells e) (entriesCells es) (entriesCells fs))
+cells-append (e ∷ es) fs =
+    ap (λ (l : List ℕ). entryCells e ++ l) (cells-append es fs)
+    ∙ sym (append-assoc (entryCells e) (entriesCells es) (entriesCells fs))
 
 abbrev zeros : List ℕ
 zeros = replicate 8 0
 
 -- an entry put at its place
-put-entry : (es : List Entry) (i : ℕ) (e : Entry) → i < length es → laidAt (entryCells e) (8 + 8 * i) (zeros ++ entriesCells es) ≡ zeros ++ entriesCells (set es i e)
+put-entry : (es : List Entry) (i : ℕ) (e : Entry) → i < length es →
+    laidAt (entryCells e) (8 + 8 * i) (zeros ++ entriesCells es) ≡ zeros ++ entriesCells (set es i e)
 unfolding laidAt entriesCells
 put-entry es i e h =
     let n : 8 + 8 * i + length (entryCells e) ≡ 8 + 8 * suc i = omega (arith, entry-length e) in
     ap₂ (λ (a b : List ℕ). a ++ (entryCells e ++ b))
     (take-append-add zeros (entriesCells es) (8 * i) ∙ ap (λ (l : List ℕ). zeros ++ l) (cells-take i es))
-    (ap (λ (k : ℕ). drop k (zeros ++ entriesCells es)) n ∙ drop-append-add zeros (entriesCells es) (8 * suc i) ∙ cells-drop (suc i) es)
+    (ap (λ (k : ℕ). drop k (zeros ++ entriesCells es)) n ∙ drop-append-add zeros (entriesCells es) (8 * suc i)
+    ∙ cells-drop (suc i) es)
     ∙ append-assoc zeros (entriesCells (take i es)) (entryCells e ++ entriesCells (drop (suc i) es))
-    ∙ ap (λ (l : List ℕ). zeros ++ l) (sym (cells-append (take i es) (e ∷ drop (suc i) es)) ∙ ap entriesCells (sym (set-split es i e h)))
+    ∙ ap (λ (l : List ℕ). zeros ++ l) (sym (cells-append (take i es) (e ∷ drop (suc i) es))
+    ∙ ap entriesCells (sym (set-split es i e h)))
 
 -- ---- the loop over the entries
 module _ (o : List ℕ) where
@@ -109,28 +118,46 @@ module _ (o : List ℕ) where
 
   module _ (count at used : ℕ) (cells : List ℕ) (w : Recorded count at used cells) where
     pub recorded-long : length cells ≡ draftSize
-    recorded-long = omega (arith, ap length (w .cells-are), length-append zeros (entriesCells (w .entries)), cells-length (w .entries), w .filled .long)
+    recorded-long =
+        omega (
+          arith,
+          ap length (w .cells-are),
+          length-append zeros (entriesCells (w .entries)),
+          cells-length
+              (w .entries),
+          w .filled .long,
+        )
 
-    module _ (h : count < most) (e : Entry) (n place : ℕ) (t : taken.Next e n place ≡ takenAt (rulesOf PresentLenient) o at used) where
+    module _ (h : count < most) (e : Entry) (n place : ℕ)
+        (t : taken.Next e n place ≡ takenAt (rulesOf PresentLenient) o at used) where
       pub recorded-small : used + n ≤ length o
       recorded-small = filled-small (rulesOf PresentLenient) o count at used (w .entries) (w .filled) h e n place t
 
-      pub recorded-more : (next : List ℕ) → next ≡ laidAt (entryCells e) (8 + 8 * count) cells → Recorded (count + 1) place (used + n) next
+      pub recorded-more : (next : List ℕ) → next ≡ laidAt (entryCells e) (8 + 8 * count) cells →
+          Recorded (count + 1) place (used + n) next
       recorded-more next p = record {
         entries = set (w .entries) count e;
         filled = filled-more (rulesOf PresentLenient) o count at used (w .entries) (w .filled) h e n place t;
-        cells-are = p ∙ ap (laidAt (entryCells e) (8 + 8 * count)) (w .cells-are) ∙ put-entry (w .entries) count e (omega (arith, w .filled .long));
+        cells-are =
+            p ∙ ap (laidAt (entryCells e) (8 + 8 * count)) (w .cells-are)
+            ∙ put-entry (w .entries) count e (omega (arith, w .filled .long));
       }
 
-    pub recorded-end : untaken o count at ≡ [] → (count ≡ draftOf (rulesOf PresentLenient) (messageIn o) .count) × (cells ≡ zeros ++ entriesCells (draftOf (rulesOf PresentLenient) (messageIn o) .entries))
+    pub recorded-end : untaken o count at ≡ [] →
+        (count ≡ draftOf (rulesOf PresentLenient) (messageIn o) .count)
+        × (cells ≡ zeros ++ entriesCells (draftOf (rulesOf PresentLenient) (messageIn o) .entries))
     recorded-end e =
-        let z = filled-end (rulesOf PresentLenient) o count at used (w .entries) (w .filled) (record { kind = getD o 0 0; count = count; entries = w .entries }) refl refl refl e in
+        let z = filled-end (rulesOf PresentLenient) o count at used (w .entries) (w .filled)
+        (record { kind = getD o 0 0; count = count; entries = w .entries }) refl refl refl e in
         (ap (λ (d : Draft). d .count) z, w .cells-are ∙ ap (λ (d : Draft). zeros ++ entriesCells (d .entries)) z)
 
 -- the header over eight octets of 0
-pub headed : (d : Draft) (cells : List ℕ) (kind count : ℕ) → kind ≡ d .kind → count ≡ d .count → cells ≡ zeros ++ entriesCells (d .entries) → set (set cells 0 kind) 1 count ≡ draftRecord d
+pub headed : (d : Draft) (cells : List ℕ) (kind count : ℕ) → kind ≡ d .kind → count ≡ d .count →
+    cells ≡ zeros ++ entriesCells (d .entries) → set (set cells 0 kind) 1 count ≡ draftRecord d
 unfolding draftRecord
-headed d cells kind count k n e = ap (λ (l : List ℕ). set (set l 0 kind) 1 count) e ∙ (λ i. k i ∷ n i ∷ 0 ∷ 0 ∷ 0 ∷ 0 ∷ 0 ∷ 0 ∷ entriesCells (d .entries))
+headed d cells kind count k n e =
+    ap (λ (l : List ℕ). set (set l 0 kind) 1 count) e
+    ∙ (λ i. k i ∷ n i ∷ 0 ∷ 0 ∷ 0 ∷ 0 ∷ 0 ∷ 0 ∷ entriesCells (d .entries))
 
 pub draft-kind : (o : List ℕ) → getD o 0 0 ≡ draftOf (rulesOf PresentLenient) (messageIn o) .kind
 unfolding draftOf messageIn
@@ -160,7 +187,9 @@ module _ (old : List ℕ) (i : ℕ) (cells : List ℕ) (w : Cleared old i cells)
   }
 
   pub cleared-end : length cells ≤ i → cells ≡ replicate (length old) 0
-  cleared-end h = sym (take-all i cells h) ∙ w .front ∙ (let z : i ≡ length old = omega (arith, w .below, w .long) in ap (λ (k : ℕ). replicate {A = ℕ} k 0) z)
+  cleared-end h =
+      sym (take-all i cells h) ∙ w .front
+      ∙ (let z : i ≡ length old = omega (arith, w .below, w .long) in ap (λ (k : ℕ). replicate {A = ℕ} k 0) z)
 
 -- ---- what the header's readers read back
 two-octets : (n : ℕ) → n < 65536 → n % 256 + 256 * (n / 256 % 256) ≡ n
@@ -172,8 +201,12 @@ unfolding valueOf numbersOf textNumbers inside pick _=?_ formNumber
 value-back texts (Date m y h n) l t = refl
 value-back texts (Code x) l t = refl
 value-back texts (State s r) l t = ap (State s) (omega arith)
-value-back texts (Text s n) l t = let z = le-of _ _ t in ap₂ Text (two-octets s (omega arith)) (two-octets n (omega arith))
-value-back texts (Carried s n) l t = let z = le-of _ _ t in ap₂ Carried (two-octets s (omega arith)) (two-octets n (omega arith))
+value-back texts (Text s n) l t =
+    let z = le-of _ _ t in
+    ap₂ Text (two-octets s (omega arith)) (two-octets n (omega arith))
+value-back texts (Carried s n) l t =
+    let z = le-of _ _ t in
+    ap₂ Carried (two-octets s (omega arith)) (two-octets n (omega arith))
 
 -- an octet of the first of some entries
 first-cells : (e : Entry) (r : List ℕ) (k : ℕ) → k < 8 → getD (entryCells e ++ r) k 0 ≡ getD (entryCells e) k 0
@@ -188,17 +221,21 @@ no-cells k = sym (getD-replicate 8 k)
     getD-replicate (suc n) zero = refl
     getD-replicate (suc n) (suc k) = getD-replicate n k
 
-cells-at : (es : List Entry) (i k : ℕ) → k < 8 → getD (entriesCells es) (8 * i + k) 0 ≡ getD (entryCells (getD es i noEntry)) k 0
+cells-at : (es : List Entry) (i k : ℕ) → k < 8 →
+    getD (entriesCells es) (8 * i + k) 0 ≡ getD (entryCells (getD es i noEntry)) k 0
 unfolding entriesCells
 cells-at [] i k h = no-cells k
-cells-at (e ∷ es) zero k h = let z : 8 * 0 + k ≡ k = omega arith in ap (λ (n : ℕ). getD (entryCells e ++ entriesCells es) n 0) z ∙ first-cells e (entriesCells es) k h
+cells-at (e ∷ es) zero k h =
+    let z : 8 * 0 + k ≡ k = omega arith in
+    ap (λ (n : ℕ). getD (entryCells e ++ entriesCells es) n 0) z ∙ first-cells e (entriesCells es) k h
 cells-at (e ∷ es) (suc i) k h =
     let z : 8 * suc i + k ≡ length (entryCells e) + (8 * i + k) = omega (arith, entry-length e) in
     ap (λ (n : ℕ). getD (entryCells e ++ entriesCells es) n 0) z
     ∙ getD-append-add (entryCells e) (entriesCells es) (8 * i + k) 0
     ∙ cells-at es i k h
 
-cell-is : (d : Draft) (i k : ℕ) → k < 8 → cellIn (draftRecord d) i k ≡ getD (entryCells (getD (d .entries) i noEntry)) k 0
+cell-is : (d : Draft) (i k : ℕ) → k < 8 →
+    cellIn (draftRecord d) i k ≡ getD (entryCells (getD (d .entries) i noEntry)) k 0
 unfolding draftRecord
 cell-is d i k h =
     let z : 8 + 8 * i + k ≡ 8 + (8 * i + k) = omega arith in
@@ -207,16 +244,25 @@ cell-is d i k h =
     ∙ cells-at (d .entries) i k h
 
 -- what stands at entry i is the draft's entry i
-pub entry-back : (d : Draft) (i : ℕ) (texts : List ℕ) → length texts < 65536 → T (inside texts (getD (d .entries) i noEntry .value)) → entryIn (draftRecord d) i ≡ getD (d .entries) i noEntry
+pub entry-back : (d : Draft) (i : ℕ) (texts : List ℕ) → length texts < 65536 →
+    T (inside texts (getD (d .entries) i noEntry .value)) → entryIn (draftRecord d) i ≡ getD (d .entries) i noEntry
 unfolding entryIn entryCells
 entry-back d i texts l t =
     let e = getD (d .entries) i noEntry in
     let at : (k : ℕ) → k < 8 → cellIn (draftRecord d) i k ≡ getD (entryCells e) k 0 = cell-is d i in
-    let v = (λ j. valueOf (record { form = at 1 (omega arith) j; a = at 2 (omega arith) j; b = at 3 (omega arith) j; c = at 4 (omega arith) j; d = at 5 (omega arith) j })) ∙ value-back texts (e .value) l t in
+    let v = (λ j. valueOf
+    (record {
+      form = at 1 (omega arith) j;
+      a = at 2 (omega arith) j;
+      b = at 3 (omega arith) j;
+      c = at 4 (omega arith) j;
+      d = at 5 (omega arith) j;
+    })) ∙ value-back texts (e .value) l t in
     λ j. record { kind = at 0 (omega arith) j; value = v j }
 
 -- of a legal message every text of its draft lies inside the message's own texts
-every-at : (f : Entry → Bool) (es : List Entry) (rest i : ℕ) → T (every f es) → T (f noEntry) → T (f (getD (es ++ replicate rest noEntry) i noEntry))
+every-at : (f : Entry → Bool) (es : List Entry) (rest i : ℕ) → T (every f es) → T (f noEntry) →
+    T (f (getD (es ++ replicate rest noEntry) i noEntry))
 unfolding every
 every-at f [] zero i t n = n
 every-at f [] (suc rest) zero t n = n
@@ -224,7 +270,8 @@ every-at f [] (suc rest) (suc i) t n = every-at f [] rest i t n
 every-at f (e ∷ es) rest zero t n = both _ _ t .0
 every-at f (e ∷ es) rest (suc i) t n = every-at f es rest i (both _ _ t .1) n
 
-pub draft-inside : (R : Rules) (m : Message) (i : ℕ) → T (inside (textsOf R (m .parameters)) (getD (draftOf R m .entries) i noEntry .value))
+pub draft-inside : (R : Rules) (m : Message) (i : ℕ) →
+    T (inside (textsOf R (m .parameters)) (getD (draftOf R m .entries) i noEntry .value))
 unfolding draftOf allInside inside
 draft-inside R m i =
     let texts = textsOf R (m .parameters) in

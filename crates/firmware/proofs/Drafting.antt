@@ -11,4 +11,6 @@ use Rattle.rules.specs.Laying.{laid}
 -- the first places stored, the others as they were
 pub stored-front : (vs l : List ℕ) → length vs ≤ length l → sets l 0 vs ≡ laid vs l
 unfolding laid
-stored-front vs l h = let z : 0 + length vs ≡ length vs = omega arith in sets-eq vs l 0 (omega arith) ∙ ap (λ (k : ℕ). vs ++ drop k l) z
+stored-front vs l h =
+    let z : 0 + length vs ≡ length vs = omega arith in
+    sets-eq vs l 0 (omega arith) ∙ ap (λ (k : ℕ). vs ++ drop k l) z

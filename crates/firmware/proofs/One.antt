@@ -1,5 +1,5 @@
--- The sentences on the exports leave one word, and one content of each record: what is told of the octets is one (hears-one and its like), and the word and
--- the records are told by it.
+-- The sentences on the exports leave one word, and one content of each record: what is told of the octets is one
+-- (hears-one and its like), and the word and the records are told by it.
 -- Assumes nothing.
 use Prim.Native.Nat.{ℕ, suc, _≤_}
 use mathlib.Core.Path.{_≡_, refl, sym, _∙_, ap}
@@ -48,26 +48,30 @@ words-one : (k p n t w v : ℕ) → Unpacked k p n t w → Unpacked k p n t v �
 words-one k p n t w v a b = a .whole ∙ sym (b .whole)
 
 -- 17 is one word, and the record as it was
-pub seventeen-one : (c : List ℕ) (w : ℕ) (d : List ℕ) (v : ℕ) (e : List ℕ) → Seventeen c w d → Seventeen c v e → (w ≡ v) × (d ≡ e)
+pub seventeen-one : (c : List ℕ) (w : ℕ) (d : List ℕ) (v : ℕ) (e : List ℕ) → Seventeen c w d → Seventeen c v e →
+    (w ≡ v) × (d ≡ e)
 seventeen-one c w d v e a b = (words-one 17 0 0 0 w v (a .word) (b .word), a .cells ∙ sym (b .cells))
 
 -- hearing
 pub record-hears-one : (L : Language) (h o : List ℕ) (w v : ℕ) → RecordHears L h o w → RecordHears L h o v → w ≡ v
 record-hears-one L h o w v A B = go (decide (wordNumber w =? 0)) (decide (wordSize w =? 0))
   where
-    same : wordNumber w ≡ wordNumber v → wordPlace w ≡ wordPlace v → wordSize w ≡ wordSize v → wordTaken w ≡ wordTaken v → w ≡ v
+    same : wordNumber w ≡ wordNumber v → wordPlace w ≡ wordPlace v → wordSize w ≡ wordSize v →
+        wordTaken w ≡ wordTaken v → w ≡ v
     same a b c d = A .whole ∙ (λ i. packed (a i) (b i) (c i) (d i)) ∙ sym (B .whole)
 
     waiting : wordNumber w ≡ 0 → wordSize w ≡ 0 → w ≡ v
     waiting a b =
         let x = B .waits .1 (A .waits .0 (a, b)) in
-        same (a ∙ sym (x .0)) (A .no-place a ∙ sym (B .no-place (x .0))) (b ∙ sym (x .1)) (A .taken-waiting a b ∙ sym (B .taken-waiting (x .0) (x .1)))
+        same (a ∙ sym (x .0)) (A .no-place a ∙ sym (B .no-place (x .0))) (b ∙ sym (x .1))
+        (A .taken-waiting a b ∙ sym (B .taken-waiting (x .0) (x .1)))
 
     message : wordNumber w ≡ 0 → 1 ≤ wordSize w → w ≡ v
     message a b =
         let x : wordSize v ≡ wordSize w = B .has-message (wordSize w) b .1 (A .has-message (wordSize w) b .0 refl) in
         let y : wordNumber v ≡ 0 = no-number (decide (wordNumber v =? 0)) x in
-        same (a ∙ sym y) (A .no-place a ∙ sym (B .no-place y)) (sym x) (omega (arith, A .taken-message (wordSize w) b refl, B .taken-message (wordSize w) b x))
+        same (a ∙ sym y) (A .no-place a ∙ sym (B .no-place y)) (sym x)
+        (omega (arith, A .taken-message (wordSize w) b refl, B .taken-message (wordSize w) b x))
       where
         no-number : T (wordNumber v =? 0) ⊎ (T (wordNumber v =? 0) → ⊥) → wordSize v ≡ wordSize w → wordNumber v ≡ 0
         no-number (inl t) x = eq-of _ _ t
@@ -81,7 +85,8 @@ record-hears-one L h o w v A B = go (decide (wordNumber w =? 0)) (decide (wordSi
         let f : Fault = record { number = wordNumber w; place = wordPlace w } in
         let x = B .refuses f a .1 (A .refuses f a .0 (refl, refl)) in
         let b : 1 ≤ wordNumber v = omega (arith, x .0) in
-        same (sym (x .0)) (sym (x .1)) (A .no-size a ∙ sym (B .no-size b)) (omega (arith, A .taken-refused a, B .taken-refused b, x .1))
+        same (sym (x .0)) (sym (x .1)) (A .no-size a ∙ sym (B .no-size b))
+        (omega (arith, A .taken-refused a, B .taken-refused b, x .1))
 
     go : T (wordNumber w =? 0) ⊎ (T (wordNumber w =? 0) → ⊥) → T (wordSize w =? 0) ⊎ (T (wordSize w =? 0) → ⊥) → w ≡ v
     go (inl a) (inl b) = waiting (eq-of _ _ a) (eq-of _ _ b)
@@ -89,21 +94,30 @@ record-hears-one L h o w v A B = go (decide (wordNumber w =? 0)) (decide (wordSi
     go (inr a) b = let z : wordNumber w ≡ 0 → ⊥ = λ e. a (of-eq _ _ e) in refused (omega arith)
 
 -- reading
-pub record-reads-one : (o c t : List ℕ) (w : ℕ) (c' t' : List ℕ) (v : ℕ) (d u : List ℕ) → RecordReads o c t w c' t' → RecordReads o c t v d u → (w ≡ v) × (c' ≡ d) × (t' ≡ u)
+pub record-reads-one : (o c t : List ℕ) (w : ℕ) (c' t' : List ℕ) (v : ℕ) (d u : List ℕ) →
+    RecordReads o c t w c' t' → RecordReads o c t v d u → (w ≡ v) × (c' ≡ d) × (t' ≡ u)
 record-reads-one o c t w c' t' v d u A B =
     let e = reads-one (rulesOf PresentLenient) o t (A .reading) t' (B .reading) u (A .reads) (B .reads) in
-    let a = ap (λ (r : Reading). r .answer) (e .0) in
-    (A .word .whole ∙ (λ i. packed (reads.told (a i) .number) (reads.told (a i) .place) (reads.told (a i) .size) 0) ∙ sym (B .word .whole), cells (e .0) (A .reading .answer) refl, e .1)
+    let a = ap (λ (r : Reading). r .answer) (e .0) in (
+      A .word .whole ∙ (λ i. packed (reads.told (a i) .number) (reads.told (a i) .place) (reads.told (a i) .size) 0)
+          ∙ sym (B .word .whole),
+      cells (e .0) (A .reading .answer) refl,
+      e .1,
+    )
   where
     cells : A .reading ≡ B .reading → (x : Packed) → A .reading .answer ≡ x → c' ≡ d
-    cells e (Texts n) z = A .drafted n z ∙ ap (λ (r : Reading). draftRecord (r .draft)) e ∙ sym (B .drafted n (sym (ap (λ (r : Reading). r .answer) e) ∙ z))
+    cells e (Texts n) z =
+        A .drafted n z ∙ ap (λ (r : Reading). draftRecord (r .draft)) e
+        ∙ sym (B .drafted n (sym (ap (λ (r : Reading). r .answer) e) ∙ z))
     cells e (Refused f) z = A .refused f z ∙ sym (B .refused f (sym (ap (λ (r : Reading). r .answer) e) ∙ z))
 
 -- settling
-pub record-settles-one : (d : Desk) (o : List ℕ) (w : ℕ) (c : List ℕ) (v : ℕ) (e : List ℕ) → RecordSettles d o w c → RecordSettles d o v e → (w ≡ v) × (c ≡ e)
+pub record-settles-one : (d : Desk) (o : List ℕ) (w : ℕ) (c : List ℕ) (v : ℕ) (e : List ℕ) →
+    RecordSettles d o w c → RecordSettles d o v e → (w ≡ v) × (c ≡ e)
 record-settles-one d o w c v e A B =
     let x = settles-one PresentLenient d o (A .outcome) (B .outcome) (A .settles) (B .settles) in (
-      A .word .whole ∙ (λ i. packed (desk.told (x i .answer) .number) (desk.told (x i .answer) .place) 0 0) ∙ sym (B .word .whole),
+      A .word .whole ∙ (λ i. packed (desk.told (x i .answer) .number) (desk.told (x i .answer) .place) 0 0)
+          ∙ sym (B .word .whole),
       A .cells ∙ ap (λ (r : Outcome). deskRecord (r .desk)) x ∙ sym (B .cells),
     )
 
@@ -111,25 +125,37 @@ record-settles-one d o w c v e A B =
 pub record-counts-one : (o : List ℕ) (t w v : ℕ) → RecordCounts o t w → RecordCounts o t v → w ≡ v
 record-counts-one o t w v A B = go (A .verdict) refl
   where
-    of-message : (a : Accepts (rulesOf PresentLenient) o) (x : Option (List ℕ)) → counted (rulesOf PresentLenient) (a .0) t ≡ x → w ≡ v
+    of-message : (a : Accepts (rulesOf PresentLenient) o) (x : Option (List ℕ)) →
+        counted (rulesOf PresentLenient) (a .0) t ≡ x → w ≡ v
     of-message (m, l, e) none z = words-one 0 0 0 0 w v (A .none-counts m l e z) (B .none-counts m l e z)
-    of-message (m, l, e) (some y) z = let c = counted-iff (rulesOf PresentLenient) m t y .0 z in words-one _ _ _ _ w v (A .counts m l e y c) (B .counts m l e y c)
+    of-message (m, l, e) (some y) z =
+        let c = counted-iff (rulesOf PresentLenient) m t y .0 z in
+        words-one _ _ _ _ w v (A .counts m l e y c) (B .counts m l e y c)
 
     go : (x : Verdict) → A .verdict ≡ x → w ≡ v
     go (Accepted n) e = of-message (A .judged .accepted n .0 e .1) _ refl
-    go (Declined f) e = words-one _ _ _ _ w v (A .refused f e) (B .refused f (sym (judges-one (languageOf PresentLenient) o _ _ (A .judged) (B .judged)) ∙ e))
+    go (Declined f) e =
+        words-one _ _ _ _ w v (A .refused f e)
+        (B .refused f (sym (judges-one (languageOf PresentLenient) o _ _ (A .judged) (B .judged)) ∙ e))
 
 -- the caption
-pub record-finds-one : (o d c : List ℕ) (w : ℕ) (c' : List ℕ) (v : ℕ) (e : List ℕ) → RecordFinds o d c w c' → RecordFinds o d c v e → (w ≡ v) × (c' ≡ e)
+pub record-finds-one : (o d c : List ℕ) (w : ℕ) (c' : List ℕ) (v : ℕ) (e : List ℕ) → RecordFinds o d c w c' →
+    RecordFinds o d c v e → (w ≡ v) × (c' ≡ e)
 unfolding caption.told
-record-finds-one o d c w c' v e A B =
-    (A .word .whole ∙ (λ i. packed (caption.told (x i) .number) (caption.told (x i) .place) 0 0) ∙ sym (B .word .whole), cells (A .found) refl)
+record-finds-one o d c w c' v e A B = (
+  A .word .whole ∙ (λ i. packed (caption.told (x i) .number) (caption.told (x i) .place) 0 0)
+      ∙ sym (B .word .whole),
+  cells (A .found) refl,
+)
   where
     x : A .found ≡ B .found
     x = finds-one (rulesOf PresentLenient) o d (A .found) (B .found) (A .finds) (B .finds)
 
     shown : caption.told (A .found) .number ≡ 0 → c' ≡ e
-    shown z = A .part z ∙ ap (λ (r : Shown). partRecord (caption.told r .side) (caption.told r .start) (caption.told r .size)) x ∙ sym (B .part (sym (ap (λ (x : Shown). caption.told x .number) x) ∙ z))
+    shown z =
+        A .part z
+        ∙ ap (λ (r : Shown). partRecord (caption.told r .side) (caption.told r .start) (caption.told r .size)) x
+        ∙ sym (B .part (sym (ap (λ (x : Shown). caption.told x .number) x) ∙ z))
 
     cells : (r : Shown) → A .found ≡ r → c' ≡ e
     cells (found.InMessage start n) z = shown (ap (λ (x : Shown). caption.told x .number) z)

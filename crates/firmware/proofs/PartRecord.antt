@@ -18,20 +18,25 @@ use Rattle.firmware.specs.PartRecord.{lowFirst, numberIn, sideCells, par
 use Rattle.firmware.specs.Sizes.{partSize}
 
 -- an accepted message has at most 258 octets
-pub accepted-small : (o : List ℕ) → Octets o → (n : ℕ) → verdictOf (rulesOf PresentLenient) o ≡ Accepted n → length o ≤ 258
+pub accepted-small : (o : List ℕ) → Octets o → (n : ℕ) → verdictOf (rulesOf PresentLenient) o ≡ Accepted n →
+    length o ≤ 258
 accepted-small o q n e = accepted-size (rulesOf PresentLenient) o (judges-of PresentLenient o q .accepted n .0 e .1) .1
 
 -- octets laid over as many are all that stands there
 laid-whole : (v old : List ℕ) → length old ≡ length v → laid v old ≡ v
 unfolding laid
-laid-whole v old h = ap (λ (r : List ℕ). v ++ r) (drop-of-length-le old {i = length v} (omega (arith, h))) ∙ append-nil v
+laid-whole v old h =
+    ap (λ (r : List ℕ). v ++ r) (drop-of-length-le old {i = length v} (omega (arith, h))) ∙ append-nil v
 
 -- side, start and length, laid behind one another over 24 octets
-pub part-laid : (old : List ℕ) (side start n : ℕ) → length old ≡ partSize → (a b c : List ℕ) → a ≡ laid (sideCells side) old → b ≡ laidAt (lowFirst 8 start) 8 a → c ≡ laidAt (lowFirst 8 n) 16 b → c ≡ partRecord side start n
+pub part-laid : (old : List ℕ) (side start n : ℕ) → length old ≡ partSize → (a b c : List ℕ) →
+    a ≡ laid (sideCells side) old → b ≡ laidAt (lowFirst 8 start) 8 a → c ≡ laidAt (lowFirst 8 n) 16 b →
+    c ≡ partRecord side start n
 unfolding sideCells lowFirst partRecord
 part-laid old side start n h a b c x y z =
     z
-    ∙ ap (laidAt (lowFirst 8 n) 16) (y ∙ ap (laidAt (lowFirst 8 start) 8) x ∙ laid-then (sideCells side) (lowFirst 8 start) old)
+    ∙ ap (laidAt (lowFirst 8 n) 16) (y ∙ ap (laidAt (lowFirst 8 start) 8) x
+    ∙ laid-then (sideCells side) (lowFirst 8 start) old)
     ∙ laid-then (sideCells side ++ lowFirst 8 start) (lowFirst 8 n) old
     ∙ laid-whole (partRecord side start n) old h
 
@@ -44,6 +49,8 @@ low-back (suc k) n h =
     ap (λ (m : ℕ). n % 256 + 256 * m) e ∙ omega arith
 
 -- side, start and length are read back as they were laid down; both sizes are those of slices, below 2^64
-pub part-back : (side start n : ℕ) → start < 256 ^ 8 → n < 256 ^ 8 → (partSide (partRecord side start n) ≡ side) × (partStart (partRecord side start n) ≡ start) × (partLength (partRecord side start n) ≡ n)
+pub part-back : (side start n : ℕ) → start < 256 ^ 8 → n < 256 ^ 8 →
+    (partSide (partRecord side start n) ≡ side) × (partStart (partRecord side start n) ≡ start)
+    × (partLength (partRecord side start n) ≡ n)
 unfolding partSide partStart partLength partRecord sideCells lowFirst
 part-back side start n a b = (refl, low-back 8 start a, low-back 8 n b)

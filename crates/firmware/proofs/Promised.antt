@@ -1,4 +1,5 @@
--- What the promises of the exports say of any records, octets, types and directories, read off the answer's word, for whatever outcomes they allow.
+-- What the promises of the exports say of any records, octets, types and directories, read off the answer's word, for
+-- whatever outcomes they allow.
 -- Assumes nothing.
 use Prim.Native.Nat.{ℕ, _≤_}
 use mathlib.Core.Path.{_≡_, sym, _∙_, subst}
@@ -42,11 +43,14 @@ reset-gives c w c' = (κs : _) × (a : _) × (s : _) × reset.Post κs a w s × 
 
 -- a listener's record held c, and the run o: `anthercup_listen`
 abbrev pub listen-gives : List ℕ → List ℕ → ℕ → List ℕ → Type 0
-listen-gives c o w c' = (κs : _) × (a : _) × (s : _) × listen.Post κs a w s × (a .0 .now ≡ c) × (a .1 .0 .now ≡ o) × (s .0 .now ≡ c')
+listen-gives c o w c' =
+    (κs : _) × (a : _) × (s : _) × listen.Post κs a w s × (a .0 .now ≡ c) × (a .1 .0 .now ≡ o) × (s .0 .now ≡ c')
 
 -- the octets o, a draft's record that held c and an area that held t: `anthercup_read`
 abbrev pub read-gives : List ℕ → List ℕ → List ℕ → ℕ → List ℕ → List ℕ → Type 0
-read-gives o c t w c' t' = (κs : _) × (a : _) × (s : _) × read.Post κs a w s × (a .0 .now ≡ o) × (a .1 .0 .now ≡ c) × (a .1 .1 .0 .now ≡ t) × (s .1 .0 .now ≡ c') × (s .1 .1 .0 .now ≡ t')
+read-gives o c t w c' t' =
+    (κs : _) × (a : _) × (s : _) × read.Post κs a w s × (a .0 .now ≡ o) × (a .1 .0 .now ≡ c)
+    × (a .1 .1 .0 .now ≡ t) × (s .1 .0 .now ≡ c') × (s .1 .1 .0 .now ≡ t')
 
 -- a desk's record held c: `anthercup_new_desk`
 abbrev pub new-desk-gives : List ℕ → ℕ → List ℕ → Type 0
@@ -54,7 +58,8 @@ new-desk-gives c w c' = (κs : _) × (a : _) × (s : _) × new-desk-reads.Post �
 
 -- a desk's record held c, and the octets o: `anthercup_settle`
 abbrev pub settle-gives : List ℕ → List ℕ → ℕ → List ℕ → Type 0
-settle-gives c o w c' = (κs : _) × (a : _) × (s : _) × settle.Post κs a w s × (a .0 .now ≡ c) × (a .1 .0 .now ≡ o) × (s .0 .now ≡ c')
+settle-gives c o w c' =
+    (κs : _) × (a : _) × (s : _) × settle.Post κs a w s × (a .0 .now ≡ c) × (a .1 .0 .now ≡ o) × (s .0 .now ≡ c')
 
 -- the octets o and a type t: `anthercup_counted`
 abbrev pub counted-gives : List ℕ → ℕ → ℕ → Type 0
@@ -62,7 +67,9 @@ counted-gives o t w = (κs : _) × (a : _) × (s : _) × counted.Post κs a w s 
 
 -- the octets o, the directory d and a part's record that held c: `anthercup_caption`
 abbrev pub caption-gives : List ℕ → List ℕ → List ℕ → ℕ → List ℕ → Type 0
-caption-gives o d c w c' = (κs : _) × (a : _) × (s : _) × caption.Post κs a w s × (a .0 .now ≡ o) × (a .1 .0 .now ≡ d) × (a .1 .1 .0 .now ≡ c) × (s .1 .1 .0 .now ≡ c')
+caption-gives o d c w c' =
+    (κs : _) × (a : _) × (s : _) × caption.Post κs a w s × (a .0 .now ≡ o) × (a .1 .0 .now ≡ d)
+    × (a .1 .1 .0 .now ≡ c) × (s .1 .1 .0 .now ≡ c')
 
 -- ---- listening
 module _ (c : List ℕ) (w : ℕ) (c' : List ℕ) (h : reset-gives c w c') where
@@ -90,7 +97,8 @@ module _ (c o : List ℕ) (w : ℕ) (c' : List ℕ) (h : listen-gives c o w c') 
   pub sound-or-seventeen : Octets c → Sound c ⊎ Seventeen c w c'
   sound-or-seventeen q = hears.sound-or-17 c o w c' listen-word listen-cells q
 
-  -- the numbers of a sound record are 0 to 6; it is stepped by the written rule, also where no octets lead to it, and stays sound
+  -- the numbers of a sound record are 0 to 6; it is stepped by the written rule, also where no octets lead to it, and
+  -- stays sound
   pub numbers : Sound c → Octets o → wordNumber w ≤ 6
   numbers s q = hears.sound-number c s o q w listen-word
 
@@ -98,7 +106,9 @@ module _ (c o : List ℕ) (w : ℕ) (c' : List ℕ) (h : listen-gives c o w c') 
   pub sound-word : Sound c → Octets o → (k : ℕ) × (p : ℕ) × (n : ℕ) × (t : ℕ) × Unpacked k p n t w
   sound-word s q = (_, _, _, _, hears.sound-fields c s o q w listen-word)
 
-  pub by-the-rule : (s : Sound c) → (w ≡ wordOf (stepped (languageOf (s .listener .book)) (s .listener) o)) × (c' ≡ recordOf (stepped (languageOf (s .listener .book)) (s .listener) o .listener))
+  pub by-the-rule : (s : Sound c) →
+      (w ≡ wordOf (stepped (languageOf (s .listener .book)) (s .listener) o))
+      × (c' ≡ recordOf (stepped (languageOf (s .listener .book)) (s .listener) o .listener))
   by-the-rule s = hears.sound-steps c s o w c' listen-word listen-cells
 
   pub stays-sound : Sound c → Octets o → Sound c'
@@ -107,13 +117,16 @@ module _ (c o : List ℕ) (w : ℕ) (c' : List ℕ) (h : listen-gives c o w c') 
 -- the record c has heard the octets h since it was reset, call after call, the octets taken added to h
 pub data RecordHasHeard : List ℕ → List ℕ → Type 0 where
   new : (c : List ℕ) (w : ℕ) (c' : List ℕ) → length c ≡ listenerSize → reset-gives c w c' → RecordHasHeard c' []
-  more : (c h o : List ℕ) (w : ℕ) (c' : List ℕ) → RecordHasHeard c h → Octets o → listen-gives c o w c' → RecordHasHeard c' (h ++ take (wordTaken w) o)
+  more : (c h o : List ℕ) (w : ℕ) (c' : List ℕ) → RecordHasHeard c h → Octets o → listen-gives c o w c' →
+      RecordHasHeard c' (h ++ take (wordTaken w) o)
 
 pub stands : (c h : List ℕ) → RecordHasHeard c h → RecordStands c h
 stands c h (new b w d n k) = hears.reset-stands b d n (reset-cells b w d k)
-stands c h (more b g o w d k q x) = hears.record-stands-on b g (stands b g k) o q w (listen-word b o w d x) d (listen-cells b o w d x)
+stands c h (more b g o w d k q x) =
+    hears.record-stands-on b g (stands b g k) o q w (listen-word b o w d x) d (listen-cells b o w d x)
 
-module _ (c h : List ℕ) (d : RecordHasHeard c h) (o : List ℕ) (q : Octets o) (w : ℕ) (c' : List ℕ) (k : listen-gives c o w c') where
+module _ (c h : List ℕ) (d : RecordHasHeard c h) (o : List ℕ) (q : Octets o) (w : ℕ) (c' : List ℕ)
+    (k : listen-gives c o w c') where
   -- demand 3 in all its sentences, the octets taken too, read off the word
   pub demand3 : RecordHears (languageOf PresentLenient) h o w
   demand3 = hears.record-hears c h (stands c h d) o q w (listen-word c o w c' k)
@@ -122,25 +135,36 @@ module _ (c h : List ℕ) (d : RecordHasHeard c h) (o : List ℕ) (q : Octets o)
   pub never-17 : wordNumber w ≤ 6
   never-17 = hears.sound-number c (hears.stands-sound c h (stands c h d)) o q w (listen-word c o w c' k)
 
-  -- a message or a refusal, once given, is given again by each call after it, which takes none and leaves the record as it was
-  pub answer-stays : (((wordNumber w ≡ 0) × (wordSize w ≡ 0)) → ⊥) → (o' : List ℕ) (w' : ℕ) (c'' : List ℕ) → listen-gives c' o' w' c'' → (w' ≡ packed (wordNumber w) (wordPlace w) (wordSize w) 0) × (c'' ≡ c')
-  answer-stays n o' w' c'' x = hears.answer-stays c h (stands c h d) o q w (listen-word c o w c' k) c' (listen-cells c o w c' k) n o' w' c'' (listen-word c' o' w' c'' x) (listen-cells c' o' w' c'' x)
+  -- a message or a refusal, once given, is given again by each call after it, which takes none and leaves the record
+  -- as it was
+  pub answer-stays : (((wordNumber w ≡ 0) × (wordSize w ≡ 0)) → ⊥) → (o' : List ℕ) (w' : ℕ) (c'' : List ℕ) →
+      listen-gives c' o' w' c'' → (w' ≡ packed (wordNumber w) (wordPlace w) (wordSize w) 0) × (c'' ≡ c')
+  answer-stays n o' w' c'' x =
+      hears.answer-stays c h (stands c h d) o q w (listen-word c o w c' k) c' (listen-cells c o w c' k) n o' w' c''
+      (listen-word c' o' w' c'' x) (listen-cells c' o' w' c'' x)
 
 -- any cutting ends as one run does, on any record
-pub cut-anywhere : (c x y : List ℕ) (w w₁ w₂ : ℕ) (d d₁ d₂ : List ℕ) → listen-gives c (x ++ y) w d → listen-gives c x w₁ d₁ → listen-gives d₁ y w₂ d₂ → Octets c → Octets x → Octets y → SameEnd w w₁ w₂ d d₂
+pub cut-anywhere : (c x y : List ℕ) (w w₁ w₂ : ℕ) (d d₁ d₂ : List ℕ) → listen-gives c (x ++ y) w d →
+    listen-gives c x w₁ d₁ → listen-gives d₁ y w₂ d₂ → Octets c → Octets x → Octets y → SameEnd w w₁ w₂ d d₂
 cut-anywhere c x y w w₁ w₂ d d₁ d₂ h h₁ h₂ q a b =
     hears.cut-anywhere c x y w w₁ w₂ d d₁ d₂
-    (listen-word c (x ++ y) w d h) (listen-cells c (x ++ y) w d h) (listen-word c x w₁ d₁ h₁) (listen-cells c x w₁ d₁ h₁) (listen-word d₁ y w₂ d₂ h₂) (listen-cells d₁ y w₂ d₂ h₂) q a b
+    (listen-word c (x ++ y) w d h) (listen-cells c (x ++ y) w d h) (listen-word c x w₁ d₁ h₁)
+    (listen-cells c x w₁ d₁ h₁) (listen-word d₁ y w₂ d₂ h₂) (listen-cells d₁ y w₂ d₂ h₂) q a b
 
 -- ---- reading
 module _ (o c t : List ℕ) (w : ℕ) (c' t' : List ℕ) (h : read-gives o c t w c' t') where
   -- the record's size is judged first: another than 688 is 17, and nothing is touched
   pub read-seventeen : (length c ≡ draftSize → ⊥) → Seventeen c w c' × (t' ≡ t)
-  read-seventeen n = reads.unread o c t w c' t' (h .3 .0 ∙ (λ i. readAnswer (h .4 i) (h .5 i) (h .6 i))) (sym (h .7) ∙ h .3 .1 .0 ∙ (λ i. readRecord (h .4 i) (h .5 i) (h .6 i))) (sym (h .8) ∙ h .3 .1 .1 ∙ (λ i. readTexts (h .4 i) (h .5 i) (h .6 i))) n
+  read-seventeen n =
+      reads.unread o c t w c' t' (h .3 .0 ∙ (λ i. readAnswer (h .4 i) (h .5 i) (h .6 i)))
+      (sym (h .7) ∙ h .3 .1 .0 ∙ (λ i. readRecord (h .4 i) (h .5 i) (h .6 i)))
+      (sym (h .8) ∙ h .3 .1 .1 ∙ (λ i. readTexts (h .4 i) (h .5 i) (h .6 i))) n
 
   -- otherwise word, record and texts are those of the whole read
   pub record-read : Octets o → length c ≡ draftSize → RecordReads o c t w c' t'
-  record-read q n = reads.record-reads o c t w c' t' (h .3 .0 ∙ (λ i. readAnswer (h .4 i) (h .5 i) (h .6 i))) (sym (h .7) ∙ h .3 .1 .0 ∙ (λ i. readRecord (h .4 i) (h .5 i) (h .6 i))) (sym (h .8) ∙ h .3 .1 .1 ∙ (λ i. readTexts (h .4 i) (h .5 i) (h .6 i))) q n
+  record-read q n = reads.record-reads o c t w c' t' (h .3 .0 ∙ (λ i. readAnswer (h .4 i) (h .5 i) (h .6 i)))
+      (sym (h .7) ∙ h .3 .1 .0 ∙ (λ i. readRecord (h .4 i) (h .5 i) (h .6 i)))
+      (sym (h .8) ∙ h .3 .1 .1 ∙ (λ i. readTexts (h .4 i) (h .5 i) (h .6 i))) q n
 
 -- ---- the desk
 module _ (c : List ℕ) (w : ℕ) (c' : List ℕ) (h : new-desk-gives c w c') where
@@ -150,7 +174,8 @@ module _ (c : List ℕ) (w : ℕ) (c' : List ℕ) (h : new-desk-gives c w c') wh
   new-desk-cells : c' ≡ newDeskRecord c
   new-desk-cells = sym (h .5) ∙ h .3 .1 ∙ (λ i. newDeskRecord (h .4 i))
 
-  -- a record of 52 octets is that of a desk of which nothing is known and which holds no reference, whatever it held; any other is 17, and stays
+  -- a record of 52 octets is that of a desk of which nothing is known and which holds no reference, whatever it held;
+  -- any other is 17, and stays
   pub new-desk : length c ≡ deskSize → Unpacked 0 0 0 0 w × T (isRecord c') × (deskIn c' ≡ newDesk)
   new-desk n = settles.new c w c' new-desk-word new-desk-cells n
 
@@ -183,27 +208,42 @@ module _ (c o : List ℕ) (w : ℕ) (c' : List ℕ) (h : settle-gives c o w c') 
   pub refusal-stays : Octets c → Octets o → 1 ≤ wordNumber w → c' ≡ c
   refusal-stays k q n = settles.stays c o w c' settle-word settle-cells q k n
 
-  -- the same octets settled twice running: the second call leaves and answers what the first did, whatever the record was
+  -- the same octets settled twice running: the second call leaves and answers what the first did, whatever the record
+  -- was
   pub settled-twice : (v : ℕ) (c'' : List ℕ) → settle-gives c' o v c'' → Octets c → Octets o → (v ≡ w) × (c'' ≡ c')
   settled-twice v c'' k q p =
-      settles.again c o q p w c' v c'' settle-word settle-cells (k .3 .0 ∙ (λ i. settleAnswer (k .4 i) (k .5 i))) (sym (k .6) ∙ k .3 .1 ∙ (λ i. settleRecord (k .4 i) (k .5 i)))
+      settles.again c o q p w c' v c'' settle-word settle-cells (k .3 .0 ∙ (λ i. settleAnswer (k .4 i) (k .5 i)))
+      (sym (k .6) ∙ k .3 .1 ∙ (λ i. settleRecord (k .4 i) (k .5 i)))
 
 -- calls one after the other on a record, each outcome as the promise allows it
 abbrev pub RecordCalls : List ℕ → List RecordCall → List ℕ → Type 0
 RecordCalls c [] c' = c ≡ c'
-RecordCalls c (x ∷ xs) c' = settle-gives c (x .octets) (x .word) (x .cells) × Octets (x .octets) × RecordCalls (x .cells) xs c'
+RecordCalls c (x ∷ xs) c' =
+    settle-gives c (x .octets) (x .word) (x .cells) × Octets (x .octets) × RecordCalls (x .cells) xs c'
 
--- a reference is open in the record after them exactly as the last notice says that was done and added or removed it; without one, as it was before them
-pub open-by-last : (r : ℕ) (c : List ℕ) → Octets c → T (isRecord c) → (xs : List RecordCall) (c' : List ℕ) → RecordCalls c xs c' → OpenBy r (deskIn c .places) (lastSaidIn r xs none) (deskIn c' .places)
+-- a reference is open in the record after them exactly as the last notice says that was done and added or removed it;
+-- without one, as it was before them
+pub open-by-last : (r : ℕ) (c : List ℕ) → Octets c → T (isRecord c) → (xs : List RecordCall) (c' : List ℕ) →
+    RecordCalls c xs c' → OpenBy r (deskIn c .places) (lastSaidIn r xs none) (deskIn c' .places)
 open-by-last r c k t xs c' h = settles.record-open-by-last r c k t xs c' (history c xs h)
   where
     history : (c : List ℕ) (xs : List RecordCall) → RecordCalls c xs c' → settles.RecordHistory c xs c'
     history c [] h = h
-    history c (x ∷ xs) h = (h .1, settle-word c (x .octets) (x .word) (x .cells) (h .0), settle-cells c (x .octets) (x .word) (x .cells) (h .0), history (x .cells) xs (h .2))
+    history c (x ∷ xs) h = (
+      h .1,
+      settle-word c (x .octets) (x .word) (x .cells) (h .0),
+      settle-cells c (x .octets) (x .word)
+          (x .cells) (h .0),
+      history (x .cells) xs (h .2),
+    )
 
--- and what each of them says is the state and the reference of the 0DH that counts in its message, over the written rules
-pub says : (r : ℕ) (c : List ℕ) → Octets c → T (isRecord c) → (x : RecordCall) → settle-gives c (x .octets) (x .word) (x .cells) → Octets (x .octets) → SaysIn r x
-says r c k t x h q = settles.says-in c t (small-in c k) x q (settle-word c (x .octets) (x .word) (x .cells) h) (settle-cells c (x .octets) (x .word) (x .cells) h) r
+-- and what each of them says is the state and the reference of the 0DH that counts in its message, over the written
+-- rules
+pub says : (r : ℕ) (c : List ℕ) → Octets c → T (isRecord c) → (x : RecordCall) →
+    settle-gives c (x .octets) (x .word) (x .cells) → Octets (x .octets) → SaysIn r x
+says r c k t x h q =
+    settles.says-in c t (small-in c k) x q (settle-word c (x .octets) (x .word) (x .cells) h)
+    (settle-cells c (x .octets) (x .word) (x .cells) h) r
 
 -- ---- what counts, and the caption
 -- the word is that of the contents that count, or of the whole read's refusal
@@ -213,8 +253,11 @@ counted-word o t w h q = finds.record-counts o t w (h .3 ∙ (λ i. countedAnswe
 module _ (o d c : List ℕ) (w : ℕ) (c' : List ℕ) (h : caption-gives o d c w c') where
   -- the record's size is judged first: another than 24 is 17, and it stays
   pub caption-seventeen : (length c ≡ partSize → ⊥) → Seventeen c w c'
-  caption-seventeen n = finds.no-part o d c w c' (h .3 .0 ∙ (λ i. captionAnswer (h .4 i) (h .5 i) (h .6 i))) (sym (h .7) ∙ h .3 .1 ∙ (λ i. captionRecord (h .4 i) (h .5 i) (h .6 i))) n
+  caption-seventeen n =
+      finds.no-part o d c w c' (h .3 .0 ∙ (λ i. captionAnswer (h .4 i) (h .5 i) (h .6 i)))
+      (sym (h .7) ∙ h .3 .1 ∙ (λ i. captionRecord (h .4 i) (h .5 i) (h .6 i))) n
 
   -- otherwise word and record are those of the part that is found
   pub record-caption : Octets o → length c ≡ partSize → RecordFinds o d c w c'
-  record-caption q n = finds.record-finds o d c w c' (h .3 .0 ∙ (λ i. captionAnswer (h .4 i) (h .5 i) (h .6 i))) (sym (h .7) ∙ h .3 .1 ∙ (λ i. captionRecord (h .4 i) (h .5 i) (h .6 i))) q n
+  record-caption q n = finds.record-finds o d c w c' (h .3 .0 ∙ (λ i. captionAnswer (h .4 i) (h .5 i) (h .6 i)))
+      (sym (h .7) ∙ h .3 .1 ∙ (λ i. captionRecord (h .4 i) (h .5 i) (h .6 i))) q n

@@ -1,4 +1,5 @@
--- A call on a listener's record is a call on the listener that it stands for, and its word is read back field by field; a record that stands for none is 17.
+-- A call on a listener's record is a call on the listener that it stands for, and its word is read back field by
+-- field; a record that stands for none is 17.
 -- Assumes nothing.
 use Prim.Native.Nat.{ℕ, suc, _+_, _≤_, _<_}
 use mathlib.Core.Path.{_≡_, refl, sym, _∙_, ap, subst}
@@ -57,7 +58,8 @@ no-size Waits e = absurd (omega arith)
 no-size (Message n) e = absurd (omega arith)
 no-size (Refused f) e = refl
 
-read-back : (x : Heard) → Ranged (x .answer) → x .taken ≤ 258 → Unpacked (told (x .answer) .number) (told (x .answer) .place) (told (x .answer) .size) (x .taken) (wordOf x)
+read-back : (x : Heard) → Ranged (x .answer) → x .taken ≤ 258 →
+    Unpacked (told (x .answer) .number) (told (x .answer) .place) (told (x .answer) .size) (x .taken) (wordOf x)
 unfolding wordOf
 read-back x g t = let b = small-fields (x .answer) g in unpacked _ _ _ _ (b .0) (b .1) (b .2) (omega arith)
 
@@ -65,16 +67,21 @@ read-back x g t = let b = small-fields (x .answer) g in unpacked _ _ _ _ (b .0) 
 pub sound-or-not : (c : List ℕ) → Sound c ⊎ (Sound c → ⊥)
 sound-or-not c = go (decodeOf c) refl
   where
-    in-or-out : (l : Listener) → decodeOf c ≡ Known l → T (inRange (rulesOf (l .book)) (l .state)) ⊎ (T (inRange (rulesOf (l .book)) (l .state)) → ⊥) → Sound c ⊎ (Sound c → ⊥)
+    in-or-out : (l : Listener) → decodeOf c ≡ Known l →
+        T (inRange (rulesOf (l .book)) (l .state)) ⊎ (T (inRange (rulesOf (l .book)) (l .state)) → ⊥) →
+        Sound c ⊎ (Sound c → ⊥)
     in-or-out l k (inl t) = inl (record { listener = l; known = k; in-range = t })
-    in-or-out l k (inr n) = inr (λ s. let e : Known (s .listener) ≡ Known l = sym (s .known) ∙ k in let z : s .listener ≡ l = cc in n (subst (λ (x : Listener). T (inRange (rulesOf (x .book)) (x .state))) z (s .in-range)))
+    in-or-out l k (inr n) =
+        inr (λ s. let e : Known (s .listener) ≡ Known l = sym (s .known) ∙ k in let z : s .listener ≡ l = cc in
+        n (subst (λ (x : Listener). T (inRange (rulesOf (x .book)) (x .state))) z (s .in-range)))
 
     go : (y : Decoded) → decodeOf c ≡ y → Sound c ⊎ (Sound c → ⊥)
     go (Known l) k = in-or-out l k (decide (inRange (rulesOf (l .book)) (l .state)))
     go Unknown k = inr (λ s. clash (cc (s .known, k)))
 
 -- a record that is not sound is 17, whatever the octets
-unsound : (c : List ℕ) → Octets c → (Sound c → ⊥) → (o : List ℕ) → (listenAnswer c o ≡ badRecord) × (listenRecord c o ≡ c)
+unsound : (c : List ℕ) → Octets c → (Sound c → ⊥) → (o : List ℕ) →
+    (listenAnswer c o ≡ badRecord) × (listenRecord c o ≡ c)
 unfolding listenAnswer listenRecord answered recorded wordOf told
 unsound c q n o = go (decodeOf c) refl
   where
@@ -95,19 +102,34 @@ module _ (c : List ℕ) (s : Sound c) (o : List ℕ) where
   sound-record = ap (λ (y : Decoded). recorded y c o) (s .known)
 
   sound-ranged : Octets o → Ranged (heardOf (s .listener) o .answer)
-  sound-ranged q = subst Ranged (sym (ap (λ (r : Heard). r .answer) (in-range-heard (s .listener) o (s .in-range)))) (ranged (spoken-of (s .listener .book)) _ (in-range-run (spoken-of (s .listener .book)) (s .listener .state) o q (s .in-range)))
+  sound-ranged q =
+      subst Ranged (sym (ap (λ (r : Heard). r .answer) (in-range-heard (s .listener) o (s .in-range))))
+      (ranged (spoken-of (s .listener .book)) _
+      (in-range-run (spoken-of (s .listener .book)) (s .listener .state) o q (s .in-range)))
 
-  pub sound-fields : Octets o → (w : ℕ) → w ≡ listenAnswer c o → Unpacked (told (heardOf (s .listener) o .answer) .number) (told (heardOf (s .listener) o .answer) .place) (told (heardOf (s .listener) o .answer) .size) (heardOf (s .listener) o .taken) w
+  pub sound-fields : Octets o → (w : ℕ) → w ≡ listenAnswer c o →
+      Unpacked (told (heardOf (s .listener) o .answer) .number) (told (heardOf (s .listener) o .answer) .place)
+      (told (heardOf (s .listener) o .answer) .size) (heardOf (s .listener) o .taken) w
   sound-fields q w e = rw (e, sound-word) (read-back _ (sound-ranged q) (taken-small (s .listener) o q))
 
   pub good : Good (s .listener)
   good = decoded-good c (s .listener) (s .known)
 
-  abbrev pub heard-is : heardOf (s .listener) o ≡ record { listener = record { book = s .listener .book; state = run (machine (rulesOf (s .listener .book))) (s .listener .state) o }; answer = answerOf (run (machine (rulesOf (s .listener .book))) (s .listener .state) o); taken = taken (machine (rulesOf (s .listener .book))) (s .listener .state) o }
+  abbrev pub heard-is : heardOf (s .listener) o ≡
+      record {
+        listener = record {
+          book = s .listener .book;
+          state = run (machine (rulesOf (s .listener .book))) (s .listener .state) o;
+        };
+        answer = answerOf (run (machine (rulesOf (s .listener .book))) (s .listener .state) o);
+        taken = taken (machine (rulesOf (s .listener .book))) (s .listener .state) o;
+      }
   heard-is = in-range-heard (s .listener) o (s .in-range)
 
   -- it is stepped by the written rule, also where no octets lead to it: word and record
-  pub sound-steps : (w : ℕ) (d : List ℕ) → w ≡ listenAnswer c o → d ≡ listenRecord c o → (w ≡ wordOf (stepped (languageOf (s .listener .book)) (s .listener) o)) × (d ≡ recordOf (stepped (languageOf (s .listener .book)) (s .listener) o .listener))
+  pub sound-steps : (w : ℕ) (d : List ℕ) → w ≡ listenAnswer c o → d ≡ listenRecord c o →
+      (w ≡ wordOf (stepped (languageOf (s .listener .book)) (s .listener) o))
+      × (d ≡ recordOf (stepped (languageOf (s .listener .book)) (s .listener) o .listener))
   sound-steps w d e f = (
     e ∙ sound-word ∙ ap wordOf (in-range-heard (s .listener) o (s .in-range)),
     f ∙ sound-record ∙ ap (λ (y : Heard). recordOf (y .listener)) (in-range-heard (s .listener) o (s .in-range)),
@@ -117,30 +139,43 @@ module _ (c : List ℕ) (s : Sound c) (o : List ℕ) where
   abbrev pub sound-stays : Octets o → (d : List ℕ) → d ≡ listenRecord c o → Sound d
   sound-stays q d f = record {
     listener = heardOf (s .listener) o .listener;
-    known = ap decodeOf (f ∙ sound-record) ∙ decode-encode _ (ap (λ (x : Heard). x .listener .book) heard-is ∙ good .0) (subst (λ (x : Heard). Coded (x .listener .state)) (sym heard-is) (run-coded (s .listener .book) (sym (good .0)) (s .listener .state) o (good .1)));
-    in-range = subst (λ (x : Heard). T (inRange (rulesOf (x .listener .book)) (x .listener .state))) (sym (in-range-heard (s .listener) o (s .in-range))) (in-range-run (spoken-of (s .listener .book)) (s .listener .state) o q (s .in-range));
+    known =
+        ap decodeOf (f ∙ sound-record) ∙ decode-encode _ (ap (λ (x : Heard). x .listener .book) heard-is ∙ good .0)
+        (subst (λ (x : Heard). Coded (x .listener .state)) (sym heard-is)
+        (run-coded (s .listener .book) (sym (good .0)) (s .listener .state) o (good .1)));
+    in-range =
+        subst (λ (x : Heard). T (inRange (rulesOf (x .listener .book)) (x .listener .state)))
+        (sym (in-range-heard (s .listener) o (s .in-range)))
+        (in-range-run (spoken-of (s .listener .book)) (s .listener .state) o q (s .in-range));
   }
 
   -- it gets a number up to 6, or none
   pub sound-number : Octets o → (w : ℕ) → w ≡ listenAnswer c o → wordNumber w ≤ 6
   sound-number q w e =
-      let k : told (heardOf (s .listener) o .answer) .number ≤ 6 = subst (λ (x : Heard). told (x .answer) .number ≤ 6) (sym heard-is) (number-six (s .listener .book) (good .0) _ (in-range-run (spoken-of (s .listener .book)) (s .listener .state) o q (s .in-range))) in
+      let k : told (heardOf (s .listener) o .answer) .number ≤ 6 =
+      subst (λ (x : Heard). told (x .answer) .number ≤ 6) (sym heard-is)
+      (number-six (s .listener .book) (good .0) _
+      (in-range-run (spoken-of (s .listener .book)) (s .listener .state) o q (s .in-range))) in
       omega (arith, sound-fields q w e .number, k)
 
 -- every record is sound, or the call is 17 and leaves it as it was
-pub sound-or-17 : (c o : List ℕ) (w : ℕ) (d : List ℕ) → w ≡ listenAnswer c o → d ≡ listenRecord c o → Octets c → Sound c ⊎ Seventeen c w d
+pub sound-or-17 : (c o : List ℕ) (w : ℕ) (d : List ℕ) → w ≡ listenAnswer c o → d ≡ listenRecord c o → Octets c →
+    Sound c ⊎ Seventeen c w d
 sound-or-17 c o w d e f q = go (sound-or-not c)
   where
     go : Sound c ⊎ (Sound c → ⊥) → Sound c ⊎ Seventeen c w d
     go (inl s) = inl s
     go (inr n) = let u = unsound c q n o in inr (seventeen c w d (e ∙ u .0) (f ∙ u .1))
 
-module _ (c a b : List ℕ) (w w₁ w₂ : ℕ) (d d₁ d₂ : List ℕ) (e : w ≡ listenAnswer c (a ++ b)) (f : d ≡ listenRecord c (a ++ b)) (e₁ : w₁ ≡ listenAnswer c a) (f₁ : d₁ ≡ listenRecord c a) (e₂ : w₂ ≡ listenAnswer d₁ b) (f₂ : d₂ ≡ listenRecord d₁ b) (q : Octets c) (p : Octets a) (r : Octets b) where
+module _ (c a b : List ℕ) (w w₁ w₂ : ℕ) (d d₁ d₂ : List ℕ) (e : w ≡ listenAnswer c (a ++ b))
+    (f : d ≡ listenRecord c (a ++ b)) (e₁ : w₁ ≡ listenAnswer c a) (f₁ : d₁ ≡ listenRecord c a)
+    (e₂ : w₂ ≡ listenAnswer d₁ b) (f₂ : d₂ ≡ listenRecord d₁ b) (q : Octets c) (p : Octets a) (r : Octets b) where
   cut-sound : Sound c → SameEnd w w₁ w₂ d d₂
   cut-sound s =
       let l = s .listener in
       let s₁ = sound-stays c s a p d₁ f₁ in
-      let k = listening.cut-anywhere l a b p (heardOf l (a ++ b)) (heardOf l a) (heardOf (heardOf l a .listener) b) refl refl refl in
+      let k = listening.cut-anywhere l a b p (heardOf l (a ++ b)) (heardOf l a) (heardOf (heardOf l a .listener) b)
+      refl refl refl in
       let u = sound-fields c s (a ++ b) (octets-append a b p r) w e in
       let u₁ = sound-fields c s a p w₁ e₁ in
       let u₂ = sound-fields d₁ s₁ b r w₂ e₂ in
@@ -158,7 +193,9 @@ module _ (c a b : List ℕ) (w w₁ w₂ : ℕ) (d d₁ d₂ : List ℕ) (e : w 
       let v₂ = unsound c q n b in
       let z = seventeen c w d (e ∙ unsound c q n (a ++ b) .0) (f ∙ unsound c q n (a ++ b) .1) in
       let z₁ = seventeen c w₁ d₁ (e₁ ∙ unsound c q n a .0) v in
-      let z₂ = seventeen c w₂ d₂ (e₂ ∙ ap (λ (x : List ℕ). listenAnswer x b) v ∙ v₂ .0) (f₂ ∙ ap (λ (x : List ℕ). listenRecord x b) v ∙ v₂ .1) in
+      let z₂ =
+      seventeen c w₂ d₂ (e₂ ∙ ap (λ (x : List ℕ). listenAnswer x b) v ∙ v₂ .0)
+      (f₂ ∙ ap (λ (x : List ℕ). listenRecord x b) v ∙ v₂ .1) in
       record {
         left = z .cells ∙ sym (z₂ .cells);
         number = z .word .number ∙ sym (z₂ .word .number);
@@ -176,7 +213,8 @@ module _ (c a b : List ℕ) (w w₁ w₂ : ℕ) (d d₁ d₂ : List ℕ) (e : w 
 
 -- ---- a record that was reset, and any octets
 abbrev pub stands-sound : (c h : List ℕ) → RecordStands c h → Sound c
-stands-sound c h s = record { listener = s .listener; known = s .known; in-range = stands-in-range (s .listener) h (s .stands) }
+stands-sound c h s =
+    record { listener = s .listener; known = s .known; in-range = stands-in-range (s .listener) h (s .stands) }
 
 module _ (c h : List ℕ) (s : RecordStands c h) (o : List ℕ) (q : Octets o) (w : ℕ) (e : w ≡ listenAnswer c o) where
   abbrev heard : Heard
@@ -195,19 +233,32 @@ module _ (c h : List ℕ) (s : RecordStands c h) (o : List ℕ) (q : Octets o) (
         waits = rw (fields .number, fields .size) (Iff·trans (waits-told _ g) (said .waits));
         has-message = λ n l. rw (fields .size) (Iff·trans (message-told _ n l) (said .has-message n));
         refuses = λ f l. rw (fields .number, fields .place) (Iff·trans (refused-told _ f l) (said .refuses f));
-        taken-waiting = λ a b. fields .taken ∙ said .taken-waiting (waits-told _ g .0 (sym (fields .number) ∙ a, sym (fields .size) ∙ b));
-        taken-message = λ n l a. ap (λ (t : ℕ). length h + t) (fields .taken) ∙ said .taken-message n (message-told _ n l .0 (sym (fields .size) ∙ a));
+        taken-waiting =
+            λ a b. fields .taken ∙ said .taken-waiting
+            (waits-told _ g .0 (sym (fields .number) ∙ a, sym (fields .size) ∙ b));
+        taken-message =
+            λ n l a. ap (λ (t : ℕ). length h + t) (fields .taken)
+            ∙ said .taken-message n (message-told _ n l .0 (sym (fields .size) ∙ a));
         taken-refused = λ l.
             let f : Fault = record { number = told (heard .answer) .number; place = told (heard .answer) .place } in
-            ap (λ (t : ℕ). length h + t) (fields .taken) ∙ said .taken-refused f (refused-told _ f (omega (arith, fields .number)) .0 (refl, refl)) ∙ ap suc (sym (fields .place));
+            ap (λ (t : ℕ). length h + t) (fields .taken)
+            ∙ said .taken-refused f (refused-told _ f (omega (arith, fields .number)) .0 (refl, refl))
+            ∙ ap suc (sym (fields .place));
         no-place = λ a. fields .place ∙ no-place _ g (sym (fields .number) ∙ a);
         no-size = λ l. fields .size ∙ no-size _ (omega (arith, fields .number));
-        whole = let u = sym (fields .number) in let v = sym (fields .place) in let x = sym (fields .size) in let y = sym (fields .taken) in fields .whole ∙ (λ i. packed (u i) (v i) (x i) (y i));
-        answers-by-258 = λ a b. said .answers-by-258 (waits-told _ g .0 (sym (fields .number) ∙ a, sym (fields .size) ∙ b));
+        whole =
+            let u = sym (fields .number) in
+            let v = sym (fields .place) in
+            let x = sym (fields .size) in
+            let y = sym (fields .taken) in
+            fields .whole ∙ (λ i. packed (u i) (v i) (x i) (y i));
+        answers-by-258 =
+            λ a b. said .answers-by-258 (waits-told _ g .0 (sym (fields .number) ∙ a, sym (fields .size) ∙ b));
       }
 
   pub record-hears : RecordHears (languageOf PresentLenient) h o w
-  record-hears = subst (λ (b : Book). RecordHears (languageOf b) h o w) (decoded-good c (s .listener) (s .known) .0) record-hears-in
+  record-hears = subst (λ (b : Book). RecordHears (languageOf b) h o w)
+      (decoded-good c (s .listener) (s .known) .0) record-hears-in
 
   pub record-stands-on : (d : List ℕ) → d ≡ listenRecord c o → RecordStands d (h ++ take (wordTaken w) o)
   record-stands-on d f = record {
@@ -217,8 +268,10 @@ module _ (c h : List ℕ) (s : RecordStands c h) (o : List ℕ) (q : Octets o) (
   }
 
 -- an answer that a call gave, the next call on the record gives again, takes none and leaves the record as it was
-module _ (c h : List ℕ) (s : RecordStands c h) (o : List ℕ) (q : Octets o) (w : ℕ) (e : w ≡ listenAnswer c o) (d : List ℕ) (f : d ≡ listenRecord c o) where
-  pub answer-stays : (((wordNumber w ≡ 0) × (wordSize w ≡ 0)) → ⊥) → (o' : List ℕ) (w' : ℕ) (d' : List ℕ) → w' ≡ listenAnswer d o' → d' ≡ listenRecord d o' → (w' ≡ packed (wordNumber w) (wordPlace w) (wordSize w) 0) × (d' ≡ d)
+module _ (c h : List ℕ) (s : RecordStands c h) (o : List ℕ) (q : Octets o) (w : ℕ) (e : w ≡ listenAnswer c o)
+    (d : List ℕ) (f : d ≡ listenRecord c o) where
+  pub answer-stays : (((wordNumber w ≡ 0) × (wordSize w ≡ 0)) → ⊥) → (o' : List ℕ) (w' : ℕ) (d' : List ℕ) →
+      w' ≡ listenAnswer d o' → d' ≡ listenRecord d o' → (w' ≡ packed (wordNumber w) (wordPlace w) (wordSize w) 0) × (d' ≡ d)
   unfolding wordOf
   answer-stays n o' w' d' e' f' =
       let l = s .listener in
@@ -226,12 +279,14 @@ module _ (c h : List ℕ) (s : RecordStands c h) (o : List ℕ) (q : Octets o) (
       let g = sound-ranged c (stands-sound c h s) o q in
       let u = fields c h s o q w e in
       let t = sound-stays c (stands-sound c h s) o q d f in
-      let k = listening.answer-stays l h (s .stands) o q r refl (λ z. let y = waits-told _ g .1 z in n (u .number ∙ y .0, u .size ∙ y .1)) o' (heardOf (r .listener) o') refl in
+      let k = listening.answer-stays l h (s .stands) o q r refl
+      (λ z. let y = waits-told _ g .1 z in n (u .number ∙ y .0, u .size ∙ y .1)) o' (heardOf (r .listener) o') refl in
       let x = sym (u .number) in
       let y = sym (u .place) in
       let z = sym (u .size) in (
         e' ∙ sound-word d t o' ∙ ap wordOf k ∙ (λ i. packed (x i) (y i) (z i) 0),
-        f' ∙ sound-record d t o' ∙ ap (λ (v : Heard). recordOf (v .listener)) k ∙ sym (f ∙ sound-record c (stands-sound c h s) o),
+        f' ∙ sound-record d t o' ∙ ap (λ (v : Heard). recordOf (v .listener)) k
+            ∙ sym (f ∙ sound-record c (stands-sound c h s) o),
       )
 
 -- ---- reset
@@ -239,14 +294,25 @@ pub reset-stands : (c d : List ℕ) → length c ≡ listenerSize → d ≡ rese
 unfolding resetRecord newListener machine
 reset-stands c d n e =
     let k : d ≡ recordOf (newListener PresentLenient) = e ∙ pick-yes _ _ _ (of-eq _ _ n) in
-    record { listener = newListener PresentLenient; known = ap decodeOf k ∙ decode-encode (newListener PresentLenient) refl tt; stands = new-stands PresentLenient }
+    record {
+      listener = newListener PresentLenient;
+      known = ap decodeOf k ∙ decode-encode (newListener PresentLenient) refl tt;
+      stands = new-stands PresentLenient;
+    }
 
-pub reset-new : (c : List ℕ) (w : ℕ) (d : List ℕ) → w ≡ resetAnswer c → d ≡ resetRecord c → length c ≡ listenerSize → Unpacked 0 0 0 0 w × (d ≡ recordOf (newListener PresentLenient))
+pub reset-new : (c : List ℕ) (w : ℕ) (d : List ℕ) → w ≡ resetAnswer c → d ≡ resetRecord c →
+    length c ≡ listenerSize → Unpacked 0 0 0 0 w × (d ≡ recordOf (newListener PresentLenient))
 unfolding resetAnswer resetRecord
 reset-new c w d e f n =
-    let t = of-eq _ _ n in
-    (subst (Unpacked 0 0 0 0) (sym (e ∙ pick-yes _ _ _ t)) (unpacked 0 0 0 0 (omega arith) (omega arith) (omega arith) (omega arith)), f ∙ pick-yes _ _ _ t)
+    let t = of-eq _ _ n in (
+      subst (Unpacked 0 0 0 0) (sym (e ∙ pick-yes _ _ _ t))
+          (unpacked 0 0 0 0 (omega arith) (omega arith) (omega arith) (omega arith)),
+      f ∙ pick-yes _ _ _ t,
+    )
 
-pub reset-17 : (c : List ℕ) (w : ℕ) (d : List ℕ) → w ≡ resetAnswer c → d ≡ resetRecord c → (length c ≡ listenerSize → ⊥) → Seventeen c w d
+pub reset-17 : (c : List ℕ) (w : ℕ) (d : List ℕ) → w ≡ resetAnswer c → d ≡ resetRecord c →
+    (length c ≡ listenerSize → ⊥) → Seventeen c w d
 unfolding resetAnswer resetRecord
-reset-17 c w d e f n = let k : T (length c =? listenerSize) → ⊥ = λ t. n (eq-of _ _ t) in seventeen c w d (e ∙ pick-not _ _ _ k) (f ∙ pick-not _ _ _ k)
+reset-17 c w d e f n =
+    let k : T (length c =? listenerSize) → ⊥ = λ t. n (eq-of _ _ t) in
+    seventeen c w d (e ∙ pick-not _ _ _ k) (f ∙ pick-not _ _ _ k)

@@ -1,5 +1,5 @@
--- What counts and the caption through the exports are the verdict, the part that counts and the part found, their answers packed into a word that is read
--- back.
+-- What counts and the caption through the exports are the verdict, the part that counts and the part found, their
+-- answers packed into a word that is read back.
 -- Assumes nothing.
 use Prim.Native.Nat.{ℕ, _≤_, _<_, _^_}
 use mathlib.Core.Path.{_≡_, refl, sym, _∙_, ap, subst}
@@ -39,11 +39,13 @@ use Rattle.firmware.specs.RecordParts.{RecordCounts, RecordFinds}
 use Rattle.firmware.specs.Sizes.{partSize}
 
 -- number and place of a verdict fit their octets
-refusal-word : (o : List ℕ) → Octets o → (f : Fault) → verdictOf (rulesOf PresentLenient) o ≡ Declined f → Unpacked (f .number) (f .place) 0 0 (packed (f .number) (f .place) 0 0)
+refusal-word : (o : List ℕ) → Octets o → (f : Fault) → verdictOf (rulesOf PresentLenient) o ≡ Declined f →
+    Unpacked (f .number) (f .place) 0 0 (packed (f .number) (f .place) 0 0)
 refusal-word o q f e =
     let j = judges-of PresentLenient o q in
     unpacked (f .number) (f .place) 0 0
-    (omega (arith, told-small (spoken-of PresentLenient) _ (j .numbers f e) .1)) (omega (arith, near-declined j f e)) (omega arith) (omega arith)
+    (omega (arith, told-small (spoken-of PresentLenient) _ (j .numbers f e) .1))
+    (omega (arith, near-declined j f e)) (omega arith) (omega arith)
 
 module _ (o : List ℕ) (t w : ℕ) (a : w ≡ countedAnswer o t) (q : Octets o) where
   abbrev v : Verdict
@@ -53,28 +55,37 @@ module _ (o : List ℕ) (t w : ℕ) (a : w ≡ countedAnswer o t) (q : Octets o)
   unfolding countedAnswer countedUnder
   refused-is f e = a ∙ ap (λ (x : Verdict). countedUnder x o t) e
 
-  part-is : (m : Message) → LegalMessage (rulesOf PresentLenient) m → octets m ≡ o → w ≡ partWord (countedAt (rulesOf PresentLenient) o t)
+  part-is : (m : Message) → LegalMessage (rulesOf PresentLenient) m → octets m ≡ o →
+      w ≡ partWord (countedAt (rulesOf PresentLenient) o t)
   unfolding countedAnswer countedUnder
-  part-is m l e = a ∙ ap (λ (x : Verdict). countedUnder x o t) (judges-of PresentLenient o q .accepted (length o) .1 (refl, (m, l, e)))
+  part-is m l e =
+      a ∙ ap (λ (x : Verdict). countedUnder x o t)
+      (judges-of PresentLenient o q .accepted (length o) .1 (refl, (m, l, e)))
 
-  counts-word : (m : Message) → LegalMessage (rulesOf PresentLenient) m → octets m ≡ o → (x : List ℕ) (c : Counts (rulesOf PresentLenient) m t x) → Unpacked 0 0 (length x) (contentsAt (c .first)) w
+  counts-word : (m : Message) → LegalMessage (rulesOf PresentLenient) m → octets m ≡ o →
+      (x : List ℕ) (c : Counts (rulesOf PresentLenient) m t x) → Unpacked 0 0 (length x) (contentsAt (c .first)) w
   unfolding partWord
   counts-word m l e x c =
-      let p = ap (λ (z : List ℕ). countedAt (rulesOf PresentLenient) z t) (sym e) ∙ counted-at (rulesOf PresentLenient) m t x c in
+      let p = ap (λ (z : List ℕ). countedAt (rulesOf PresentLenient) z t) (sym e)
+      ∙ counted-at (rulesOf PresentLenient) m t x c in
       let i = counted-inside o (rulesOf PresentLenient) t _ _ p in
       let n = accepted-size (rulesOf PresentLenient) o (m, l, e) .1 in
       subst (Unpacked 0 0 (length x) (contentsAt (c .first))) (sym (part-is m l e ∙ ap partWord p))
-      (unpacked 0 0 (length x) (contentsAt (c .first)) (omega arith) (omega arith) (omega (arith, i, n)) (omega (arith, i, n)))
+      (unpacked 0 0 (length x) (contentsAt (c .first)) (omega arith) (omega arith) (omega (arith, i, n))
+      (omega (arith, i, n)))
 
   nowhere : (p : Part) → partOf o p ≡ none → partWord p ≡ packed 0 0 0 0
   unfolding partOf partWord
   nowhere (At start n) e = clash cc
   nowhere Nowhere e = refl
 
-  none-word : (m : Message) → LegalMessage (rulesOf PresentLenient) m → octets m ≡ o → counted (rulesOf PresentLenient) m t ≡ none → Unpacked 0 0 0 0 w
+  none-word : (m : Message) → LegalMessage (rulesOf PresentLenient) m → octets m ≡ o →
+      counted (rulesOf PresentLenient) m t ≡ none → Unpacked 0 0 0 0 w
   none-word m l e n =
-      let p = ap (λ (z : List ℕ). partOf z (countedAt (rulesOf PresentLenient) z t)) (sym e) ∙ counted-part (rulesOf PresentLenient) m t ∙ n in
-      subst (Unpacked 0 0 0 0) (sym (part-is m l e ∙ nowhere _ p)) (unpacked 0 0 0 0 (omega arith) (omega arith) (omega arith) (omega arith))
+      let p = ap (λ (z : List ℕ). partOf z (countedAt (rulesOf PresentLenient) z t)) (sym e)
+      ∙ counted-part (rulesOf PresentLenient) m t ∙ n in
+      subst (Unpacked 0 0 0 0) (sym (part-is m l e ∙ nowhere _ p))
+      (unpacked 0 0 0 0 (omega arith) (omega arith) (omega arith) (omega arith))
 
   pub record-counts : RecordCounts o t w
   record-counts = record {
@@ -89,13 +100,16 @@ module _ (o d c : List ℕ) (w : ℕ) (c' : List ℕ) (a : w ≡ captionAnswer o
   -- another size than 24 is 17, and the record stays
   pub no-part : (length c ≡ partSize → ⊥) → Seventeen c w c'
   unfolding captionAnswer captionRecord
-  no-part n = let f : T (length c =? partSize) → ⊥ = λ x. n (eq-of _ _ x) in seventeen c w c' (a ∙ pick-not _ _ _ f) (b ∙ pick-not _ _ _ f)
+  no-part n =
+      let f : T (length c =? partSize) → ⊥ = λ x. n (eq-of _ _ x) in
+      seventeen c w c' (a ∙ pick-not _ _ _ f) (b ∙ pick-not _ _ _ f)
 
   module _ (q : Octets o) (n : length c ≡ partSize) where
     abbrev r : Shown
     r = findOf (rulesOf PresentLenient) o d
 
-    found-small : (x : Shown) → ((f : Fault) → x ≡ found.Refused f → (f .number < 256) × (f .place ≤ 258)) → (told x .number < 256) × (told x .place ≤ 258)
+    found-small : (x : Shown) → ((f : Fault) → x ≡ found.Refused f → (f .number < 256) × (f .place ≤ 258)) →
+        (told x .number < 256) × (told x .place ≤ 258)
     unfolding told
     found-small (found.InMessage start k) h = (omega arith, omega arith)
     found-small (found.InDirectory start k) h = (omega arith, omega arith)
@@ -105,7 +119,11 @@ module _ (o d c : List ℕ) (w : ℕ) (c' : List ℕ) (a : w ≡ captionAnswer o
     unfolding captionAnswer foundWord
     word-is =
         let x = finds PresentLenient o d q in
-        let k = found-small r (λ f e. let y = x .refused f .0 e in (omega (arith, told-small (spoken-of PresentLenient) _ (x .judged .numbers f y) .1), near-declined (x .judged) f y)) in
+        let k = found-small r (λ f e. let y = x .refused f .0 e in (
+          omega (arith, told-small (spoken-of PresentLenient) _ (x .judged .numbers f y) .1),
+          near-declined
+              (x .judged) f y,
+        )) in
         subst (Unpacked (told r .number) (told r .place) 0 0)
         (sym (a ∙ pick-yes (length c =? partSize) _ badRecord (of-eq _ _ n)))
         (unpacked (told r .number) (told r .place) 0 0 (k .0) (omega (arith, k .1)) (omega arith) (omega arith))
@@ -114,7 +132,8 @@ module _ (o d c : List ℕ) (w : ℕ) (c' : List ℕ) (a : w ≡ captionAnswer o
     unfolding captionRecord
     cells-are = b ∙ pick-yes (length c =? partSize) _ c (of-eq _ _ n)
 
-    part-from : (x : Shown) → ((f : Fault) → x ≡ found.Refused f → 1 ≤ f .number) → told x .number ≡ 0 → partFrom c x ≡ partRecord (told x .side) (told x .start) (told x .size)
+    part-from : (x : Shown) → ((f : Fault) → x ≡ found.Refused f → 1 ≤ f .number) → told x .number ≡ 0 →
+        partFrom c x ≡ partRecord (told x .side) (told x .start) (told x .size)
     unfolding partFrom told
     part-from (found.InMessage start k) h e = refl
     part-from (found.InDirectory start k) h e = refl
@@ -130,13 +149,16 @@ module _ (o d c : List ℕ) (w : ℕ) (c' : List ℕ) (a : w ≡ captionAnswer o
     part-is-found : told r .number ≡ 0 → c' ≡ partRecord (told r .side) (told r .start) (told r .size)
     part-is-found e =
         let x = finds PresentLenient o d q in
-        cells-are ∙ part-from r (λ f k. told-small (spoken-of PresentLenient) _ (x .judged .numbers f (x .refused f .0 k)) .0) e
+        cells-are
+        ∙ part-from r (λ f k. told-small (spoken-of PresentLenient) _ (x .judged .numbers f (x .refused f .0 k)) .0) e
 
-    back : length d < 256 ^ 8 → told r .number ≡ 0 → (partSide c' ≡ told r .side) × (partStart c' ≡ told r .start) × (partLength c' ≡ told r .size)
+    back : length d < 256 ^ 8 → told r .number ≡ 0 →
+        (partSide c' ≡ told r .side) × (partStart c' ≡ told r .start) × (partLength c' ≡ told r .size)
     back h e =
         let x = finds PresentLenient o d q in
         let i = slices-small h (accepted-size (rulesOf PresentLenient) o (x .done .0 e) .1) r in
-        subst (λ (z : List ℕ). (partSide z ≡ told r .side) × (partStart z ≡ told r .start) × (partLength z ≡ told r .size)) (sym (part-is-found e))
+        subst (λ (z : List ℕ). (partSide z ≡ told r .side) × (partStart z ≡ told r .start)
+        × (partLength z ≡ told r .size)) (sym (part-is-found e))
         (part-back (told r .side) (told r .start) (told r .size)
         (omega (arith, i, x .inside)) (omega (arith, i, x .inside)))
 

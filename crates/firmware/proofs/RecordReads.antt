@@ -30,12 +30,16 @@ use Rattle.firmware.specs.Exports.{badRecord, packedWord, recordFrom, re
 use Rattle.firmware.specs.RecordReads.{RecordReads}
 use Rattle.firmware.specs.Sizes.{draftSize}
 
-module _ (o c t : List ℕ) (w : ℕ) (c' t' : List ℕ) (a : w ≡ readAnswer o c t) (b : c' ≡ readRecord o c t) (d : t' ≡ readTexts o c t) where
+module _ (o c t : List ℕ) (w : ℕ) (c' t' : List ℕ) (a : w ≡ readAnswer o c t) (b : c' ≡ readRecord o c t)
+    (d : t' ≡ readTexts o c t) where
   pub unread : (length c ≡ draftSize → ⊥) → Seventeen c w c' × (t' ≡ t)
   unfolding readAnswer readRecord readTexts
   unread n =
-      let f : T (length c =? draftSize) → ⊥ = λ x. n (eq-of _ _ x) in
-      (seventeen c w c' (a ∙ pick-not (length c =? draftSize) _ badRecord f) (b ∙ pick-not (length c =? draftSize) _ c f), d ∙ pick-not (length c =? draftSize) _ t f)
+      let f : T (length c =? draftSize) → ⊥ = λ x. n (eq-of _ _ x) in (
+        seventeen c w c' (a ∙ pick-not (length c =? draftSize) _ badRecord f)
+            (b ∙ pick-not (length c =? draftSize) _ c f),
+        d ∙ pick-not (length c =? draftSize) _ t f,
+      )
 
   module _ (q : Octets o) (n : length c ≡ draftSize) where
     abbrev p : Packed
@@ -45,8 +49,10 @@ module _ (o c t : List ℕ) (w : ℕ) (c' t' : List ℕ) (a : w ≡ readAnswer o
     unfolding readAnswer packedWord
     word-is =
         let k = near (rulesOf PresentLenient) (sound-rules PresentLenient) o t q in
-        subst (Unpacked (told p .number) (told p .place) (told p .size) 0) (sym (a ∙ pick-yes (length c =? draftSize) _ badRecord (of-eq _ _ n)))
-        (unpacked (told p .number) (told p .place) (told p .size) 0 (omega (arith, k .number)) (omega (arith, k .place)) (omega (arith, k .size)) (omega arith))
+        subst (Unpacked (told p .number) (told p .place) (told p .size) 0)
+        (sym (a ∙ pick-yes (length c =? draftSize) _ badRecord (of-eq _ _ n)))
+        (unpacked (told p .number) (told p .place) (told p .size) 0 (omega (arith, k .number))
+        (omega (arith, k .place)) (omega (arith, k .size)) (omega arith))
 
     cells-are : c' ≡ recordFrom o c p
     unfolding readRecord
@@ -60,28 +66,49 @@ module _ (o c t : List ℕ) (w : ℕ) (c' t' : List ℕ) (a : w ≡ readAnswer o
     r = readOf (rulesOf PresentLenient) o (length t)
 
     reads-is : Reads (rulesOf PresentLenient) o t r t'
-    reads-is = subst (Reads (rulesOf PresentLenient) o t r) (sym texts-are) (reads-of (rulesOf PresentLenient) (sound-rules PresentLenient) o t q)
+    reads-is =
+        subst (Reads (rulesOf PresentLenient) o t r) (sym texts-are)
+        (reads-of (rulesOf PresentLenient) (sound-rules PresentLenient) o t q)
 
     record-of : (k : ℕ) → r .answer ≡ Texts k → c' ≡ draftRecord (r .draft)
     unfolding readOf draftFrom recordFrom
-    record-of k e = cells-are ∙ ap (recordFrom o c) e ∙ sym (ap (λ (x : Packed). draftRecord (draftFrom (rulesOf PresentLenient) o x)) e)
+    record-of k e = cells-are ∙ ap (recordFrom o c) e
+        ∙ sym (ap (λ (x : Packed). draftRecord (draftFrom (rulesOf PresentLenient) o x)) e)
 
     -- an accepted message that was read had room for its texts, which are 253 octets at most
-    back : (k : ℕ) → r .answer ≡ Texts k → (getD c' 0 0 ≡ r .draft .kind) × (getD c' 1 0 ≡ r .draft .count) × ((i : ℕ) → entryIn c' i ≡ getD (r .draft .entries) i noEntry)
+    back : (k : ℕ) → r .answer ≡ Texts k →
+        (getD c' 0 0 ≡ r .draft .kind) × (getD c' 1 0 ≡ r .draft .count)
+        × ((i : ℕ) → entryIn c' i ≡ getD (r .draft .entries) i noEntry)
     unfolding draftRecord
-    back k e = go (reads-is .only k e) (decide (length (texts (rulesOf PresentLenient) (reads-is .only k e .0)) ≤? length t))
+    back k e =
+        go (reads-is .only k e) (decide (length (texts (rulesOf PresentLenient) (reads-is .only k e .0)) ≤? length t))
       where
-        of-draft : (x : Draft) → r .draft ≡ x → ((i : ℕ) → entryIn (draftRecord x) i ≡ getD (x .entries) i noEntry) → (getD c' 0 0 ≡ r .draft .kind) × (getD c' 1 0 ≡ r .draft .count) × ((i : ℕ) → entryIn c' i ≡ getD (r .draft .entries) i noEntry)
+        of-draft : (x : Draft) → r .draft ≡ x →
+            ((i : ℕ) → entryIn (draftRecord x) i ≡ getD (x .entries) i noEntry) →
+            (getD c' 0 0 ≡ r .draft .kind) × (getD c' 1 0 ≡ r .draft .count)
+            × ((i : ℕ) → entryIn c' i ≡ getD (r .draft .entries) i noEntry)
         of-draft x z f =
-            let g = record-of k e ∙ ap draftRecord z in
-            (ap (λ (l : List ℕ). getD l 0 0) g ∙ sym (ap (λ (y : Draft). y .kind) z), ap (λ (l : List ℕ). getD l 1 0) g ∙ sym (ap (λ (y : Draft). y .count) z), λ i. ap (λ (l : List ℕ). entryIn l i) g ∙ f i ∙ sym (ap (λ (y : Draft). getD (y .entries) i noEntry) z))
+            let g = record-of k e ∙ ap draftRecord z in (
+              ap (λ (l : List ℕ). getD l 0 0) g
+                  ∙ sym (ap (λ (y : Draft). y .kind) z),
+              ap (λ (l : List ℕ). getD l 1 0) g
+                  ∙ sym (ap (λ (y : Draft). y .count) z),
+              λ i. ap (λ (l : List ℕ). entryIn l i) g ∙ f i
+                  ∙ sym (ap (λ (y : Draft). getD (y .entries) i noEntry) z),
+            )
 
-        go : (w : Accepts (rulesOf PresentLenient) o) → T (length (texts (rulesOf PresentLenient) (w .0)) ≤? length t) ⊎ (T (length (texts (rulesOf PresentLenient) (w .0)) ≤? length t) → ⊥) → (getD c' 0 0 ≡ r .draft .kind) × (getD c' 1 0 ≡ r .draft .count) × ((i : ℕ) → entryIn c' i ≡ getD (r .draft .entries) i noEntry)
+        go : (w : Accepts (rulesOf PresentLenient) o) →
+            T (length (texts (rulesOf PresentLenient) (w .0)) ≤? length t)
+            ⊎ (T (length (texts (rulesOf PresentLenient) (w .0)) ≤? length t) → ⊥) →
+            (getD c' 0 0 ≡ r .draft .kind) × (getD c' 1 0 ≡ r .draft .count)
+            × ((i : ℕ) → entryIn c' i ≡ getD (r .draft .entries) i noEntry)
         go (m, l, z) (inl h) =
             let x = reads-is .drafted m l z (le-of _ _ h) in
             of-draft (draftOf (rulesOf PresentLenient) m) (ap (λ (y : Reading). y .draft) (x .0))
-            (λ i. entry-back (draftOf (rulesOf PresentLenient) m) i (texts (rulesOf PresentLenient) m) (omega (arith, area-enough (rulesOf PresentLenient) m l)) (draft-inside (rulesOf PresentLenient) m i))
-        go (m, l, z) (inr h) = clash (cc (e, reads-is .short (length (texts (rulesOf PresentLenient) m)) .1 (m, l, z, refl, not-le _ _ h)))
+            (λ i. entry-back (draftOf (rulesOf PresentLenient) m) i (texts (rulesOf PresentLenient) m)
+            (omega (arith, area-enough (rulesOf PresentLenient) m l)) (draft-inside (rulesOf PresentLenient) m i))
+        go (m, l, z) (inr h) =
+            clash (cc (e, reads-is .short (length (texts (rulesOf PresentLenient) m)) .1 (m, l, z, refl, not-le _ _ h)))
 
     pub record-reads : RecordReads o c t w c' t'
     unfolding readOf draftFrom recordFrom

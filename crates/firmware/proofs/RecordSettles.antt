@@ -1,4 +1,5 @@
--- A desk's record is settled on as promised: the desk that it holds is settled, and the record of what that leaves is written.
+-- A desk's record is settled on as promised: the desk that it holds is settled, and the record of what that leaves is
+-- written.
 -- Assumes nothing.
 use Prim.Native.Nat.{ℕ, _≤_}
 use mathlib.Core.Path.{_≡_, refl, sym, _∙_, ap, subst}
@@ -51,7 +52,8 @@ module _ (d : Desk) (o : List ℕ) (x : Outcome) (s : Settles (rulesOf PresentLe
   number-small Done e = omega arith
   number-small (Refused f) e = go (s .numbers f e)
     where
-      go : T (verdictNumber (languageOf PresentLenient) (f .number)) ⊎ ((f .number ≡ 17) ⊎ (f .number ≡ 21)) → f .number ≤ 21
+      go : T (verdictNumber (languageOf PresentLenient) (f .number)) ⊎ ((f .number ≡ 17) ⊎ (f .number ≡ 21)) →
+          f .number ≤ 21
       go (inl h) = omega (arith, told-small (spoken-of PresentLenient) _ h .1)
       go (inr (inl h)) = omega (arith, h)
       go (inr (inr h)) = omega (arith, h)
@@ -61,7 +63,8 @@ module _ (d : Desk) (o : List ℕ) (x : Outcome) (s : Settles (rulesOf PresentLe
   near Done e = omega arith
   near (Refused f) e = go (s .numbers f e)
     where
-      go : T (verdictNumber (languageOf PresentLenient) (f .number)) ⊎ ((f .number ≡ 17) ⊎ (f .number ≡ 21)) → f .place ≤ 258
+      go : T (verdictNumber (languageOf PresentLenient) (f .number)) ⊎ ((f .number ≡ 17) ⊎ (f .number ≡ 21)) →
+          f .place ≤ 258
       go (inl h) = near-declined (s .judged) f (s .refused f h .0 e .1)
       go (inr (inl h)) = omega (arith, s .seventeen (f .place) .0 (e ∙ ap Refused (fault-of f 17 h)) .0)
       go (inr (inr h)) = omega (arith, s .full (f .place) .0 (e ∙ ap Refused (fault-of f 21 h)) .0)
@@ -71,13 +74,17 @@ module _ (c o : List ℕ) (w : ℕ) (c' : List ℕ) (a : w ≡ settleAnswer c o)
   unfolding settleAnswer settleRecord
   seventeen n = word.seventeen c w c' (a ∙ pick-not _ _ _ n) (b ∙ pick-not _ _ _ n)
 
-  settled-word : Octets o → T (isRecord c) → Unpacked (told (settleOf (rulesOf PresentLenient) (deskIn c) o .answer) .number) (told (settleOf (rulesOf PresentLenient) (deskIn c) o .answer) .place) 0 0 w
+  settled-word : Octets o → T (isRecord c) →
+      Unpacked (told (settleOf (rulesOf PresentLenient) (deskIn c) o .answer) .number)
+      (told (settleOf (rulesOf PresentLenient) (deskIn c) o .answer) .place) 0 0 w
   unfolding settleAnswer deskWord
   settled-word q t =
       let x = settleOf (rulesOf PresentLenient) (deskIn c) o in
       let s = settles.settles PresentLenient (deskIn c) o q in
       subst (Unpacked (told (x .answer) .number) (told (x .answer) .place) 0 0) (sym (a ∙ pick-yes _ _ _ t))
-      (unpacked (told (x .answer) .number) (told (x .answer) .place) 0 0 (omega (arith, number-small (deskIn c) o x s (x .answer) refl)) (omega (arith, near (deskIn c) o x s (x .answer) refl)) (omega arith) (omega arith))
+      (unpacked (told (x .answer) .number) (told (x .answer) .place) 0 0
+      (omega (arith, number-small (deskIn c) o x s (x .answer) refl))
+      (omega (arith, near (deskIn c) o x s (x .answer) refl)) (omega arith) (omega arith))
 
   pub record-settles : Octets o → T (isRecord c) → RecordSettles (deskIn c) o w c'
   unfolding settleRecord
@@ -90,7 +97,8 @@ module _ (c o : List ℕ) (w : ℕ) (c' : List ℕ) (a : w ≡ settleAnswer c o)
 
   module _ (q : Octets o) where
     -- what the word's number says of the answer
-    number-of : (t : T (isRecord c)) (y : RecordSettles (deskIn c) o w c') (k : Answer) → y .outcome .answer ≡ k → wordNumber w ≡ told k .number
+    number-of : (t : T (isRecord c)) (y : RecordSettles (deskIn c) o w c') (k : Answer) → y .outcome .answer ≡ k →
+        wordNumber w ≡ told k .number
     number-of t y k e = y .word .number ∙ ap (λ (x : Answer). told x .number) e
 
     -- 17 exactly for a record of another size, with a code or number out of range, or with a reference twice
@@ -98,14 +106,17 @@ module _ (c o : List ℕ) (w : ℕ) (c' : List ℕ) (a : w ≡ settleAnswer c o)
     unfolding told
     seventeen-iff = go (decide (isRecord c))
       where
-        desk : (t : T (isRecord c)) (y : RecordSettles (deskIn c) o w c') (k : Answer) → y .outcome .answer ≡ k → (wordNumber w ≡ 17) ↔ (IsDesk c → ⊥)
+        desk : (t : T (isRecord c)) (y : RecordSettles (deskIn c) o w c') (k : Answer) → y .outcome .answer ≡ k →
+            (wordNumber w ≡ 17) ↔ (IsDesk c → ⊥)
         desk t y Done e = (
           λ x. absurd (omega (arith, x, number-of t y Done e)),
           λ n. absurd (n (record { codes = t; places = y .settles .done .0 e .0 })),
         )
         desk t y (Refused f) e = (
-          λ x i. y .settles .seventeen (f .place) .0 (e ∙ ap Refused (fault-of f 17 (sym (number-of t y (Refused f) e) ∙ x))) .1 (i .places),
-          λ n. number-of t y (Refused (noted 17 0)) (y .settles .seventeen 0 .1 (refl, λ i. n (record { codes = t; places = i }))),
+          λ x i. y .settles .seventeen (f .place) .0
+              (e ∙ ap Refused (fault-of f 17 (sym (number-of t y (Refused f) e) ∙ x))) .1 (i .places),
+          λ n. number-of t y (Refused (noted 17 0))
+              (y .settles .seventeen 0 .1 (refl, λ i. n (record { codes = t; places = i }))),
         )
 
         go : T (isRecord c) ⊎ (T (isRecord c) → ⊥) → (wordNumber w ≡ 17) ↔ (IsDesk c → ⊥)
@@ -117,12 +128,16 @@ module _ (c o : List ℕ) (w : ℕ) (c' : List ℕ) (a : w ≡ settleAnswer c o)
     unfolding told
     numbers = go (decide (isRecord c))
       where
-        of-fault : (n : ℕ) (f : Fault) → n ≡ f .number → T (verdictNumber (languageOf PresentLenient) (f .number)) ⊎ ((f .number ≡ 17) ⊎ (f .number ≡ 21)) → (n ≤ 8) ⊎ ((n ≡ 17) ⊎ (n ≡ 21))
-        of-fault n f e (inl h) = inl (omega (arith, e, verdict-lenient (rulesOf PresentLenient) _ lenient-others .0 h .1))
+        of-fault : (n : ℕ) (f : Fault) → n ≡ f .number →
+            T (verdictNumber (languageOf PresentLenient) (f .number)) ⊎ ((f .number ≡ 17) ⊎ (f .number ≡ 21)) →
+            (n ≤ 8) ⊎ ((n ≡ 17) ⊎ (n ≡ 21))
+        of-fault n f e (inl h) =
+            inl (omega (arith, e, verdict-lenient (rulesOf PresentLenient) _ lenient-others .0 h .1))
         of-fault n f e (inr (inl h)) = inr (inl (e ∙ h))
         of-fault n f e (inr (inr h)) = inr (inr (e ∙ h))
 
-        desk : (t : T (isRecord c)) (y : RecordSettles (deskIn c) o w c') (k : Answer) → y .outcome .answer ≡ k → (wordNumber w ≤ 8) ⊎ ((wordNumber w ≡ 17) ⊎ (wordNumber w ≡ 21))
+        desk : (t : T (isRecord c)) (y : RecordSettles (deskIn c) o w c') (k : Answer) → y .outcome .answer ≡ k →
+            (wordNumber w ≤ 8) ⊎ ((wordNumber w ≡ 17) ⊎ (wordNumber w ≡ 21))
         desk t y Done e = inl (omega (arith, number-of t y Done e))
         desk t y (Refused f) e = of-fault (wordNumber w) f (number-of t y (Refused f) e) (y .settles .numbers f e)
 
@@ -135,7 +150,8 @@ module _ (c o : List ℕ) (w : ℕ) (c' : List ℕ) (a : w ≡ settleAnswer c o)
     unfolding told
     stays k n = go (decide (isRecord c))
       where
-        refused : (t : T (isRecord c)) (y : RecordSettles (deskIn c) o w c') (x : Answer) → y .outcome .answer ≡ x → c' ≡ c
+        refused : (t : T (isRecord c)) (y : RecordSettles (deskIn c) o w c') (x : Answer) →
+            y .outcome .answer ≡ x → c' ≡ c
         refused t y Done e = absurd (omega (arith, number-of t y Done e))
         refused t y (Refused f) e = y .cells ∙ ap deskRecord (y .settles .refusal-stays f e) ∙ encode-decode c k t
 
@@ -145,14 +161,16 @@ module _ (c o : List ℕ) (w : ℕ) (c' : List ℕ) (a : w ≡ settleAnswer c o)
 
 -- ---- settled twice running
 -- the desk that settling leaves has places that a record holds
-small-after : (d : Desk) (o : List ℕ) (x : Outcome) → Settles (rulesOf PresentLenient) d o x → Small (d .places) → Small (x .desk .places)
+small-after : (d : Desk) (o : List ℕ) (x : Outcome) → Settles (rulesOf PresentLenient) d o x → Small (d .places) →
+    Small (x .desk .places)
 small-after d o x s w = go (x .answer) refl
   where
     go : (a : Answer) → x .answer ≡ a → Small (x .desk .places)
     go Done e = record { long = s .as-many ∙ w .long; below = λ i. omega (arith, s .fits (s .done .0 e .0) .range i) }
     go (Refused f) e = subst (λ (y : Desk). Small (y .places)) (sym (s .refusal-stays f e)) w
 
-pub again : (c o : List ℕ) → Octets c → Octets o → (w : ℕ) (c₁ : List ℕ) (w₂ : ℕ) (c₂ : List ℕ) → w ≡ settleAnswer c o → c₁ ≡ settleRecord c o → w₂ ≡ settleAnswer c₁ o → c₂ ≡ settleRecord c₁ o → (w₂ ≡ w) × (c₂ ≡ c₁)
+pub again : (c o : List ℕ) → Octets c → Octets o → (w : ℕ) (c₁ : List ℕ) (w₂ : ℕ) (c₂ : List ℕ) →
+    w ≡ settleAnswer c o → c₁ ≡ settleRecord c o → w₂ ≡ settleAnswer c₁ o → c₂ ≡ settleRecord c₁ o → (w₂ ≡ w) × (c₂ ≡ c₁)
 unfolding settleAnswer settleRecord
 again c o k q w c₁ w₂ c₂ a b e f = go (decide (isRecord c))
   where
@@ -162,7 +180,9 @@ again c o k q w c₁ w₂ c₂ a b e f = go (decide (isRecord c))
         let z = small-after (deskIn c) o x (settles.settles PresentLenient (deskIn c) o q) (small-in c k) in
         let i : c₁ ≡ deskRecord (x .desk) = b ∙ pick-yes _ _ _ t in
         let r : T (isRecord c₁) = subst (λ (y : List ℕ). T (isRecord y)) (sym i) (record-is (x .desk) z) in
-        let j : settleOf (rulesOf PresentLenient) (deskIn c₁) o ≡ x = ap (λ (y : Desk). settleOf (rulesOf PresentLenient) y o) (ap deskIn i ∙ decode-encode (x .desk) z) ∙ settles.settled-twice PresentLenient (deskIn c) o q in (
+        let j : settleOf (rulesOf PresentLenient) (deskIn c₁) o ≡ x =
+        ap (λ (y : Desk). settleOf (rulesOf PresentLenient) y o) (ap deskIn i ∙ decode-encode (x .desk) z)
+        ∙ settles.settled-twice PresentLenient (deskIn c) o q in (
           e ∙ pick-yes _ _ _ r ∙ ap (λ (y : Outcome). deskWord (y .answer)) j ∙ sym (a ∙ pick-yes _ _ _ t),
           f ∙ pick-yes _ _ _ r ∙ ap (λ (y : Outcome). deskRecord (y .desk)) j ∙ sym i,
         )
@@ -171,36 +191,50 @@ again c o k q w c₁ w₂ c₂ a b e f = go (decide (isRecord c))
         (e ∙ ap (λ (y : List ℕ). settleAnswer y o) i ∙ sym a, f ∙ ap (λ (y : List ℕ). settleRecord y o) i ∙ sym b)
 
 -- a record made new is that of a desk of which nothing is known and which holds no reference
-pub new : (c : List ℕ) (w : ℕ) (c' : List ℕ) → w ≡ newDeskAnswer c → c' ≡ newDeskRecord c → length c ≡ deskSize → Unpacked 0 0 0 0 w × T (isRecord c') × (deskIn c' ≡ newDesk)
+pub new : (c : List ℕ) (w : ℕ) (c' : List ℕ) → w ≡ newDeskAnswer c → c' ≡ newDeskRecord c → length c ≡ deskSize →
+    Unpacked 0 0 0 0 w × T (isRecord c') × (deskIn c' ≡ newDesk)
 unfolding newDeskAnswer newDeskRecord
 new c w c' a b n =
     let z : Small (newDesk .places) = record { long = refl; below = λ i. omega (arith, all-free placeCount i) } in
     let e : c' ≡ deskRecord newDesk = b ∙ pick-yes (length c =? deskSize) _ c (of-eq _ _ n) in (
-      subst (Unpacked 0 0 0 0) (sym (a ∙ pick-yes (length c =? deskSize) _ badRecord (of-eq _ _ n))) (unpacked 0 0 0 0 (omega arith) (omega arith) (omega arith) (omega arith)),
+      subst (Unpacked 0 0 0 0) (sym (a ∙ pick-yes (length c =? deskSize) _ badRecord (of-eq _ _ n)))
+          (unpacked 0 0 0 0 (omega arith) (omega arith) (omega arith) (omega arith)),
       subst (λ (y : List ℕ). T (isRecord y)) (sym e) (record-is newDesk z),
       ap deskIn e ∙ decode-encode newDesk z,
     )
 
 -- another size than 52 is 17, and the record stays
-pub new-17 : (c : List ℕ) (w : ℕ) (c' : List ℕ) → w ≡ newDeskAnswer c → c' ≡ newDeskRecord c → (length c ≡ deskSize → ⊥) → Seventeen c w c'
+pub new-17 : (c : List ℕ) (w : ℕ) (c' : List ℕ) → w ≡ newDeskAnswer c → c' ≡ newDeskRecord c →
+    (length c ≡ deskSize → ⊥) → Seventeen c w c'
 unfolding newDeskAnswer newDeskRecord
-new-17 c w c' a b n = let k : T (length c =? deskSize) → ⊥ = λ t. n (eq-of _ _ t) in word.seventeen c w c' (a ∙ pick-not _ _ _ k) (b ∙ pick-not _ _ _ k)
+new-17 c w c' a b n =
+    let k : T (length c =? deskSize) → ⊥ = λ t. n (eq-of _ _ t) in
+    word.seventeen c w c' (a ∙ pick-not _ _ _ k) (b ∙ pick-not _ _ _ k)
 
 -- ---- call after call
 -- calls one after the other, from the record c to the record c': each on the record that the one before left
 abbrev pub RecordHistory : List ℕ → List RecordCall → List ℕ → Type 0
 RecordHistory c [] c' = c ≡ c'
-RecordHistory c (x ∷ xs) c' = Octets (x .octets) × (x .word ≡ settleAnswer c (x .octets)) × (x .cells ≡ settleRecord c (x .octets)) × RecordHistory (x .cells) xs c'
+RecordHistory c (x ∷ xs) c' =
+    Octets (x .octets) × (x .word ≡ settleAnswer c (x .octets)) × (x .cells ≡ settleRecord c (x .octets))
+    × RecordHistory (x .cells) xs c'
 
 -- on a record that is one, a call says what the same call says on its desk
-module _ (c : List ℕ) (t : T (isRecord c)) (w : Small (deskIn c .places)) (x : RecordCall) (q : Octets (x .octets)) (a : x .word ≡ settleAnswer c (x .octets)) (b : x .cells ≡ settleRecord c (x .octets)) where
+module _ (c : List ℕ) (t : T (isRecord c)) (w : Small (deskIn c .places)) (x : RecordCall) (q : Octets (x .octets))
+    (a : x .word ≡ settleAnswer c (x .octets)) (b : x .cells ≡ settleRecord c (x .octets)) where
   abbrev as-call : Call
-  as-call = record { book = PresentLenient; octets = x .octets; outcome = settleOf (rulesOf PresentLenient) (deskIn c) (x .octets) }
+  as-call =
+      record {
+        book = PresentLenient;
+        octets = x .octets;
+        outcome = settleOf (rulesOf PresentLenient) (deskIn c) (x .octets);
+      }
 
   number-is : wordNumber (x .word) ≡ told (as-call .outcome .answer) .number
   number-is = settled-word c (x .octets) (x .word) (x .cells) a b q t .number
 
-  no-number : (f : Fault) → T (verdictNumber (languageOf PresentLenient) (f .number)) ⊎ ((f .number ≡ 17) ⊎ (f .number ≡ 21)) → f .number ≡ 0 → ⊥
+  no-number : (f : Fault) →
+      T (verdictNumber (languageOf PresentLenient) (f .number)) ⊎ ((f .number ≡ 17) ⊎ (f .number ≡ 21)) → f .number ≡ 0 → ⊥
   no-number f (inl h) z = omega (arith, told-small (spoken-of PresentLenient) _ h .0, z)
   no-number f (inr (inl h)) z = omega (arith, h, z)
   no-number f (inr (inr h)) z = omega (arith, h, z)
@@ -209,17 +243,23 @@ module _ (c : List ℕ) (t : T (isRecord c)) (w : Small (deskIn c .places)) (x :
   unfolding saidIn said saidUnder told
   same-word r = go (as-call .outcome .answer) refl
     where
-      go : (k : Answer) → as-call .outcome .answer ≡ k → saidIn r x ≡ saidUnder (rulesOf PresentLenient) r (x .octets) (as-call .outcome .answer)
-      go Done e = pick-yes _ _ _ (of-eq _ _ (number-is ∙ ap (λ (x : Answer). told x .number) e)) ∙ ap (saidUnder (rulesOf PresentLenient) r (x .octets)) (sym e)
+      go : (k : Answer) → as-call .outcome .answer ≡ k →
+          saidIn r x ≡ saidUnder (rulesOf PresentLenient) r (x .octets) (as-call .outcome .answer)
+      go Done e =
+          pick-yes _ _ _ (of-eq _ _ (number-is ∙ ap (λ (x : Answer). told x .number) e))
+          ∙ ap (saidUnder (rulesOf PresentLenient) r (x .octets)) (sym e)
       go (Refused f) e =
-          pick-not _ _ _ (λ z. no-number f (settles.settles PresentLenient (deskIn c) (x .octets) q .numbers f e) (sym (ap (λ (x : Answer). told x .number) e) ∙ sym number-is ∙ eq-of _ _ z)) ∙ ap (saidUnder (rulesOf PresentLenient) r (x .octets)) (sym e)
+          pick-not _ _ _ (λ z. no-number f (settles.settles PresentLenient (deskIn c) (x .octets) q .numbers f e)
+          (sym (ap (λ (x : Answer). told x .number) e) ∙ sym number-is ∙ eq-of _ _ z))
+          ∙ ap (saidUnder (rulesOf PresentLenient) r (x .octets)) (sym e)
 
   after-is : x .cells ≡ deskRecord (as-call .outcome .desk)
   unfolding settleRecord
   after-is = b ∙ pick-yes _ _ _ t
 
   after-small : Small (as-call .outcome .desk .places)
-  after-small = small-after (deskIn c) (x .octets) (as-call .outcome) (settles.settles PresentLenient (deskIn c) (x .octets) q) w
+  after-small =
+      small-after (deskIn c) (x .octets) (as-call .outcome) (settles.settles PresentLenient (deskIn c) (x .octets) q) w
 
   after-desk : deskIn (x .cells) ≡ as-call .outcome .desk
   after-desk = ap deskIn after-is ∙ decode-encode (as-call .outcome .desk) after-small
@@ -235,14 +275,37 @@ module _ (c : List ℕ) (t : T (isRecord c)) (w : Small (deskIn c .places)) (x :
     λ e. go (as-call .outcome .answer) refl (sym number-is ∙ e),
   )
     where
-      go : (k : Answer) → as-call .outcome .answer ≡ k → told (as-call .outcome .answer) .number ≡ 0 → as-call .outcome .answer ≡ Done
+      go : (k : Answer) → as-call .outcome .answer ≡ k → told (as-call .outcome .answer) .number ≡ 0 →
+          as-call .outcome .answer ≡ Done
       go Done e z = e
-      go (Refused f) e z = absurd (no-number f (settles.settles PresentLenient (deskIn c) (x .octets) q .numbers f e) (sym (ap (λ (x : Answer). told x .number) e) ∙ z))
+      go (Refused f) e z =
+          absurd (no-number f (settles.settles PresentLenient (deskIn c) (x .octets) q .numbers f e)
+          (sym (ap (λ (x : Answer). told x .number) e) ∙ z))
 
   names-iff : (s r : ℕ) → Names as-call s r ↔ NamesIn x s r
   names-iff s r = (
-    λ n. record { m = n .m; legal = n .legal; is = n .is; notice = n .notice; done = done-iff .0 (n .done); high = n .high; low = n .low; counts = n .counts; reference = n .reference },
-    λ n. record { m = n .m; legal = n .legal; is = n .is; notice = n .notice; done = done-iff .1 (n .done); high = n .high; low = n .low; counts = n .counts; reference = n .reference },
+    λ n. record {
+      m = n .m;
+      legal = n .legal;
+      is = n .is;
+      notice = n .notice;
+      done = done-iff .0 (n .done);
+      high = n .high;
+      low = n .low;
+      counts = n .counts;
+      reference = n .reference;
+    },
+    λ n. record {
+      m = n .m;
+      legal = n .legal;
+      is = n .is;
+      notice = n .notice;
+      done = done-iff .1 (n .done);
+      high = n .high;
+      low = n .low;
+      counts = n .counts;
+      reference = n .reference;
+    },
   )
 
   -- the word of a call is the state and the reference of the 0DH that counts in its message
@@ -254,19 +317,25 @@ module _ (c : List ℕ) (t : T (isRecord c)) (w : Small (deskIn c .places)) (x :
         closes = rw (same-word r) (Iff·trans (y .closes) (names-iff 0x00 r));
       }
 
-goes-on : (r : ℕ) (c : List ℕ) → T (isRecord c) → Small (deskIn c .places) → (xs : List RecordCall) (c' : List ℕ) → RecordHistory c xs c' → (cs : List Call) × History (deskIn c) cs (deskIn c') × ((b : Option Bool) → lastSaidIn r xs b ≡ lastSaid r cs b)
+goes-on : (r : ℕ) (c : List ℕ) → T (isRecord c) → Small (deskIn c .places) → (xs : List RecordCall) (c' : List ℕ) →
+    RecordHistory c xs c' →
+    (cs : List Call) × History (deskIn c) cs (deskIn c') × ((b : Option Bool) → lastSaidIn r xs b ≡ lastSaid r cs b)
 unfolding lastSaidIn lastSaid
 goes-on r c t w [] c' h = ([], ap deskIn h, λ b. refl)
 goes-on r c t w (x ∷ xs) c' h =
     let e = after-desk c t w x (h .0) (h .1) (h .2) in
-    let k = goes-on r (x .cells) (after-record c t w x (h .0) (h .1) (h .2)) (subst (λ (y : Desk). Small (y .places)) (sym e) (after-small c t w x (h .0) (h .1) (h .2))) xs c' (h .3) in (
+    let k = goes-on r (x .cells) (after-record c t w x (h .0) (h .1) (h .2))
+    (subst (λ (y : Desk). Small (y .places)) (sym e) (after-small c t w x (h .0) (h .1) (h .2))) xs c' (h .3) in (
       as-call c t w x (h .0) (h .1) (h .2) ∷ k .0,
       (refl, subst (λ (y : Desk). History y (k .0) (deskIn c')) e (k .1)),
-      λ b. k .2 (later (saidIn r x) b) ∙ ap (λ (y : Option Bool). lastSaid r (k .0) (later y b)) (same-word c t w x (h .0) (h .1) (h .2) r),
+      λ b. k .2 (later (saidIn r x) b) ∙ ap (λ (y : Option Bool). lastSaid r (k .0) (later y b))
+          (same-word c t w x (h .0) (h .1) (h .2) r),
     )
 
 -- a reference stands in the places of the last record as the last word on it says
-pub record-open-by-last : (r : ℕ) (c : List ℕ) → Octets c → T (isRecord c) → (xs : List RecordCall) (c' : List ℕ) → RecordHistory c xs c' → OpenBy r (deskIn c .places) (lastSaidIn r xs none) (deskIn c' .places)
+pub record-open-by-last : (r : ℕ) (c : List ℕ) → Octets c → T (isRecord c) → (xs : List RecordCall) (c' : List ℕ) →
+    RecordHistory c xs c' → OpenBy r (deskIn c .places) (lastSaidIn r xs none) (deskIn c' .places)
 record-open-by-last r c k t xs c' h =
     let g = goes-on r c t (small-in c k) xs c' h in
-    subst (λ (b : Option Bool). OpenBy r (deskIn c .places) b (deskIn c' .places)) (sym (g .2 none)) (open-by-last r (deskIn c) (g .0) (deskIn c') (g .1))
+    subst (λ (b : Option Bool). OpenBy r (deskIn c .places) b (deskIn c' .places)) (sym (g .2 none))
+    (open-by-last r (deskIn c) (g .0) (deskIn c') (g .1))

@@ -1,6 +1,6 @@
--- The desk's record, 52 octets: 0 or 1, whether the waiting number is known; the number, 0 where it is not; the lamp, 0 unknown, 1 off, 2 on; an octet kept
--- at 0; then sixteen places of three octets, low first, each 0 or one more than the reference that it holds. Anything else is 17 (document 01, Numbers;
--- document 02, Q-6).
+-- The desk's record, 52 octets: 0 or 1, whether the waiting number is known; the number, 0 where it is not; the lamp,
+-- 0 unknown, 1 off, 2 on; an octet kept at 0; then sixteen places of three octets, low first, each 0 or one more than
+-- the reference that it holds. Anything else is 17 (document 01, Numbers; document 02, Q-6).
 -- Assumes nothing.
 use Prim.Native.Nat.{ℕ, zero, suc, _+_, _*_, _/_, _%_}
 use mathlib.Core.Bool.{Bool}
@@ -41,7 +41,12 @@ placesIn zero c = []
 placesIn (suc n) c = placeIn c ∷ placesIn n (drop 3 c)
 
 unfoldable pub deskIn : List ℕ → Desk
-deskIn c = record { waiting = waitingOf (getD c 0 0) (getD c 1 0); lamp = lampOf (getD c 2 0); places = placesIn placeCount (drop 4 c) }
+deskIn c =
+    record {
+      waiting = waitingOf (getD c 0 0) (getD c 1 0);
+      lamp = lampOf (getD c 2 0);
+      places = placesIn placeCount (drop 4 c);
+    }
 
 -- ---- the record of a desk
 unfoldable pub waitingCode : Waiting → ℕ

@@ -1,4 +1,5 @@
--- What the exports answer, and what they leave in a record (document 01: 17 comes first; a record that is only written is judged by its size alone).
+-- What the exports answer, and what they leave in a record (document 01: 17 comes first; a record that is only
+-- written is judged by its size alone).
 -- Assumes nothing.
 use Prim.Native.Nat.{ℕ}
 use mathlib.Core.List.{List}
@@ -69,7 +70,8 @@ listenAnswer c o = answered (decodeOf c) o
 unfoldable pub listenRecord : List ℕ → List ℕ → List ℕ
 listenRecord c o = recorded (decodeOf c) c o
 
--- ---- the whole read: the record is only written, so its size alone is judged; the answer's size is the text octets laid down
+-- ---- the whole read: the record is only written, so its size alone is judged; the answer's size is the text octets
+-- laid down
 unfoldable pub packedWord : Packed → ℕ
 packedWord p = packed (reads.told p .number) (reads.told p .place) (reads.told p .size) 0
 
@@ -105,7 +107,8 @@ settleAnswer c o = pick (isRecord c) (deskWord (settleOf (rulesOf PresentLenient
 unfoldable pub settleRecord : List ℕ → List ℕ → List ℕ
 settleRecord c o = pick (isRecord c) (deskRecord (settleOf (rulesOf PresentLenient) (deskIn c) o .desk)) c
 
--- ---- what counts: the size is the length of the contents that count, and their start stands in octets 5 and 6; 0 and 0 where none count
+-- ---- what counts: the size is the length of the contents that count, and their start stands in octets 5 and 6; 0
+-- and 0 where none count
 unfoldable pub partWord : Part → ℕ
 partWord (At start n) = packed 0 0 n start
 partWord Nowhere = packed 0 0 0 0

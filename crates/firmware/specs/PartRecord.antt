@@ -1,5 +1,6 @@
--- The record of a part, 24 octets: 0 the message or 1 the directory; seven octets kept at 0; where the part starts in that slice and how long it is, in eight
--- octets each, the lowest first: wide enough for a directory of any size (document 01, The caption).
+-- The record of a part, 24 octets: 0 the message or 1 the directory; seven octets kept at 0; where the part starts in
+-- that slice and how long it is, in eight octets each, the lowest first: wide enough for a directory of any size
+-- (document 01, The caption).
 -- Assumes nothing.
 use Prim.Native.Nat.{ℕ, zero, suc, _+_, _*_, _/_, _%_}
 use mathlib.Core.List.{List, [], _∷_, _++_}

@@ -1,5 +1,6 @@
 -- The record of a listener: 16 octets, and what they stand for.
--- octet 0 the stage's code; 1 the sum; 2 and 3 the place, low octet first; 4 the class's code; 5 the length; 6 the index; 7 the memory; 8 the room;
+-- octet 0 the stage's code; 1 the sum; 2 and 3 the place, low octet first; 4 the class's code; 5 the length; 6 the
+-- index; 7 the memory; 8 the room;
 -- 9 the number of a refusal; 10 to 15 are 0, kept for what may come.
 -- Assumes nothing.
 use Prim.Native.Nat.{ℕ, _+_, _*_, _/_, _%_}
@@ -36,7 +37,19 @@ fieldsOf c = record {
 
 -- the fields of each state; what it does not use is 0
 unfoldable pub fieldsWaiting : ℕ → Spot → ℕ → ℕ → ℕ → ℕ → ℕ → Fields
-fieldsWaiting s q c n i m r = record { stage = s; sum = q .sum; place = q .place; class = c; length = n; index = i; memory = m; room = r; number = 0; spare = 0 }
+fieldsWaiting s q c n i m r =
+    record {
+      stage = s;
+      sum = q .sum;
+      place = q .place;
+      class = c;
+      length = n;
+      index = i;
+      memory = m;
+      room = r;
+      number = 0;
+      spare = 0;
+    }
 
 unfoldable pub fieldsAt : Stage → Spot → Fields
 fieldsAt Kind q = fieldsWaiting 0 q 0 0 0 0 0
@@ -46,7 +59,19 @@ fieldsAt (Length c r) q = fieldsWaiting 3 q (classCode c) 0 0 0 r
 fieldsAt (Content c n i m r) q = fieldsWaiting 4 q (classCode c) n i m r
 
 unfoldable pub fieldsEnded : ℕ → ℕ → ℕ → Fields
-fieldsEnded s p k = record { stage = s; sum = 0; place = p; class = 0; length = 0; index = 0; memory = 0; room = 0; number = k; spare = 0 }
+fieldsEnded s p k =
+    record {
+      stage = s;
+      sum = 0;
+      place = p;
+      class = 0;
+      length = 0;
+      index = 0;
+      memory = 0;
+      room = 0;
+      number = k;
+      spare = 0;
+    }
 
 unfoldable pub fieldsFor : State → Fields
 fieldsFor (Waiting s q) = fieldsAt s q
@@ -55,7 +80,9 @@ fieldsFor (Refused f) = fieldsEnded 6 (f .place) (f .number)
 
 -- fields as 16 octets
 unfoldable pub laidFields : Fields → List ℕ
-laidFields f = f .stage ∷ f .sum ∷ f .place % 256 ∷ f .place / 256 ∷ f .class ∷ f .length ∷ f .index ∷ f .memory ∷ f .room ∷ f .number ∷ 0 ∷ 0 ∷ 0 ∷ 0 ∷ 0 ∷ 0 ∷ []
+laidFields f =
+    f .stage ∷ f .sum ∷ f .place % 256 ∷ f .place /
+    256 ∷ f .class ∷ f .length ∷ f .index ∷ f .memory ∷ f .room ∷ f .number ∷ 0 ∷ 0 ∷ 0 ∷ 0 ∷ 0 ∷ 0 ∷ []
 
 unfoldable pub recordOf : Listener → List ℕ
 recordOf l = laidFields (fieldsFor (l .state))
@@ -92,9 +119,12 @@ endedOf s p k idle =
 
 unfoldable pub stateOf : Fields → Decoded
 stateOf f =
-    pick (f .stage ≤? 2) (openingOf (f .stage) (spotOf f) (f .room) (f .class + f .length + f .index + f .memory + f .number + f .spare))
-    (pick (f .stage ≤? 4) (parameterState (f .stage) (spotOf f) (f .class) (f .length) (f .index) (f .memory) (f .room) (f .number + f .spare))
-    (endedOf (f .stage) (f .place) (f .number) (f .class + f .length + f .index + f .memory + f .sum + f .room + f .spare)))
+    pick (f .stage ≤? 2) (openingOf (f .stage) (spotOf f) (f .room)
+    (f .class + f .length + f .index + f .memory + f .number + f .spare))
+    (pick (f .stage ≤? 4) (parameterState (f .stage) (spotOf f) (f .class) (f .length) (f .index) (f .memory)
+    (f .room) (f .number + f .spare))
+    (endedOf (f .stage) (f .place) (f .number)
+    (f .class + f .length + f .index + f .memory + f .sum + f .room + f .spare)))
 
 -- a record of another size stands for nothing
 unfoldable pub decodeOf : List ℕ → Decoded

@@ -22,7 +22,9 @@ pub record RecordHears (L : Language) (h o : List ℕ) (w : ℕ) : Type 0 where
   -- a size: exactly that of the first octets that are accepted
   pub has-message : (n : ℕ) → 1 ≤ n → (wordSize w ≡ n) ↔ ((n ≤ length (h ++ o)) × L .Accepts (take n (h ++ o)))
   -- a number: exactly at the octet that spoils the message, with the number of that octet's role
-  pub refuses : (f : Fault) → 1 ≤ f .number → ((wordNumber w ≡ f .number) × (wordPlace w ≡ f .place)) ↔ (Spoilt (L .Accepts) (h ++ o) (f .place) × Numbered (L .Accepts) (L .roles) (h ++ o) (f .place) (f .number))
+  pub refuses : (f : Fault) → 1 ≤ f .number →
+      ((wordNumber w ≡ f .number) × (wordPlace w ≡ f .place)) ↔
+      (Spoilt (L .Accepts) (h ++ o) (f .place) × Numbered (L .Accepts) (L .roles) (h ++ o) (f .place) (f .number))
   -- octets taken: the whole run while it waits, the message's octets and no more, the spoiling octet but none after it
   pub taken-waiting : wordNumber w ≡ 0 → wordSize w ≡ 0 → wordTaken w ≡ length o
   pub taken-message : (n : ℕ) → 1 ≤ n → wordSize w ≡ n → length h + wordTaken w ≡ n

@@ -1,5 +1,5 @@
--- What counts, and the caption, through the exports, read off the answer's word and the part's record, over the written rules alone (document 01, What counts
--- and The caption).
+-- What counts, and the caption, through the exports, read off the answer's word and the part's record, over the
+-- written rules alone (document 01, What counts and The caption).
 -- Assumes nothing.
 use Prim.Native.Nat.{ℕ, _<_, _^_}
 use mathlib.Core.Path.{_≡_}
@@ -30,11 +30,14 @@ pub record RecordCounts (o : List ℕ) (t w : ℕ) : Type 0 where
   pub judged : Judges (languageOf PresentLenient) o verdict
   pub refused : (f : Fault) → verdict ≡ Declined f → Unpacked (f .number) (f .place) 0 0 w
   -- of a message: the length of the contents that count, and where they start
-  pub counts : (m : Message) → LegalMessage (rulesOf PresentLenient) m → octets m ≡ o → (v : List ℕ) (c : Counts (rulesOf PresentLenient) m t v) → Unpacked 0 0 (length v) (contentsAt (c .first)) w
+  pub counts : (m : Message) → LegalMessage (rulesOf PresentLenient) m → octets m ≡ o →
+      (v : List ℕ) (c : Counts (rulesOf PresentLenient) m t v) → Unpacked 0 0 (length v) (contentsAt (c .first)) w
   -- 0 in every field where none count
-  pub none-counts : (m : Message) → LegalMessage (rulesOf PresentLenient) m → octets m ≡ o → counted (rulesOf PresentLenient) m t ≡ none → Unpacked 0 0 0 0 w
+  pub none-counts : (m : Message) → LegalMessage (rulesOf PresentLenient) m → octets m ≡ o →
+      counted (rulesOf PresentLenient) m t ≡ none → Unpacked 0 0 0 0 w
 
--- the octets o, the directory d and a record c of 24 octets went in; the word w came back, and c' is what the record then held
+-- the octets o, the directory d and a record c of 24 octets went in; the word w came back, and c' is what the record
+-- then held
 pub record RecordFinds (o d c : List ℕ) (w : ℕ) (c' : List ℕ) : Type 0 where
   pub found : Shown
   pub finds : Finds (rulesOf PresentLenient) o d found
@@ -43,4 +46,5 @@ pub record RecordFinds (o d c : List ℕ) (w : ℕ) (c' : List ℕ) : Type 0 whe
   pub part : told found .number ≡ 0 → c' ≡ partRecord (told found .side) (told found .start) (told found .size)
   pub refused : (f : Fault) → found ≡ Refused f → c' ≡ c
   -- and the header's readers read them back; every slice has fewer than 2^64 octets
-  pub read-back : length d < 256 ^ 8 → told found .number ≡ 0 → (partSide c' ≡ told found .side) × (partStart c' ≡ told found .start) × (partLength c' ≡ told found .size)
+  pub read-back : length d < 256 ^ 8 → told found .number ≡ 0 →
+      (partSide c' ≡ told found .side) × (partStart c' ≡ told found .start) × (partLength c' ≡ told found .size)

@@ -1,4 +1,5 @@
--- What a whole read says and leaves through the exports, read off the answer's word and the records, over the written rules alone.
+-- What a whole read says and leaves through the exports, read off the answer's word and the records, over the written
+-- rules alone.
 -- Assumes nothing.
 use Prim.Native.Nat.{ℕ}
 use mathlib.Core.Path.{_≡_}
@@ -14,7 +15,8 @@ use Rattle.firmware.specs.Word.{Unpacked}
 use Rattle.draft.specs.Draft.{noEntry}
 use Rattle.firmware.specs.DraftRecord.{draftRecord, entryIn}
 
--- a record of 688 octets: the word has number, place and text octets of the read, the record is that of its draft, or with a refusal as it was
+-- a record of 688 octets: the word has number, place and text octets of the read, the record is that of its draft, or
+-- with a refusal as it was
 pub record RecordReads (o c t : List ℕ) (w : ℕ) (c' t' : List ℕ) : Type 0 where
   pub reading : Reading
   pub reads : Reads (rulesOf PresentLenient) o t reading t'
@@ -23,4 +25,6 @@ pub record RecordReads (o c t : List ℕ) (w : ℕ) (c' t' : List ℕ) : Type 0 
   pub drafted : (n : ℕ) → reading .answer ≡ Texts n → c' ≡ draftRecord (reading .draft)
   pub refused : (f : Fault) → reading .answer ≡ Refused f → c' ≡ c
   -- and the header's readers read the draft back, whatever the area: message type, number of entries, and each entry
-  pub read-back : (n : ℕ) → reading .answer ≡ Texts n → (getD c' 0 0 ≡ reading .draft .kind) × (getD c' 1 0 ≡ reading .draft .count) × ((i : ℕ) → entryIn c' i ≡ getD (reading .draft .entries) i noEntry)
+  pub read-back : (n : ℕ) → reading .answer ≡ Texts n →
+      (getD c' 0 0 ≡ reading .draft .kind) × (getD c' 1 0 ≡ reading .draft .count)
+      × ((i : ℕ) → entryIn c' i ≡ getD (reading .draft .entries) i noEntry)

@@ -24,7 +24,8 @@ use Rattle.firmware.specs.DeskRecord.{isRecord, deskIn, deskRecord}
 use Rattle.firmware.specs.Word.{wordNumber, Unpacked}
 use Rattle.rules.specs.Octets.{referenceOf}
 
--- a record that is the desk d's: the word has number and place of that desk's settling, the record is that of the desk it leaves
+-- a record that is the desk d's: the word has number and place of that desk's settling, the record is that of the
+-- desk it leaves
 pub record RecordSettles (d : Desk) (o : List ℕ) (w : ℕ) (c' : List ℕ) : Type 0 where
   pub outcome : Outcome
   pub settles : Settles (rulesOf PresentLenient) d o outcome

@@ -1,5 +1,6 @@
--- The answer of an export, packed into one word: octet 0 (the lowest) the number, 0 where there is none; octets 1 and 2 the place; octets 3 and 4 a size;
--- octets 5 and 6 the octets taken, or the start of what counts; octet 7 is 0, kept for what may come.
+-- The answer of an export, packed into one word: octet 0 (the lowest) the number, 0 where there is none; octets 1 and
+-- 2 the place; octets 3 and 4 a size; octets 5 and 6 the octets taken, or the start of what counts; octet 7 is 0,
+-- kept for what may come.
 -- Assumes nothing.
 use Prim.Native.Nat.{ℕ, _+_, _*_, _/_, _%_, _<_}
 use mathlib.Core.Path.{_≡_, refl, sym, subst}
@@ -32,7 +33,8 @@ pub record Unpacked (k p n t w : ℕ) : Type 0 where
 
 pub unpacked : (k p n t : ℕ) → k < 256 → p < 65536 → n < 65536 → t < 65536 → Unpacked k p n t (packed k p n t)
 unfolding packed wordNumber wordPlace wordSize wordTaken
-unpacked k p n t a b c d = record { whole = refl; number = omega arith; place = omega arith; size = omega arith; taken = omega arith }
+unpacked k p n t a b c d =
+    record { whole = refl; number = omega arith; place = omega arith; size = omega arith; taken = omega arith }
 
 -- ---- 17: at place 0, 0 in every other field, and the record, which held c, as it was
 pub record Seventeen (c : List ℕ) (w : ℕ) (c' : List ℕ) : Type 0 where
@@ -40,4 +42,9 @@ pub record Seventeen (c : List ℕ) (w : ℕ) (c' : List ℕ) : Type 0 where
   pub cells : c' ≡ c
 
 pub seventeen : (c : List ℕ) (w : ℕ) (c' : List ℕ) → w ≡ packed 17 0 0 0 → c' ≡ c → Seventeen c w c'
-seventeen c w c' e f = record { word = subst (Unpacked 17 0 0 0) (sym e) (unpacked 17 0 0 0 (omega arith) (omega arith) (omega arith) (omega arith)); cells = f }
+seventeen c w c' e f =
+    record {
+      word = subst (Unpacked 17 0 0 0) (sym e)
+          (unpacked 17 0 0 0 (omega arith) (omega arith) (omega arith) (omega arith));
+      cells = f;
+    }

@@ -22,5 +22,6 @@ module _ (R : Rules) (S : SoundRules R) where
   unfolding inRange
   index-below c n i m r q t = le-of _ _ (both _ _ t .0)
 
-  pub index-small : (c : Class) (n i m r : ℕ) (q : Spot) → T (inRange R (Waiting (Content c n i m r) q)) → n < 256 → i < 255
+  pub index-small : (c : Class) (n i m r : ℕ) (q : Spot) → T (inRange R (Waiting (Content c n i m r) q)) →
+      n < 256 → i < 255
   index-small c n i m r q t h = omega (arith, index-below c n i m r q t)

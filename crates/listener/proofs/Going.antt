@@ -31,7 +31,8 @@ waits-on w s q e = rw e refl
 
 module _ (R : Rules) (S : SoundRules R) where
   -- one octet further
-  pub one-step : (s : Stage) (q : Spot) (o : List ℕ) (i : ℕ) (r : State) → T (inRange R (Waiting s q)) → i < length o → getD o i 0 < 256 → r ≡ step (machine R) (Waiting s q) (getD o i 0) →
+  pub one-step : (s : Stage) (q : Spot) (o : List ℕ) (i : ℕ) (r : State) → T (inRange R (Waiting s q)) →
+      i < length o → getD o i 0 < 256 → r ≡ step (machine R) (Waiting s q) (getD o i 0) →
       Onward R (Waiting s q) o i (record { state = r; taken = i + 1 })
   one-step s q o i r t h x e = record {
     further = omega arith;
@@ -65,7 +66,8 @@ module _ (R : Rules) (S : SoundRules R) where
       -- the run is over
       pub stands-ended : length o ≤ i → from < length o → (s : Stage) → s ≡ here →
           Onward R w o from (record { state = Waiting s q; taken = i })
-      stands-ended h l s e = rw e (record { further = omega arith; inside = d .inside; in-range = d .in-range; same = d .same })
+      stands-ended h l s e =
+          rw e (record { further = omega arith; inside = d .inside; in-range = d .in-range; same = d .same })
 
       module _ (h : i < length o) (x : getD o i 0 < 256) where
         -- the state after the octet, whatever it is
@@ -73,7 +75,12 @@ module _ (R : Rules) (S : SoundRules R) where
             Onward R w o from (record { state = r; taken = i + 1 })
         goes r e =
             let z = one-step here q o i r (d .in-range) h x e in
-            record { further = omega (arith, d .gone); inside = z .inside; in-range = z .in-range; same = z .same ∙ d .same }
+            record {
+              further = omega (arith, d .gone);
+              inside = z .inside;
+              in-range = z .in-range;
+              same = z .same ∙ d .same;
+            }
 
         -- it is one of the contents': they go on, or are over
         module _ (t : okAt (f .class) (f .length) k m (getD o i 0) ≡ true)
@@ -98,7 +105,8 @@ module _ (R : Rules) (S : SoundRules R) where
               record { gone = omega (arith, d .gone); inside = z .inside; in-range = z .in-range; same = z .same }
 
         -- it spoils them
-        pub stands-spoilt : okAt (f .class) (f .length) k m (getD o i 0) ≡ false → (s : Stage) → s ≡ here → (r : State) →
+        pub stands-spoilt : okAt (f .class) (f .length) k m (getD o i 0) ≡ false → (s : Stage) → s ≡ here →
+            (r : State) →
             r ≡ declined (machine R) s 5 q → Onward R w o from (record { state = r; taken = i + 1 })
         unfolding final fits fault
         stands-spoilt t s g r e = goes r (declines R here q (getD o i 0) r refl t e)

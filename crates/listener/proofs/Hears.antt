@@ -1,4 +1,5 @@
--- A call of the listener does what demand 3 says: in range it runs the written machine over the octets it takes, and its answer tells the machine's state.
+-- A call of the listener does what demand 3 says: in range it runs the written machine over the octets it takes, and
+-- its answer tells the machine's state.
 -- Assumes nothing.
 use Prim.Native.Nat.{ℕ, _+_, _≤_}
 use mathlib.Core.Path.{_≡_, refl, sym, _∙_, ap, subst}
@@ -107,10 +108,14 @@ module _ (l : Listener) (h : List ℕ) (s : Stands l h) where
   module _ (o : List ℕ) (q : Octets o) (r : Heard) (e : r ≡ heardOf l o) where
     -- the outcome, in parts
     led : r .listener .state ≡ answer (M l) (h ++ o)
-    led = ap (λ (x : Heard). x .listener .state) (e ∙ in-range-heard l o stands-in-range) ∙ ap (λ (w : State). run (M l) w o) (s .state) ∙ run-append (M l) (start (M l)) h o
+    led =
+        ap (λ (x : Heard). x .listener .state) (e ∙ in-range-heard l o stands-in-range)
+        ∙ ap (λ (w : State). run (M l) w o) (s .state) ∙ run-append (M l) (start (M l)) h o
 
     said : r .answer ≡ answerOf (answer (M l) (h ++ o))
-    said = ap (λ (x : Heard). x .answer) (e ∙ in-range-heard l o stands-in-range) ∙ ap (λ (w : State). answerOf (run (M l) w o)) (s .state) ∙ ap answerOf (run-append (M l) (start (M l)) h o)
+    said =
+        ap (λ (x : Heard). x .answer) (e ∙ in-range-heard l o stands-in-range)
+        ∙ ap (λ (w : State). answerOf (run (M l) w o)) (s .state) ∙ ap answerOf (run-append (M l) (start (M l)) h o)
 
     took : r .taken ≡ taken (M l) (l .state) o
     took = ap (λ (x : Heard). x .taken) (e ∙ in-range-heard l o stands-in-range)
@@ -130,18 +135,30 @@ module _ (l : Listener) (h : List ℕ) (s : Stands l h) where
 
     pub stands-on : Stands (r .listener) (h ++ take (r .taken) o)
     stands-on =
-        let n : length (take (r .taken) o) ≡ r .taken = length-take-le _ _ (omega (arith, taken-most (M l) (l .state) o, took)) in
+        let n : length (take (r .taken) o) ≡ r .taken =
+        length-take-le _ _ (omega (arith, taken-most (M l) (l .state) o, took)) in
         record {
-          state = led ∙ sym ran ∙ sym (run-taken (M l) (l .state) o) ∙ ap (λ (k : ℕ). run (M l) (l .state) (take k o)) (sym took) ∙ ap (λ (w : State). run (M l) w (take (r .taken) o)) (s .state) ∙ run-append (M l) (start (M l)) h (take (r .taken) o) ∙ ap (λ (b : Book). answer (languageOf b .machine) (h ++ take (r .taken) o)) (sym same-book);
+          state =
+              led ∙ sym ran ∙ sym (run-taken (M l) (l .state) o)
+              ∙ ap (λ (k : ℕ). run (M l) (l .state) (take k o)) (sym took)
+              ∙ ap (λ (w : State). run (M l) w (take (r .taken) o)) (s .state)
+              ∙ run-append (M l) (start (M l)) h (take (r .taken) o)
+              ∙ ap (λ (b : Book). answer (languageOf b .machine) (h ++ take (r .taken) o)) (sym same-book);
           octets = octets-append h (take (r .taken) o) (s .octets) (octets-take (r .taken) o q);
           counted = omega (arith, ap place led, counts, n, length-append h (take (r .taken) o));
         }
 
     pub hears : Hears (L l) h o r
     hears = record {
-      waits = let d = demand3-of (l .book) .waits (h ++ o) all in (λ a. d .0 (is-waiting _ (sym said ∙ a)), λ a. said ∙ waiting-is _ (d .1 a));
-      has-message = λ n. let d = demand3-of (l .book) .has-message (h ++ o) all n in (λ a. d .0 (is-message _ n (sym said ∙ a)), λ a. said ∙ by-message n (d .1 a));
-      refuses = λ f. let d = demand3-of (l .book) .refuses (h ++ o) all f in (λ a. d .0 (is-refused _ f (sym said ∙ a)), λ a. said ∙ by-refused f (d .1 a));
+      waits =
+          let d = demand3-of (l .book) .waits (h ++ o) all in
+          (λ a. d .0 (is-waiting _ (sym said ∙ a)), λ a. said ∙ waiting-is _ (d .1 a));
+      has-message =
+          λ n. let d = demand3-of (l .book) .has-message (h ++ o) all n in
+          (λ a. d .0 (is-message _ n (sym said ∙ a)), λ a. said ∙ by-message n (d .1 a));
+      refuses =
+          λ f. let d = demand3-of (l .book) .refuses (h ++ o) all f in
+          (λ a. d .0 (is-refused _ f (sym said ∙ a)), λ a. said ∙ by-refused f (d .1 a));
       taken-waiting = λ a. took ∙ taken-all (M l) (l .state) o (rw ran (not-stopped _ (is-waiting _ (sym said ∙ a))));
       taken-message = λ n a. sym counts ∙ ap place (is-message _ n (sym said ∙ a));
       taken-refused = λ f a. sym counts ∙ ap place (is-refused _ f (sym said ∙ a));
@@ -151,15 +168,19 @@ module _ (l : Listener) (h : List ℕ) (s : Stands l h) where
         by-message : (n : ℕ) → answer (M l) (h ++ o) ≡ state.Message n → answerOf (answer (M l) (h ++ o)) ≡ Message n
         by-message n d = rw d (said-message n)
 
-        by-refused : (f : Fault) → answer (M l) (h ++ o) ≡ state.Refused f → answerOf (answer (M l) (h ++ o)) ≡ Refused f
+        by-refused : (f : Fault) → answer (M l) (h ++ o) ≡ state.Refused f →
+            answerOf (answer (M l) (h ++ o)) ≡ Refused f
         by-refused f d = rw d (said-refused f)
 
 -- ---- any listener, also one that no octets lead to
 -- two calls on a run cut in two end as one call on the whole
-pub cut-anywhere : (l : Listener) (a b : List ℕ) → Octets a → (r r₁ r₂ : Heard) → r ≡ heardOf l (a ++ b) → r₁ ≡ heardOf l a → r₂ ≡ heardOf (r₁ .listener) b → (r .listener ≡ r₂ .listener) × (r .answer ≡ r₂ .answer) × (r .taken ≡ r₁ .taken + r₂ .taken)
+pub cut-anywhere : (l : Listener) (a b : List ℕ) → Octets a → (r r₁ r₂ : Heard) → r ≡ heardOf l (a ++ b) →
+    r₁ ≡ heardOf l a → r₂ ≡ heardOf (r₁ .listener) b →
+    (r .listener ≡ r₂ .listener) × (r .answer ≡ r₂ .answer) × (r .taken ≡ r₁ .taken + r₂ .taken)
 cut-anywhere l a b q r r₁ r₂ e e₁ e₂ = go (decide (L l .inRange (l .state)))
   where
-    go : T (L l .inRange (l .state)) ⊎ (T (L l .inRange (l .state)) → ⊥) → (r .listener ≡ r₂ .listener) × (r .answer ≡ r₂ .answer) × (r .taken ≡ r₁ .taken + r₂ .taken)
+    go : T (L l .inRange (l .state)) ⊎ (T (L l .inRange (l .state)) → ⊥) →
+        (r .listener ≡ r₂ .listener) × (r .answer ≡ r₂ .answer) × (r .taken ≡ r₁ .taken + r₂ .taken)
     go (inl t) =
         let m : Listener = record { book = l .book; state = run (M l) (l .state) a } in
         let d₁ = e₁ ∙ in-range-heard l a t in
@@ -167,9 +188,16 @@ cut-anywhere l a b q r r₁ r₂ e e₁ e₂ = go (decide (L l .inRange (l .stat
         let d₂ = e₂ ∙ ap (λ (x : Heard). heardOf (x .listener) b) d₁ ∙ in-range-heard m b u in
         let d = e ∙ in-range-heard l (a ++ b) t in
         let k = run-append (M l) (l .state) a b in (
-          ap (λ (x : Heard). x .listener) d ∙ ap (λ (w : State). record { book = l .book; state = w }) (sym k) ∙ sym (ap (λ (x : Heard). x .listener) d₂),
+          ap (λ (x : Heard). x .listener) d ∙ ap (λ (w : State). record { book = l .book; state = w }) (sym k)
+              ∙ sym (ap (λ (x : Heard). x .listener) d₂),
           ap (λ (x : Heard). x .answer) d ∙ ap answerOf (sym k) ∙ sym (ap (λ (x : Heard). x .answer) d₂),
-          omega (arith, ap (λ (x : Heard). x .taken) d, taken-append (M l) (l .state) a b, ap (λ (x : Heard). x .taken) d₁, ap (λ (x : Heard). x .taken) d₂),
+          omega (
+            arith,
+            ap (λ (x : Heard). x .taken) d,
+            taken-append (M l) (l .state) a b,
+            ap (λ (x : Heard). x .taken) d₁,
+            ap (λ (x : Heard). x .taken) d₂,
+          ),
         )
     go (inr n) =
         let d₁ = e₁ ∙ out-of-range-heard l a n in
@@ -177,39 +205,55 @@ cut-anywhere l a b q r r₁ r₂ e e₁ e₂ = go (decide (L l .inRange (l .stat
         let d = e ∙ out-of-range-heard l (a ++ b) n in (
           ap (λ (x : Heard). x .listener) d ∙ sym (ap (λ (x : Heard). x .listener) d₂),
           ap (λ (x : Heard). x .answer) d ∙ sym (ap (λ (x : Heard). x .answer) d₂),
-          omega (arith, ap (λ (x : Heard). x .taken) d, ap (λ (x : Heard). x .taken) d₁, ap (λ (x : Heard). x .taken) d₂),
+          omega (
+            arith,
+            ap (λ (x : Heard). x .taken) d,
+            ap (λ (x : Heard). x .taken) d₁,
+            ap (λ (x : Heard). x .taken) d₂,
+          ),
         )
 
 -- after an answer it takes none, says the same again and stays as it was
-pub says-it-again : (l : Listener) (o : List ℕ) (r : Heard) → T (L l .inRange (l .state)) → stopped (l .state) ≡ true → r ≡ heardOf l o → r ≡ record { listener = l; answer = answerOf (l .state); taken = 0 }
+pub says-it-again : (l : Listener) (o : List ℕ) (r : Heard) → T (L l .inRange (l .state)) →
+    stopped (l .state) ≡ true → r ≡ heardOf l o → r ≡ record { listener = l; answer = answerOf (l .state); taken = 0 }
 unfolding answerOf
-says-it-again l o r t s e = e ∙ in-range-heard l o t ∙ ap₃ (run-stopped (M l) (l .state) o s) (taken-stopped (M l) (l .state) o s)
+says-it-again l o r t s e =
+    e ∙ in-range-heard l o t ∙ ap₃ (run-stopped (M l) (l .state) o s) (taken-stopped (M l) (l .state) o s)
   where
-    ap₃ : run (M l) (l .state) o ≡ l .state → taken (M l) (l .state) o ≡ 0 → stepped (L l) l o ≡ (record { listener = l; answer = answerOf (l .state); taken = 0 })
+    ap₃ : run (M l) (l .state) o ≡ l .state → taken (M l) (l .state) o ≡ 0 →
+        stepped (L l) l o ≡ (record { listener = l; answer = answerOf (l .state); taken = 0 })
     ap₃ a b = rw (a, b)
 
 -- an answer that a call gave, the next call gives again, takes none and leaves the listener as it was
-pub answer-stays : (l : Listener) (h : List ℕ) → Stands l h → (o : List ℕ) → Octets o → (r : Heard) → r ≡ heardOf l o → (r .answer ≡ Waits → ⊥) →
-    (o' : List ℕ) (r' : Heard) → r' ≡ heardOf (r .listener) o' → r' ≡ record { listener = r .listener; answer = r .answer; taken = 0 }
+pub answer-stays : (l : Listener) (h : List ℕ) → Stands l h → (o : List ℕ) → Octets o → (r : Heard) →
+    r ≡ heardOf l o → (r .answer ≡ Waits → ⊥) →
+    (o' : List ℕ) (r' : Heard) → r' ≡ heardOf (r .listener) o' →
+    r' ≡ record { listener = r .listener; answer = r .answer; taken = 0 }
 answer-stays l h s o q r e n o' r' e' =
     let z = e ∙ in-range-heard l o (stands-in-range l h s) in
-    let a : r .answer ≡ answerOf (r .listener .state) = ap (λ (x : Heard). x .answer) z ∙ sym (ap (λ (x : Heard). answerOf (x .listener .state)) z) in
+    let a : r .answer ≡ answerOf (r .listener .state) =
+    ap (λ (x : Heard). x .answer) z ∙ sym (ap (λ (x : Heard). answerOf (x .listener .state)) z) in
     let t = stands-in-range (r .listener) _ (stands-on l h s o q r e) in
     says-it-again (r .listener) o' r' t (answered _ (λ w. n (a ∙ w))) e'
     ∙ ap (λ (x : Answer). record { listener = r .listener; answer = x; taken = 0 }) (sym a)
 
-pub in-range-number : (l : Listener) (o : List ℕ) → Octets o → T (L l .inRange (l .state)) → (r : Heard) → r ≡ heardOf l o → (f : Fault) → r .answer ≡ Refused f → T (L l .given (f .number))
+pub in-range-number : (l : Listener) (o : List ℕ) → Octets o → T (L l .inRange (l .state)) → (r : Heard) →
+    r ≡ heardOf l o → (f : Fault) → r .answer ≡ Refused f → T (L l .given (f .number))
 in-range-number l o q t r e f a =
-    let w : run (M l) (l .state) o ≡ state.Refused f = is-refused _ f (sym (ap (λ (x : Heard). x .answer) (e ∙ in-range-heard l o t)) ∙ a) in
+    let w : run (M l) (l .state) o ≡ state.Refused f =
+    is-refused _ f (sym (ap (λ (x : Heard). x .answer) (e ∙ in-range-heard l o t)) ∙ a) in
     S l .refused f (subst (λ (x : State). T (L l .inRange x)) w (in-range-run (S l) (l .state) o q t)) .0
 
 -- it gives a number of its language, or 17 at 0 where it is out of range
-pub numbers : (l : Listener) (o : List ℕ) → Octets o → (r : Heard) → r ≡ heardOf l o → (f : Fault) → r .answer ≡ Refused f → T (L l .given (f .number)) ⊎ (f ≡ noted 17 0)
+pub numbers : (l : Listener) (o : List ℕ) → Octets o → (r : Heard) → r ≡ heardOf l o → (f : Fault) →
+    r .answer ≡ Refused f → T (L l .given (f .number)) ⊎ (f ≡ noted 17 0)
 numbers l o q r e f a = go (decide (L l .inRange (l .state)))
   where
     go : T (L l .inRange (l .state)) ⊎ (T (L l .inRange (l .state)) → ⊥) → T (L l .given (f .number)) ⊎ (f ≡ noted 17 0)
     go (inl t) = inl (in-range-number l o q t r e f a)
-    go (inr n) = inr (let d : Refused f ≡ Refused (noted 17 0) = sym a ∙ ap (λ (x : Heard). x .answer) (e ∙ out-of-range-heard l o n) in cc)
+    go (inr n) =
+        inr (let d : Refused f ≡ Refused (noted 17 0) = sym a
+        ∙ ap (λ (x : Heard). x .answer) (e ∙ out-of-range-heard l o n) in cc)
 
 -- no call takes more than 258 octets
 pub taken-small : (l : Listener) (o : List ℕ) → Octets o → heardOf l o .taken ≤ 258
@@ -217,7 +261,13 @@ taken-small l o q = go (decide (L l .inRange (l .state)))
   where
     go : T (L l .inRange (l .state)) ⊎ (T (L l .inRange (l .state)) → ⊥) → heardOf l o .taken ≤ 258
     go (inl t) =
-        omega (arith, ap (λ (x : Heard). x .taken) (in-range-heard l o t), place-taken (M l) (l .state) o, S l .within-258 _ (in-range-run (S l) (l .state) o q t))
+        omega (
+          arith,
+          ap (λ (x : Heard). x .taken) (in-range-heard l o t),
+          place-taken (M l) (l .state) o,
+          S
+              l .within-258 _ (in-range-run (S l) (l .state) o q t),
+        )
     go (inr n) = omega (arith, ap (λ (x : Heard). x .taken) (out-of-range-heard l o n))
 
 -- ---- an answer is told by its number, place and size
@@ -244,8 +294,13 @@ message-told Waits n l = (λ e. absurd (omega arith), λ e. clash cc)
 message-told (Message m) n l = (λ e. ap Message e, λ e. cc)
 message-told (Refused f) n l = (λ e. absurd (omega arith), λ e. clash cc)
 
-pub refused-told : (a : Answer) (f : Fault) → 1 ≤ f .number → ((told a .number ≡ f .number) × (told a .place ≡ f .place)) ↔ (a ≡ Refused f)
+pub refused-told : (a : Answer) (f : Fault) → 1 ≤ f .number →
+    ((told a .number ≡ f .number) × (told a .place ≡ f .place)) ↔ (a ≡ Refused f)
 unfolding told
 refused-told Waits f l = (λ e. absurd (omega (arith, e .0)), λ e. clash cc)
 refused-told (Message n) f l = (λ e. absurd (omega (arith, e .0)), λ e. clash cc)
-refused-told (Refused g) f l = (λ e. (λ i. Refused (record { number = e .0 i; place = e .1 i })), λ e. let d : g ≡ f = cc in (ap (λ (x : Fault). x .number) d, ap (λ (x : Fault). x .place) d))
+refused-told (Refused g) f l = (
+  λ e. (λ i. Refused (record { number = e .0 i; place = e .1 i })),
+  λ e. let d : g ≡ f = cc in
+      (ap (λ (x : Fault). x .number) d, ap (λ (x : Fault). x .place) d),
+)

@@ -1,4 +1,5 @@
--- The root of the proofs: what the arithmetic wants, that every public promise settles its outcome, and demand 3 over the promises.
+-- The root of the proofs: what the arithmetic wants, that every public promise settles its outcome, and demand 3 over
+-- the promises.
 pub mod Bounds
 pub mod Settled
 pub mod Promised

@@ -1,4 +1,5 @@
--- Demand 3 over the promises of `reset` and `listen`: whatever outcomes they allow, call after call (document 01, Listening).
+-- Demand 3 over the promises of `reset` and `listen`: whatever outcomes they allow, call after call (document 01,
+-- Listening).
 -- Assumes nothing.
 use Prim.Native.Nat.{ℕ, _+_}
 use mathlib.Core.Path.{_≡_, sym, _∙_, ap, subst}
@@ -36,10 +37,12 @@ reset-is-new b l h = h .3 ∙ ap newListener (h .4)
 pub listen-is : (l : Listener) (o : List ℕ) (r : declared.Heard) → listen-gives l o r → r ≡ heardOf l o
 listen-is l o r h = h .3 ∙ (λ i. heardOf (h .4 i) (h .5 i))
 
--- l has heard the octets h since it was reset to the book b: whatever the promises allow, call after call, the octets taken added to h
+-- l has heard the octets h since it was reset to the book b: whatever the promises allow, call after call, the octets
+-- taken added to h
 pub data HasHeard : Book → Listener → List ℕ → Type 0 where
   new : (b : Book) (l : Listener) → reset-gives b l → HasHeard b l []
-  more : (b : Book) (l : Listener) (h o : List ℕ) (r : declared.Heard) → HasHeard b l h → Octets o → listen-gives l o r → HasHeard b (r .listener) (h ++ take (r .taken) o)
+  more : (b : Book) (l : Listener) (h o : List ℕ) (r : declared.Heard) → HasHeard b l h → Octets o →
+      listen-gives l o r → HasHeard b (r .listener) (h ++ take (r .taken) o)
 
 pub stands : (b : Book) (l : Listener) (h : List ℕ) → HasHeard b l h → Stands l h
 stands b l h (new c k p) = subst (λ (x : Listener). Stands x []) (sym (reset-is-new c k p)) (new-stands c)
@@ -51,16 +54,23 @@ unfolding newListener
 book-kept b l h (new c k p) = ap (λ (x : Listener). x .book) (reset-is-new c k p)
 book-kept b l h (more c k g o r d q p) = same-book k g (stands c k g d) o q r (listen-is k o r p) ∙ book-kept c k g d
 
-module _ (b : Book) (l : Listener) (h : List ℕ) (d : HasHeard b l h) (o : List ℕ) (q : Octets o) (r : declared.Heard) (p : listen-gives l o r) where
+module _ (b : Book) (l : Listener) (h : List ℕ) (d : HasHeard b l h) (o : List ℕ) (q : Octets o)
+    (r : declared.Heard) (p : listen-gives l o r) where
   -- demand 3 in all its sentences, the octets taken too, by the book of its reset
   pub demand3 : Hears (languageOf b) h o r
-  demand3 = subst (λ (c : Book). Hears (languageOf c) h o r) (book-kept b l h d) (hears.hears l h (stands b l h d) o q r (listen-is l o r p))
+  demand3 =
+      subst (λ (c : Book). Hears (languageOf c) h o r) (book-kept b l h d)
+      (hears.hears l h (stands b l h d) o q r (listen-is l o r p))
 
-  -- a message or a refusal, once given, is given again by each call after it, which takes none and leaves the listener as it was
-  pub answer-stays : (r .answer ≡ Waits → ⊥) → (o' : List ℕ) (r' : declared.Heard) → listen-gives (r .listener) o' r' → r' ≡ record { listener = r .listener; answer = r .answer; taken = 0 }
-  answer-stays n o' r' k = hears.answer-stays l h (stands b l h d) o q r (listen-is l o r p) n o' r' (listen-is (r .listener) o' r' k)
+  -- a message or a refusal, once given, is given again by each call after it, which takes none and leaves the
+  -- listener as it was
+  pub answer-stays : (r .answer ≡ Waits → ⊥) → (o' : List ℕ) (r' : declared.Heard) →
+      listen-gives (r .listener) o' r' → r' ≡ record { listener = r .listener; answer = r .answer; taken = 0 }
+  answer-stays n o' r' k =
+      hears.answer-stays l h (stands b l h d) o q r (listen-is l o r p) n o' r' (listen-is (r .listener) o' r' k)
 
-  -- a listener from a reset and any octets never gets 17: its numbers are those of its language, 1 to 6, and 10 in the strict way
+  -- a listener from a reset and any octets never gets 17: its numbers are those of its language, 1 to 6, and 10 in
+  -- the strict way
   pub never-17 : (f : Fault) → r .answer ≡ Refused f → T (languageOf b .given (f .number))
   never-17 f e =
       subst (λ (c : Book). T (languageOf c .given (f .number))) (book-kept b l h d)
@@ -68,10 +78,12 @@ module _ (b : Book) (l : Listener) (h : List ℕ) (d : HasHeard b l h) (o : List
 
 module _ (l : Listener) (o : List ℕ) (r : declared.Heard) (p : listen-gives l o r) where
   -- any listener at all gives a number of its language, or 17 at 0
-  pub numbers : Octets o → (f : Fault) → r .answer ≡ Refused f → T (languageOf (l .book) .given (f .number)) ⊎ (f ≡ noted 17 0)
+  pub numbers : Octets o → (f : Fault) → r .answer ≡ Refused f →
+      T (languageOf (l .book) .given (f .number)) ⊎ (f ≡ noted 17 0)
   numbers q f e = hears.numbers l o q r (listen-is l o r p) f e
 
-  -- one in range, also where no octets lead to it, is stepped by the written rule of its book, and keeps that; answer and octets taken are the rule's too
+  -- one in range, also where no octets lead to it, is stepped by the written rule of its book, and keeps that; answer
+  -- and octets taken are the rule's too
   pub by-the-rule : T (languageOf (l .book) .inRange (l .state)) → r ≡ stepped (languageOf (l .book)) l o
   by-the-rule t = listen-is l o r p ∙ in-range-heard l o t
 
@@ -80,6 +92,9 @@ module _ (l : Listener) (o : List ℕ) (r : declared.Heard) (p : listen-gives l 
   out-of-range n = listen-is l o r p ∙ out-of-range-heard l o n
 
 -- any cutting ends as one run does
-pub cut-anywhere : (l : Listener) (x y : List ℕ) (r r₁ r₂ : declared.Heard) → listen-gives l (x ++ y) r → listen-gives l x r₁ → listen-gives (r₁ .listener) y r₂ → Octets x →
+pub cut-anywhere : (l : Listener) (x y : List ℕ) (r r₁ r₂ : declared.Heard) → listen-gives l (x ++ y) r →
+    listen-gives l x r₁ → listen-gives (r₁ .listener) y r₂ → Octets x →
     (r .listener ≡ r₂ .listener) × (r .answer ≡ r₂ .answer) × (r .taken ≡ r₁ .taken + r₂ .taken)
-cut-anywhere l x y r r₁ r₂ p p₁ p₂ q = hears.cut-anywhere l x y q r r₁ r₂ (listen-is l (x ++ y) r p) (listen-is l x r₁ p₁) (listen-is (r₁ .listener) y r₂ p₂)
+cut-anywhere l x y r r₁ r₂ p p₁ p₂ q =
+    hears.cut-anywhere l x y q r r₁ r₂ (listen-is l (x ++ y) r p) (listen-is l x r₁ p₁)
+    (listen-is (r₁ .listener) y r₂ p₂)

@@ -34,23 +34,29 @@ module _ (M : Machine) where
   unfolding runFrom runOf
   run-zero w h = simp zero-add
 
-  pub ran-stopped : (w : State) (h : List ℕ) (i : ℕ) → stopped w ≡ true → runFrom i M w h ≡ record { state = w; taken = i }
+  pub ran-stopped : (w : State) (h : List ℕ) (i : ℕ) → stopped w ≡ true →
+      runFrom i M w h ≡ record { state = w; taken = i }
   unfolding runFrom
   ran-stopped w h i e = simp (run-stopped w h e, taken-stopped w h e, add-zero)
 
-  pub ran-out : (w : State) (h : List ℕ) (i : ℕ) → length h ≤ i → runFrom i M w (drop i h) ≡ record { state = w; taken = i }
+  pub ran-out : (w : State) (h : List ℕ) (i : ℕ) → length h ≤ i →
+      runFrom i M w (drop i h) ≡ record { state = w; taken = i }
   unfolding runFrom run taken
   ran-out w h i l = rw (drop-of-length-le h l) (simp add-zero)
 
-  run-cons : (w : State) (x : ℕ) (t : List ℕ) (i : ℕ) → stopped w ≡ false → runFrom (i + 1) M (step M w x) t ≡ runFrom i M w (x ∷ t)
+  run-cons : (w : State) (x : ℕ) (t : List ℕ) (i : ℕ) → stopped w ≡ false →
+      runFrom (i + 1) M (step M w x) t ≡ runFrom i M w (x ∷ t)
   unfolding runFrom run taken pick
   run-cons w x t i e = rw e (ap (λ (n : ℕ). record { state = run M (step M w x) t; taken = n }) (omega arith))
 
   drop-one : (h : List ℕ) (i : ℕ) → i < length h → drop i h ≡ getD h i 0 ∷ drop (i + 1) h
   drop-one h i l = drop-cons h i 0 l ∙ ap (λ (n : ℕ). getD h i 0 ∷ drop n h) (sym (add-one i))
 
-  pub run-more : (w r : State) (h : List ℕ) (i : ℕ) → r ≡ step M w (getD h i 0) → i < length h → stopped w ≡ false → runFrom (i + 1) M r (drop (i + 1) h) ≡ runFrom i M w (drop i h)
-  run-more w r h i q l e = ap (λ (k : State). runFrom (i + 1) M k (drop (i + 1) h)) q ∙ run-cons w _ _ i e ∙ ap (runFrom i M w) (sym (drop-one h i l))
+  pub run-more : (w r : State) (h : List ℕ) (i : ℕ) → r ≡ step M w (getD h i 0) → i < length h →
+      stopped w ≡ false → runFrom (i + 1) M r (drop (i + 1) h) ≡ runFrom i M w (drop i h)
+  run-more w r h i q l e =
+      ap (λ (k : State). runFrom (i + 1) M k (drop (i + 1) h)) q ∙ run-cons w _ _ i e
+      ∙ ap (runFrom i M w) (sym (drop-one h i l))
 
   -- ---- what is taken
   pub run-taken : (w : State) (h : List ℕ) → run M w (take (taken M w h) h) ≡ run M w h
@@ -88,5 +94,7 @@ module _ (M : Machine) where
   unfolding run taken pick stopped step
   taken-append w [] b = omega arith
   taken-append (Waiting s q) (x ∷ a) b = omega (arith, taken-append (step M (Waiting s q) x) a b)
-  taken-append (Message n) (x ∷ a) b = omega (arith, taken-stopped (Message n) b refl, ap (λ (w : State). taken M w b) (message-stays M n a))
-  taken-append (Refused f) (x ∷ a) b = omega (arith, taken-stopped (Refused f) b refl, ap (λ (w : State). taken M w b) (refused-stays M f a))
+  taken-append (Message n) (x ∷ a) b =
+      omega (arith, taken-stopped (Message n) b refl, ap (λ (w : State). taken M w b) (message-stays M n a))
+  taken-append (Refused f) (x ∷ a) b =
+      omega (arith, taken-stopped (Refused f) b refl, ap (λ (w : State). taken M w b) (refused-stays M f a))

@@ -1,4 +1,5 @@
--- What a call of the listener gives (document 01, Listening): the state after the octets, the answer, the octets taken; 17 for a listener out of range.
+-- What a call of the listener gives (document 01, Listening): the state after the octets, the answer, the octets
+-- taken; 17 for a listener out of range.
 -- Assumes nothing.
 use Prim.Native.Nat.{ℕ, suc, _+_, _≤_, _<_}
 use mathlib.Core.Path.{_≡_}

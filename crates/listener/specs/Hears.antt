@@ -22,7 +22,9 @@ pub record Hears (L : Language) (h o : List ℕ) (r : Heard) : Type 0 where
   -- it has a message of size n exactly when the first n octets are accepted
   pub has-message : (n : ℕ) → (r .answer ≡ Message n) ↔ ((n ≤ length (h ++ o)) × L .Accepts (take n (h ++ o)))
   -- it refuses exactly at the octet that spoils the message, with the number of that octet's role
-  pub refuses : (f : Fault) → (r .answer ≡ Refused f) ↔ (Spoilt (L .Accepts) (h ++ o) (f .place) × Numbered (L .Accepts) (L .roles) (h ++ o) (f .place) (f .number))
+  pub refuses : (f : Fault) →
+      (r .answer ≡ Refused f) ↔
+      (Spoilt (L .Accepts) (h ++ o) (f .place) × Numbered (L .Accepts) (L .roles) (h ++ o) (f .place) (f .number))
   -- it takes the whole run while it waits, the message's octets and no more, and the spoiling octet but none after it
   pub taken-waiting : r .answer ≡ Waits → r .taken ≡ length o
   pub taken-message : (n : ℕ) → r .answer ≡ Message n → length h + r .taken ≡ n

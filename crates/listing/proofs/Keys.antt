@@ -1,4 +1,5 @@
--- The constants of the code are document 01's rows: the types in their order, and the keys where they stand. antt computes one test over all rows.
+-- The constants of the code are document 01's rows: the types in their order, and the keys where they stand. antt
+-- computes one test over all rows.
 -- Assumes nothing.
 use Prim.Native.Nat.{ℕ, _+_, _≤_, _<_}
 use mathlib.Core.Path.{_≡_}
@@ -22,10 +23,13 @@ unfoldable pub starts : List ℕ
 starts = 0 ∷ 5 ∷ 12 ∷ 19 ∷ 33 ∷ 38 ∷ 50 ∷ 55 ∷ 63 ∷ 73 ∷ 83 ∷ 96 ∷ 104 ∷ 114 ∷ 119 ∷ []
 
 unfoldable pub keys : List ℕ
-keys = ascii "time=caller=called=caller-absent=name=name-absent=lamp=message=depositor=call-type=first-called=waiting=forwarded=user="
+keys =
+    ascii "time=caller=called=caller-absent=name=name-absent=lamp=message=depositor=call-type=first-called=waiting=forwarded=user="
 
 abbrev test : ℕ → Bool
-test i = (getD kinds i 0 =? rowAt i .kind) and (getD starts i 0 ≤? getD starts (i + 1) 0) and (getD starts (i + 1) 0 ≤? 119) and sameOctets (part keys (getD starts i 0) (getD starts (i + 1) 0)) (rowAt i .key ++ ascii "=")
+test i =
+    (getD kinds i 0 =? rowAt i .kind) and (getD starts i 0 ≤? getD starts (i + 1) 0) and (getD starts (i + 1) 0 ≤?
+    119) and sameOctets (part keys (getD starts i 0) (getD starts (i + 1) 0)) (rowAt i .key ++ ascii "=")
 
 tested : T (below test rowCount)
 unfolding below pairwise rowAt rulesOf ascii kinds starts keys _=?_ _≤?_ _and_

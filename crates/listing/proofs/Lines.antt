@@ -1,5 +1,5 @@
--- What the lines of a listing are: one for each type that counts, with its value's text, and none for any other, in the order of the table; the number of carried
--- parameters stands last.
+-- What the lines of a listing are: one for each type that counts, with its value's text, and none for any other, in
+-- the order of the table; the number of carried parameters stands last.
 -- Assumes nothing.
 use Prim.Native.Nat.{ℕ, zero, suc, _≤_, _<_}
 use mathlib.Core.Path.{_≡_, refl, sym, _∙_, ap, subst}
@@ -59,7 +59,8 @@ module _ (R : Rules) (m : Message) where
   abbrev one : Row → List Line
   one r = linesFor R r (counted R m (r .kind))
 
-  for-row : (r : Row) (x : Option (List ℕ)) (l : Line) → Has (linesFor R r x) l → (v : List ℕ) × (x ≡ some v) × (l ≡ lineOf R r v)
+  for-row : (r : Row) (x : Option (List ℕ)) (l : Line) → Has (linesFor R r x) l →
+      (v : List ℕ) × (x ≡ some v) × (l ≡ lineOf R r v)
   unfolding linesFor
   for-row r none l h = absurd h
   for-row r (some v) l (inl e) = (v, refl, e)
@@ -69,7 +70,8 @@ module _ (R : Rules) (m : Message) where
   unfolding linesFor
   row-for r v e = rw e (inl refl)
 
-  from-rows : (rs : List Row) → ((r : Row) → Has rs r → Has (R .rows) r) → (l : Line) → Has (rowLines R m rs) l → HasLine R m l
+  from-rows : (rs : List Row) → ((r : Row) → Has rs r → Has (R .rows) r) → (l : Line) → Has (rowLines R m rs) l →
+      HasLine R m l
   unfolding rowLines
   from-rows [] f l h = absurd h
   from-rows (r ∷ rs) f l h = go (has-split (one r) (rowLines R m rs) l h) (from-rows rs (λ q i. f q (inr i)) l)
@@ -78,10 +80,12 @@ module _ (R : Rules) (m : Message) where
       go (inl x) later = let w = for-row r _ l x in rw (w .2) (counts r (w .0) (f r (inl refl)) (w .1))
       go (inr x) later = later x
 
-  to-rows : (rs : List Row) (r : Row) (v : List ℕ) → Has rs r → counted R m (r .kind) ≡ some v → Has (rowLines R m rs) (lineOf R r v)
+  to-rows : (rs : List Row) (r : Row) (v : List ℕ) → Has rs r → counted R m (r .kind) ≡ some v →
+      Has (rowLines R m rs) (lineOf R r v)
   unfolding rowLines
   to-rows [] r v h e = absurd h
-  to-rows (q ∷ rs) r v (inl z) e = has-left (one q) (rowLines R m rs) _ (subst (λ (q : Row). Has (one q) (lineOf R r v)) z (row-for r v e))
+  to-rows (q ∷ rs) r v (inl z) e =
+      has-left (one q) (rowLines R m rs) _ (subst (λ (q : Row). Has (one q) (lineOf R r v)) z (row-for r v e))
   to-rows (q ∷ rs) r v (inr h) e = has-right (one q) (rowLines R m rs) _ (to-rows rs r v h e)
 
   has-said : (l : Line) → Has (messageLines R m) l → HasLine R m l
@@ -127,7 +131,8 @@ module _ (R : Rules) (m : Message) where
   rows-rise n [] t = (omega (arith, eq-of _ _ t), tt)
   rows-rise n (r ∷ rs) t = go (counted R m (r .kind)) (eq-of _ _ (both _ _ t .0)) (rows-rise (suc n) rs (both _ _ t .1))
     where
-      go : (x : Option (List ℕ)) → keyPlace (order R) (r .key) ≡ n → Rising R (suc n) (rest rs) → Rising R n (linesFor R r x ++ rowLines R m rs ++ carriedLine (carriedIn R (m .parameters)) ∷ [])
+      go : (x : Option (List ℕ)) → keyPlace (order R) (r .key) ≡ n → Rising R (suc n) (rest rs) →
+          Rising R n (linesFor R r x ++ rowLines R m rs ++ carriedLine (carriedIn R (m .parameters)) ∷ [])
       go none e h = earlier n (suc n) (rest rs) (omega arith) h
       go (some v) e h = (omega arith, rw e h)
 
@@ -141,11 +146,17 @@ module _ (R : Rules) (m : Message) where
 
 -- by any book
 pub lines-of : (b : Book) (m : Message) → Lines (rulesOf b) m (messageLines (rulesOf b) m)
-lines-of b m = record { said = λ l. (has-said (rulesOf b) m l, said-has (rulesOf b) m l); ordered = rise (rulesOf b) m (in-places b) }
+lines-of b m =
+    record {
+      said = λ l. (has-said (rulesOf b) m l, said-has (rulesOf b) m l);
+      ordered = rise (rulesOf b) m (in-places b);
+    }
 
 -- ---- the keys: no two rows have the same, and none has `kind` or `carried`
 abbrev apart : ℕ → Bool
-apart i = differ (rowAt i .key) (ascii "kind") and differ (rowAt i .key) (ascii "carried") and below (λ (j : ℕ). differ (rowAt i .key) (rowAt j .key) or i =? j) rowCount
+apart i =
+    differ (rowAt i .key) (ascii "kind") and differ (rowAt i .key) (ascii "carried") and below
+    (λ (j : ℕ). differ (rowAt i .key) (rowAt j .key) or i =? j) rowCount
 
 tested : T (below apart rowCount)
 unfolding below pairwise differ rowAt rulesOf ascii pick _=?_ _and_ _or_
@@ -162,7 +173,9 @@ module _ (i : ℕ) (h : i < rowCount) where
   not-carried e = differ-is _ _ (both _ _ (both _ _ own .0) .1) e
 
   pub key-tells : (j : ℕ) → j < rowCount → rowAt i .key ≡ rowAt j .key → i ≡ j
-  key-tells j k e = go (either _ _ (below-at (λ (j : ℕ). differ (rowAt i .key) (rowAt j .key) or i =? j) rowCount j (both _ _ own .1) k))
+  key-tells j k e =
+      go (either _ _ (below-at (λ (j : ℕ). differ (rowAt i .key) (rowAt j .key) or i =? j) rowCount j
+      (both _ _ own .1) k))
     where
       go : T (differ (rowAt i .key) (rowAt j .key)) ⊎ T (i =? j) → i ≡ j
       go (inl t) = absurd (differ-is _ _ t e)
@@ -171,45 +184,81 @@ module _ (i : ℕ) (h : i < rowCount) where
 module _ (m : Message) where
   -- the type of row i counts with contents v, and l is its line
   abbrev pub LineAt : ℕ → Line → Type 0
-  LineAt i l = (v : List ℕ) × (counted (rulesOf PresentLenient) m (rowAt i .kind) ≡ some v) × (l ≡ lineOf (rulesOf PresentLenient) (rowAt i) v)
+  LineAt i l =
+      (v : List ℕ) × (counted (rulesOf PresentLenient) m (rowAt i .kind) ≡ some v)
+      × (l ≡ lineOf (rulesOf PresentLenient) (rowAt i) v)
 
   -- a line says the kind, or the number of carried parameters, or what counts
-  pub every-line : (l : Line) → Has (messageLines (rulesOf PresentLenient) m) l → (l ≡ kindLine (m .kind)) ⊎ ((l ≡ carriedLine (carriedIn (rulesOf PresentLenient) (m .parameters))) ⊎ ((i : ℕ) × (i < rowCount) × LineAt i l))
+  pub every-line : (l : Line) → Has (messageLines (rulesOf PresentLenient) m) l →
+      (l ≡ kindLine (m .kind))
+      ⊎ ((l ≡ carriedLine (carriedIn (rulesOf PresentLenient) (m .parameters))) ⊎ ((i : ℕ) × (i < rowCount) × LineAt i l))
   unfolding rowAt
   every-line l h = go l (has-said (rulesOf PresentLenient) m l h)
     where
-      go : (l : Line) → HasLine (rulesOf PresentLenient) m l → (l ≡ kindLine (m .kind)) ⊎ ((l ≡ carriedLine (carriedIn (rulesOf PresentLenient) (m .parameters))) ⊎ ((i : ℕ) × (i < rowCount) × LineAt i l))
+      go : (l : Line) → HasLine (rulesOf PresentLenient) m l →
+          (l ≡ kindLine (m .kind))
+          ⊎ ((l ≡ carriedLine (carriedIn (rulesOf PresentLenient) (m .parameters)))
+          ⊎ ((i : ℕ) × (i < rowCount) × LineAt i l))
       go l kind = inl refl
       go l carried = inr (inl refl)
       go l (counts r v h e) =
           let w = at-has (rulesOf PresentLenient .rows) r noRow h in
-          inr (inr (w .0, omega (arith, w .1, row-count), (v, ap (λ (q : Row). counted (rulesOf PresentLenient) m (q .kind)) (sym (w .2)) ∙ e, ap (λ (q : Row). lineOf (rulesOf PresentLenient) q v) (w .2))))
+          inr (inr (
+            w .0,
+            omega (arith, w .1, row-count),
+            (
+              v,
+              ap (λ (q : Row). counted (rulesOf PresentLenient) m (q .kind)) (sym (w .2))
+                  ∙ e,
+              ap (λ (q : Row). lineOf (rulesOf PresentLenient) q v) (w .2),
+            ),
+          ))
 
   -- and the line of each type that counts is there
   pub line-there : (i : ℕ) (l : Line) → i < rowCount → LineAt i l → Has (messageLines (rulesOf PresentLenient) m) l
   unfolding rowAt
-  line-there i l h w = rw (w .2) (said-has (rulesOf PresentLenient) m _ (counts (rowAt i) (w .0) (has-at (rulesOf PresentLenient .rows) i noRow (omega (arith, row-count))) (w .1)))
+  line-there i l h w =
+      rw (w .2) (said-has (rulesOf PresentLenient) m _
+      (counts (rowAt i) (w .0) (has-at (rulesOf PresentLenient .rows) i noRow (omega (arith, row-count))) (w .1)))
 
   key-of : (i : ℕ) (x : List ℕ) (l : Line) → (record { key = rowAt i .key; value = x }) ≡ l → rowAt i .key ≡ l .key
   key-of i x l e = ap (λ (k : Line). k .key) e
 
   -- a row's key has a line with the value x exactly when its type counts and x is its value's text
-  pub line-iff : (i : ℕ) (x : List ℕ) → i < rowCount → Has (messageLines (rulesOf PresentLenient) m) (record { key = rowAt i .key; value = x }) ↔ ((v : List ℕ) × (counted (rulesOf PresentLenient) m (rowAt i .kind) ≡ some v) × (x ≡ printed (styleOf (classOf (rulesOf PresentLenient) (rowAt i .kind))) v))
+  pub line-iff : (i : ℕ) (x : List ℕ) → i < rowCount →
+      Has (messageLines (rulesOf PresentLenient) m) (record { key = rowAt i .key; value = x }) ↔
+      ((v : List ℕ) × (counted (rulesOf PresentLenient) m (rowAt i .kind) ≡ some v)
+      × (x ≡ printed (styleOf (classOf (rulesOf PresentLenient) (rowAt i .kind))) v))
   unfolding lineOf kindLine carriedLine
   line-iff i x h = (
     λ t. go (every-line _ t),
     λ w. line-there i _ h (w .0, w .1, ap (λ (y : List ℕ). record { key = rowAt i .key; value = y }) (w .2)),
   )
     where
-      at : (j : ℕ) → i ≡ j → LineAt j (record { key = rowAt i .key; value = x }) → (v : List ℕ) × (counted (rulesOf PresentLenient) m (rowAt i .kind) ≡ some v) × (x ≡ printed (styleOf (classOf (rulesOf PresentLenient) (rowAt i .kind))) v)
-      at j e w = (w .0, ap (λ (k : ℕ). counted (rulesOf PresentLenient) m (rowAt k .kind)) e ∙ w .1, ap (λ (k : Line). k .value) (w .2) ∙ ap (λ (k : ℕ). printed (styleOf (classOf (rulesOf PresentLenient) (rowAt k .kind))) (w .0)) (sym e))
+      at : (j : ℕ) → i ≡ j → LineAt j (record { key = rowAt i .key; value = x }) →
+          (v : List ℕ) × (counted (rulesOf PresentLenient) m (rowAt i .kind) ≡ some v)
+          × (x ≡ printed (styleOf (classOf (rulesOf PresentLenient) (rowAt i .kind))) v)
+      at j e w = (
+        w .0,
+        ap (λ (k : ℕ). counted (rulesOf PresentLenient) m (rowAt k .kind)) e
+            ∙ w .1,
+        ap (λ (k : Line). k .value) (w .2)
+            ∙ ap (λ (k : ℕ). printed (styleOf (classOf (rulesOf PresentLenient) (rowAt k .kind))) (w .0)) (sym e),
+      )
 
-      go : ((record { key = rowAt i .key; value = x }) ≡ kindLine (m .kind)) ⊎ (((record { key = rowAt i .key; value = x }) ≡ carriedLine (carriedIn (rulesOf PresentLenient) (m .parameters))) ⊎ ((j : ℕ) × (j < rowCount) × LineAt j (record { key = rowAt i .key; value = x }))) → (v : List ℕ) × (counted (rulesOf PresentLenient) m (rowAt i .kind) ≡ some v) × (x ≡ printed (styleOf (classOf (rulesOf PresentLenient) (rowAt i .kind))) v)
+      go : ((record { key = rowAt i .key; value = x }) ≡ kindLine (m .kind))
+          ⊎ (((record { key = rowAt i .key; value = x }) ≡ carriedLine
+          (carriedIn (rulesOf PresentLenient) (m .parameters)))
+          ⊎ ((j : ℕ) × (j < rowCount) × LineAt j (record { key = rowAt i .key; value = x }))) →
+          (v : List ℕ) × (counted (rulesOf PresentLenient) m (rowAt i .kind) ≡ some v)
+          × (x ≡ printed (styleOf (classOf (rulesOf PresentLenient) (rowAt i .kind))) v)
       go (inl e) = absurd (not-kind i h (key-of i x _ e))
       go (inr (inl e)) = absurd (not-carried i h (key-of i x _ e))
       go (inr (inr w)) = at (w .0) (key-tells i h (w .0) (w .1) (key-of i x _ (w .2 .2))) (w .2)
 
   -- the number of carried parameters stands last, in every listing
-  pub carried-last : messageLines (rulesOf PresentLenient) m ≡ (kindLine (m .kind) ∷ rowLines (rulesOf PresentLenient) m ((rulesOf PresentLenient) .rows)) ++ carriedLine (carriedIn (rulesOf PresentLenient) (m .parameters)) ∷ []
+  pub carried-last : messageLines (rulesOf PresentLenient) m ≡
+      (kindLine (m .kind) ∷ rowLines (rulesOf PresentLenient) m ((rulesOf PresentLenient) .rows)) ++ carriedLine
+      (carriedIn (rulesOf PresentLenient) (m .parameters)) ∷ []
   unfolding messageLines
   carried-last = refl

@@ -18,9 +18,13 @@ digits-enough zero g n k l = absurd (omega arith)
 digits-enough (suc f) zero n k l = absurd (omega arith)
 digits-enough (suc f) (suc g) n k l = go (digits-enough f g (n / 10)) (decide (n ≤? 9))
   where
-    go : (n / 10 < f → n / 10 < g → digitsBy f (n / 10) ≡ digitsBy g (n / 10)) → T (n ≤? 9) ⊎ (T (n ≤? 9) → ⊥) → pick (n ≤? 9) ((48 + n) ∷ []) (digitsBy f (n / 10) ++ (48 + n % 10) ∷ []) ≡ pick (n ≤? 9) ((48 + n) ∷ []) (digitsBy g (n / 10) ++ (48 + n % 10) ∷ [])
+    go : (n / 10 < f → n / 10 < g → digitsBy f (n / 10) ≡ digitsBy g (n / 10)) → T (n ≤? 9) ⊎ (T (n ≤? 9) → ⊥) →
+        pick (n ≤? 9) ((48 + n) ∷ []) (digitsBy f (n / 10) ++ (48 + n % 10) ∷ []) ≡
+        pick (n ≤? 9) ((48 + n) ∷ []) (digitsBy g (n / 10) ++ (48 + n % 10) ∷ [])
     go r (inl t) = pick-yes (n ≤? 9) ((48 + n) ∷ []) _ t ∙ sym (pick-yes (n ≤? 9) ((48 + n) ∷ []) _ t)
-    go r (inr t) = let z = not-le n 9 t in ap (λ (l : List ℕ). pick (n ≤? 9) ((48 + n) ∷ []) (l ++ (48 + n % 10) ∷ [])) (r (omega arith) (omega arith))
+    go r (inr t) =
+        let z = not-le n 9 t in
+        ap (λ (l : List ℕ). pick (n ≤? 9) ((48 + n) ∷ []) (l ++ (48 + n % 10) ∷ [])) (r (omega arith) (omega arith))
 
 -- one digit
 pub decimal-small : (n : ℕ) → n < 10 → decimal n ≡ (48 + n) ∷ []
@@ -87,11 +91,14 @@ no-leading-zero = by-digits (λ (n : ℕ). getD (decimal n) 0 0 ≡ 48 → n ≡
 
     more : (n : ℕ) → 10 ≤ n → (getD (decimal (n / 10)) 0 0 ≡ 48 → n / 10 ≡ 0) → getD (decimal n) 0 0 ≡ 48 → n ≡ 0
     more n h r e =
-        let z = r (sym (first (decimal (n / 10)) (48 + n % 10) (some (n / 10))) ∙ sym (ap (λ (l : List ℕ). getD l 0 0) (decimal-big n h)) ∙ e) in
+        let z = r (sym (first (decimal (n / 10)) (48 + n % 10) (some (n / 10)))
+        ∙ sym (ap (λ (l : List ℕ). getD l 0 0) (decimal-big n h)) ∙ e) in
         absurd (omega arith)
       where
         some : (k : ℕ) → 0 < length (decimal k)
-        some = by-digits (λ (k : ℕ). 0 < length (decimal k)) (λ k l. omega (arith, ap length (decimal-small k l))) (λ k l q. omega (arith, decimal-long k l))
+        some =
+            by-digits (λ (k : ℕ). 0 < length (decimal k)) (λ k l. omega (arith, ap length (decimal-small k l)))
+            (λ k l q. omega (arith, decimal-long k l))
 
 -- ---- how many digits
 pub one-digit : (n : ℕ) → n < 10 → length (decimal n) ≡ 1
@@ -126,11 +133,18 @@ hex-digit-says : (k : ℕ) → k < 16 → hexValue (hexDigit k) ≡ k
 unfolding hexDigit hexValue
 hex-digit-says k l = go (decide (k ≤? 9))
   where
-    go : T (k ≤? 9) ⊎ (T (k ≤? 9) → ⊥) → pick (pick (k ≤? 9) (48 + k) (55 + k) ≤? 57) (pick (k ≤? 9) (48 + k) (55 + k) - 48) (pick (k ≤? 9) (48 + k) (55 + k) - 55) ≡ k
-    go (inl t) = let e = le-of _ _ t in rw (pick-yes (k ≤? 9) (48 + k) (55 + k) t) (pick-yes _ _ _ (of-le _ _ (omega arith)) ∙ omega arith)
-    go (inr f) = let e = not-le k 9 f in rw (pick-not (k ≤? 9) (48 + k) (55 + k) f) (pick-not _ _ _ (λ t. omega (arith, le-of _ _ t)) ∙ omega arith)
+    go : T (k ≤? 9) ⊎ (T (k ≤? 9) → ⊥) →
+        pick (pick (k ≤? 9) (48 + k) (55 + k) ≤? 57) (pick (k ≤? 9) (48 + k) (55 + k) - 48)
+        (pick (k ≤? 9) (48 + k) (55 + k) - 55) ≡ k
+    go (inl t) =
+        let e = le-of _ _ t in
+        rw (pick-yes (k ≤? 9) (48 + k) (55 + k) t) (pick-yes _ _ _ (of-le _ _ (omega arith)) ∙ omega arith)
+    go (inr f) =
+        let e = not-le k 9 f in
+        rw (pick-not (k ≤? 9) (48 + k) (55 + k) f) (pick-not _ _ _ (λ t. omega (arith, le-of _ _ t)) ∙ omega arith)
 
 -- two digits that say the octet
-pub hex-says : (n : ℕ) → n < 256 → (16 * hexValue (getD (hex n) 0 0) + hexValue (getD (hex n) 1 0) ≡ n) × (length (hex n) ≡ 2)
+pub hex-says : (n : ℕ) → n < 256 →
+    (16 * hexValue (getD (hex n) 0 0) + hexValue (getD (hex n) 1 0) ≡ n) × (length (hex n) ≡ 2)
 unfolding hex
 hex-says n l = (omega (arith, hex-digit-says (n / 16) (omega arith), hex-digit-says (n % 16) (omega arith)), refl)

@@ -39,7 +39,9 @@ bares (l ∷ ls) = bare l ∷ bares ls
 
 cut-line : (a l t : List ℕ) → T (plain l) → cutFrom a (l ++ 0x0A ∷ t) ≡ (a ++ l) ∷ cutFrom [] t
 unfolding cutFrom plain
-cut-line a [] t p = pick-yes (0x0A =? 0x0A) (a ∷ cutFrom [] t) _ (of-eq 0x0A 0x0A refl) ∙ ap (λ (v : List ℕ). v ∷ cutFrom [] t) (sym (append-nil a))
+cut-line a [] t p =
+    pick-yes (0x0A =? 0x0A) (a ∷ cutFrom [] t) _ (of-eq 0x0A 0x0A refl)
+    ∙ ap (λ (v : List ℕ). v ∷ cutFrom [] t) (sym (append-nil a))
 cut-line a (x ∷ l) t p =
     let h = le-of 0x20 x (every-head (λ (x : ℕ). 0x20 ≤? x) x l p) in
     pick-not (x =? 0x0A) (a ∷ cutFrom [] (l ++ 0x0A ∷ t)) _ (λ e. let z = eq-of x 0x0A e in omega arith)
@@ -75,7 +77,9 @@ words = record { carried = tt; keys = tt }
 -- ---- lines of ours
 plain-kind : (x : ℕ) → T (plain (bare (kindLine x)))
 unfolding bare kindLine plain every ascii _≤?_ _and_
-plain-kind x = pick-case (λ (v : List ℕ). T (plain (ascii "kind" ++ ascii "=" ++ v))) (x =? 0x80) (ascii "call") (ascii "notice") (λ _. tt) (λ _. tt)
+plain-kind x =
+    pick-case (λ (v : List ℕ). T (plain (ascii "kind" ++ ascii "=" ++ v))) (x =? 0x80) (ascii "call")
+    (ascii "notice") (λ _. tt) (λ _. tt)
 
 plain-carried : (n : ℕ) → T (plain (bare (carriedLine n)))
 unfolding bare carriedLine
@@ -83,21 +87,39 @@ plain-carried n = plain-append (ascii "carried" ++ ascii "=") (decimal n) (words
 
 -- ---- the lines of a legal message
 module _ (m : Message) (legal : LegalMessage (rulesOf PresentLenient) m) where
-  row-plain : (r : Row) → T (plain (r .key ++ ascii "=")) → Plain (linesFor (rulesOf PresentLenient) r (counted (rulesOf PresentLenient) m (r .kind)))
+  row-plain : (r : Row) → T (plain (r .key ++ ascii "=")) →
+      Plain (linesFor (rulesOf PresentLenient) r (counted (rulesOf PresentLenient) m (r .kind)))
   unfolding linesFor bare lineOf
   row-plain r k = go (counted (rulesOf PresentLenient) m (r .kind)) refl
     where
-      go : (x : Option (List ℕ)) → x ≡ counted (rulesOf PresentLenient) m (r .kind) → Plain (linesFor (rulesOf PresentLenient) r x)
+      go : (x : Option (List ℕ)) → x ≡ counted (rulesOf PresentLenient) m (r .kind) →
+          Plain (linesFor (rulesOf PresentLenient) r x)
       go none e = tt
-      go (some v) e = (plain-append (r .key ++ ascii "=") (printed (styleOf (classOf (rulesOf PresentLenient) (r .kind))) v) k (value (classOf (rulesOf PresentLenient) (r .kind)) .plainly v (counted-fits m legal (r .kind) v (sym e))), tt)
+      go (some v) e = (
+        plain-append (r .key ++ ascii "=") (printed (styleOf (classOf (rulesOf PresentLenient) (r .kind))) v) k
+            (value (classOf (rulesOf PresentLenient) (r .kind)) .plainly v
+            (counted-fits m legal (r .kind) v (sym e))),
+        tt,
+      )
 
-  rows-plain : (rs : List Row) → T (every (λ (r : Row). plain (r .key ++ ascii "=")) rs) → Plain (rowLines (rulesOf PresentLenient) m rs)
+  rows-plain : (rs : List Row) → T (every (λ (r : Row). plain (r .key ++ ascii "=")) rs) →
+      Plain (rowLines (rulesOf PresentLenient) m rs)
   unfolding rowLines every
   rows-plain [] t = tt
-  rows-plain (r ∷ rs) t = let d = both _ _ t in plain-lines (linesFor (rulesOf PresentLenient) r (counted (rulesOf PresentLenient) m (r .kind))) (rowLines (rulesOf PresentLenient) m rs) (row-plain r (d .0)) (rows-plain rs (d .1))
+  rows-plain (r ∷ rs) t =
+      let d = both _ _ t in
+      plain-lines (linesFor (rulesOf PresentLenient) r (counted (rulesOf PresentLenient) m (r .kind)))
+      (rowLines (rulesOf PresentLenient) m rs) (row-plain r (d .0)) (rows-plain rs (d .1))
 
   -- cut at its line ends, the listing of a message gives its lines, in their order
   pub lines-back :
       cut (written (messageLines (rulesOf PresentLenient) m)) ≡ bares (messageLines (rulesOf PresentLenient) m)
   unfolding messageLines
-  lines-back = cut-written (messageLines (rulesOf PresentLenient) m) (plain-kind (m .kind), plain-lines (rowLines (rulesOf PresentLenient) m ((rulesOf PresentLenient) .rows)) (carriedLine (carriedIn (rulesOf PresentLenient) (m .parameters)) ∷ []) (rows-plain ((rulesOf PresentLenient) .rows) (words .keys)) (plain-carried (carriedIn (rulesOf PresentLenient) (m .parameters)), tt))
+  lines-back =
+      cut-written (messageLines (rulesOf PresentLenient) m) (
+        plain-kind (m .kind),
+        plain-lines (rowLines (rulesOf PresentLenient) m ((rulesOf PresentLenient) .rows))
+            (carriedLine (carriedIn (rulesOf PresentLenient) (m .parameters)) ∷ [])
+            (rows-plain ((rulesOf PresentLenient) .rows) (words .keys))
+            (plain-carried (carriedIn (rulesOf PresentLenient) (m .parameters)), tt),
+      )

@@ -37,9 +37,11 @@ listing-gives o r = (κs : _) × (a : _) × (s : _) × listing.Post κs a r s ×
 abbrev pub shown : Text → List ℕ
 shown r = take (r .length) (r .octets)
 
-of-text : (v : List ℕ) → (shown (bufferOf v) ≡ v) × (drop (bufferOf v .length) (bufferOf v .octets) ≡ replicate (bufferSize - length v) 0)
+of-text : (v : List ℕ) →
+    (shown (bufferOf v) ≡ v) × (drop (bufferOf v .length) (bufferOf v .octets) ≡ replicate (bufferSize - length v) 0)
 unfolding bufferOf
-of-text v = (take-append-seam v (replicate (bufferSize - length v) 0), drop-append-seam v (replicate (bufferSize - length v) 0))
+of-text v =
+    (take-append-seam v (replicate (bufferSize - length v) 0), drop-append-seam v (replicate (bufferSize - length v) 0))
 
 module _ (o : List ℕ) (r : Text) (h : listing-gives o r) where
   listing-is : r ≡ bufferOf (listingOf (rulesOf PresentLenient) o)
@@ -49,21 +51,27 @@ module _ (o : List ℕ) (r : Text) (h : listing-gives o r) where
   pub lists : shown r ≡ listingOf (rulesOf PresentLenient) o
   lists = ap shown listing-is ∙ of-text (listingOf (rulesOf PresentLenient) o) .0
 
-  pub zeros-behind : drop (r .length) (r .octets) ≡ replicate (bufferSize - length (listingOf (rulesOf PresentLenient) o)) 0
-  zeros-behind = ap (λ (x : Text). drop (x .length) (x .octets)) listing-is ∙ of-text (listingOf (rulesOf PresentLenient) o) .1
+  pub zeros-behind : drop (r .length) (r .octets) ≡
+      replicate (bufferSize - length (listingOf (rulesOf PresentLenient) o)) 0
+  zeros-behind =
+      ap (λ (x : Text). drop (x .length) (x .octets)) listing-is ∙ of-text (listingOf (rulesOf PresentLenient) o) .1
 
   -- of a message's octets: its lines, and nothing else
-  pub lists-message : (m : message.Message) → LegalMessage (rulesOf PresentLenient) m → octets m ≡ o → shown r ≡ written (messageLines (rulesOf PresentLenient) m)
+  pub lists-message : (m : message.Message) → LegalMessage (rulesOf PresentLenient) m → octets m ≡ o →
+      shown r ≡ written (messageLines (rulesOf PresentLenient) m)
   unfolding listingOf verdictLines
   lists-message m l e =
       let w : Accepts (rulesOf PresentLenient) o = (m, l, e) in
-      let v : verdictOf (rulesOf PresentLenient) o ≡ Accepted (length o) = judges-of PresentLenient o (unique-in PresentLenient .octets o w) .accepted (length o) .1 (refl, w) in
+      let v : verdictOf (rulesOf PresentLenient) o ≡ Accepted (length o) =
+      judges-of PresentLenient o (unique-in PresentLenient .octets o w) .accepted (length o) .1 (refl, w) in
       lists
       ∙ ap (λ (x : Verdict). written (verdictLines (rulesOf PresentLenient) o x)) v
-      ∙ ap (λ (x : message.Message). written (messageLines (rulesOf PresentLenient) x)) (ap messageIn (sym e) ∙ message-in (rulesOf PresentLenient) (sound-rules PresentLenient) m l)
+      ∙ ap (λ (x : message.Message). written (messageLines (rulesOf PresentLenient) x))
+      (ap messageIn (sym e) ∙ message-in (rulesOf PresentLenient) (sound-rules PresentLenient) m l)
 
   -- cut at its line ends it gives them back
-  pub lists-lines : (m : message.Message) → LegalMessage (rulesOf PresentLenient) m → octets m ≡ o → cut (shown r) ≡ bares (messageLines (rulesOf PresentLenient) m)
+  pub lists-lines : (m : message.Message) → LegalMessage (rulesOf PresentLenient) m → octets m ≡ o →
+      cut (shown r) ≡ bares (messageLines (rulesOf PresentLenient) m)
   lists-lines m l e = ap cut (lists-message m l e) ∙ lines-back m l
 
   -- of a refusal: number and place, as the verdict has them

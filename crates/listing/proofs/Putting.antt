@@ -17,7 +17,8 @@ use Rattle.listing.specs.Put.{Room, Put}
 use Rattle.listing.specs.Listing.{lampWord, stateWord, kindLine, lineText}
 
 -- the text laid over the area from its place on
-put-whole : (v : List ℕ) (at : ℕ) (old new : List ℕ) → Room v at old → new ≡ laidAt v at old → Put v at old (at + length v) new
+put-whole : (v : List ℕ) (at : ℕ) (old new : List ℕ) → Room v at old → new ≡ laidAt v at old →
+    Put v at old (at + length v) new
 unfolding Room
 put-whole v at old new h e = record {
   ends = refl;
@@ -35,7 +36,9 @@ copied v old last at h e = put-whole v at old (putMid at (length old - at) old l
 -- one octet stored
 pub stored : (x at : ℕ) (old : List ℕ) → Room (x ∷ []) at old → Put (x ∷ []) at old (at + 1) (set old at x)
 unfolding Room laidAt
-stored x at old h = put-whole (x ∷ []) at old (set old at x) h (set-split old at x (omega arith) ∙ ap (λ (n : ℕ). take at old ++ x ∷ drop n old) (sym (add-one at)))
+stored x at old h =
+    put-whole (x ∷ []) at old (set old at x) h
+    (set-split old at x (omega arith) ∙ ap (λ (n : ℕ). take at old ++ x ∷ drop n old) (sym (add-one at)))
 
 -- ---- room for what is the same
 pub room-same : (v w : List ℕ) (at : ℕ) (old : List ℕ) → v ≡ w → Room w at old → Room v at old

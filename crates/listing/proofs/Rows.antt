@@ -1,4 +1,5 @@
--- What the functions over rows owe their callers: the line of a row, the lines of the rows so far, and how many parameters are carried.
+-- What the functions over rows owe their callers: the line of a row, the lines of the rows so far, and how many
+-- parameters are carried.
 -- Assumes nothing.
 use Prim.Native.Nat.{ℕ, suc, _+_, _-_, _≤_, _<_}
 use mathlib.Core.Path.{_≡_, refl, sym, _∙_, ap, ap₂}
@@ -27,16 +28,22 @@ use Rattle.listing.specs.Listing.{lineText, written, written-one, writte
 use Rattle.listing.proofs.Keys.{kinds, key-at}
 
 -- ---- where contents stand, they lie inside
-pub part-inside : (o : List ℕ) (t : ℕ) (p : Part) (s n : ℕ) → p ≡ countedAt (rulesOf PresentLenient) o t → p ≡ At s n → s + n ≤ length o
+pub part-inside : (o : List ℕ) (t : ℕ) (p : Part) (s n : ℕ) → p ≡ countedAt (rulesOf PresentLenient) o t →
+    p ≡ At s n → s + n ≤ length o
 part-inside o t p s n e q = omega (arith, counted-inside o (rulesOf PresentLenient) t s n (sym e ∙ q))
 
 -- ---- the line of a row
-module _ (o : List ℕ) (i : ℕ) (h : i < rowCount) (p : Part) (e : p ≡ countedAt (rulesOf PresentLenient) o (getD kinds i 0)) where
+module _ (o : List ℕ) (i : ℕ) (h : i < rowCount) (p : Part)
+    (e : p ≡ countedAt (rulesOf PresentLenient) o (getD kinds i 0)) where
   stands : partLines (rulesOf PresentLenient) o (rowAt i) ≡ linesFor (rulesOf PresentLenient) (rowAt i) (partOf o p)
   unfolding partLines
-  stands = ap (λ (x : Part). linesFor (rulesOf PresentLenient) (rowAt i) (partOf o x)) (ap (countedAt (rulesOf PresentLenient) o) (sym (key-at i h .kind)) ∙ sym e)
+  stands =
+      ap (λ (x : Part). linesFor (rulesOf PresentLenient) (rowAt i) (partOf o x))
+      (ap (countedAt (rulesOf PresentLenient) o) (sym (key-at i h .kind)) ∙ sym e)
 
-  pub row-line : (s n : ℕ) → p ≡ At s n → lineText (lineOf (rulesOf PresentLenient) (rowAt i) (take (s + n - s) (drop s o))) ≡ written (partLines (rulesOf PresentLenient) o (rowAt i))
+  pub row-line : (s n : ℕ) → p ≡ At s n →
+      lineText (lineOf (rulesOf PresentLenient) (rowAt i) (take (s + n - s) (drop s o))) ≡
+      written (partLines (rulesOf PresentLenient) o (rowAt i))
   unfolding linesFor partOf
   row-line s n q =
       let z : s + n - s ≡ n = omega arith in
@@ -64,13 +71,15 @@ module _ (o : List ℕ) where
       written-append (partLines (rulesOf PresentLenient) o r) (rowsAt (rulesOf PresentLenient) o (a ++ b))
       ∙ ap (λ (v : List ℕ). written (partLines (rulesOf PresentLenient) o r) ++ v) (rows-append a b)
       ∙ sym (append-assoc (written (partLines (rulesOf PresentLenient) o r)) (rowsText a) (rowsText b))
-      ∙ ap (λ (v : List ℕ). v ++ rowsText b) (sym (written-append (partLines (rulesOf PresentLenient) o r) (rowsAt (rulesOf PresentLenient) o a)))
+      ∙ ap (λ (v : List ℕ). v ++ rowsText b)
+      (sym (written-append (partLines (rulesOf PresentLenient) o r) (rowsAt (rulesOf PresentLenient) o a)))
 
   row-alone : (r : Row) → rowsText (r ∷ []) ≡ written (partLines (rulesOf PresentLenient) o r)
   unfolding rowsAt
   row-alone r = ap written (append-nil (partLines (rulesOf PresentLenient) o r))
 
-  pub row-next : (i : ℕ) → i < rowCount → rowsText (take (i + 1) rows) ≡ rowsText (take i rows) ++ written (partLines (rulesOf PresentLenient) o (rowAt i))
+  pub row-next : (i : ℕ) → i < rowCount →
+      rowsText (take (i + 1) rows) ≡ rowsText (take i rows) ++ written (partLines (rulesOf PresentLenient) o (rowAt i))
   unfolding rowAt
   row-next i h =
       ap (λ (n : ℕ). rowsText (take n rows)) (add-one i)
@@ -85,25 +94,36 @@ module _ (o : List ℕ) where
 
     module _ (i : ℕ) (h : i < rowCount) (end : ℕ) (now : List ℕ)
         (p : Put (rowsText (take i rows)) at old end now) where
-      pub row-room : Room (rowsText rows) at old → Room (written (partLines (rulesOf PresentLenient) o (rowAt i))) end now
+      pub row-room : Room (rowsText rows) at old →
+          Room (written (partLines (rulesOf PresentLenient) o (rowAt i))) end now
       unfolding Room
       row-room r =
-          let a = ap length (sym (rows-append (take (i + 1) rows) (drop (i + 1) rows)) ∙ ap rowsText (take-append-drop (i + 1) rows)) in
+          let a = ap length (sym (rows-append (take (i + 1) rows) (drop (i + 1) rows))
+          ∙ ap rowsText (take-append-drop (i + 1) rows)) in
           let b = length-append (rowsText (take (i + 1) rows)) (rowsText (drop (i + 1) rows)) in
-          let d = ap length (row-next i h) ∙ length-append (rowsText (take i rows)) (written (partLines (rulesOf PresentLenient) o (rowAt i))) in
+          let d = ap length (row-next i h)
+          ∙ length-append (rowsText (take i rows)) (written (partLines (rulesOf PresentLenient) o (rowAt i))) in
           omega (arith, p .ends, p .long)
 
-      pub row-more : (last : ℕ) (next : List ℕ) → Put (written (partLines (rulesOf PresentLenient) o (rowAt i))) end now last next → Put (rowsText (take (i + 1) rows)) at old last next
-      row-more last next q = put-same _ _ at old last next (sym (row-next i h)) (put-then _ _ at old end now last next p q)
+      pub row-more : (last : ℕ) (next : List ℕ) →
+          Put (written (partLines (rulesOf PresentLenient) o (rowAt i))) end now last next →
+          Put (rowsText (take (i + 1) rows)) at old last next
+      row-more last next q =
+          put-same _ _ at old last next (sym (row-next i h)) (put-then _ _ at old end now last next p q)
 
-    pub all-rows : (i end : ℕ) (now : List ℕ) → i ≤ rowCount → rowCount ≤ i → Put (rowsText (take i rows)) at old end now → Put (rowsText rows) at old end now
+    pub all-rows : (i end : ℕ) (now : List ℕ) → i ≤ rowCount → rowCount ≤ i →
+        Put (rowsText (take i rows)) at old end now → Put (rowsText rows) at old end now
     unfolding rulesOf
-    all-rows i end now a b p = let z : i ≡ rowCount = omega arith in put-same _ _ at old end now (ap (λ (n : ℕ). rowsText (take n rows)) z) p
+    all-rows i end now a b p =
+        let z : i ≡ rowCount = omega arith in
+        put-same _ _ at old end now (ap (λ (n : ℕ). rowsText (take n rows)) z) p
 
 -- ---- how many are carried
 module _ (o : List ℕ) where
   abbrev pub CarriedSoFar : ℕ → ℕ → ℕ → Type 0
-  CarriedSoFar count at turns = (count + carriedIn (rulesOf PresentLenient) (parametersFrom turns o at) ≡ carriedIn (rulesOf PresentLenient) (parametersIn o)) × (count + turns ≤ most)
+  CarriedSoFar count at turns =
+      (count + carriedIn (rulesOf PresentLenient) (parametersFrom turns o at) ≡ carriedIn (rulesOf PresentLenient)
+      (parametersIn o)) × (count + turns ≤ most)
 
   pub none-counted : CarriedSoFar 0 2 most
   unfolding parametersIn
@@ -120,17 +140,21 @@ module _ (o : List ℕ) where
   few false = omega arith
 
   module _ (count at turns : ℕ) (i : CarriedSoFar count at turns) where
-    module _ (h : 0 < turns) (k s n x : ℕ) (e : Parameter k s n ≡ parameterAt o at) (d : x ≡ pick (listed (rulesOf PresentLenient) k) 0 1) where
+    module _ (h : 0 < turns) (k s n x : ℕ) (e : Parameter k s n ≡ parameterAt o at)
+        (d : x ≡ pick (listed (rulesOf PresentLenient) k) 0 1) where
       pub counted-small : count + x ≤ most
       counted-small = omega (arith, few (listed (rulesOf PresentLenient) k), i .1)
 
       pub counted-more : CarriedSoFar (count + x) (s + n) (turns - 1)
       unfolding carriedIn
       counted-more =
-          let p = ap (carriedIn (rulesOf PresentLenient)) (one-here turns o at h k s n e) ∙ one-more (listed (rulesOf PresentLenient) k) (carriedIn (rulesOf PresentLenient) (parametersFrom (turns - 1) o (s + n))) in
+          let p = ap (carriedIn (rulesOf PresentLenient)) (one-here turns o at h k s n e)
+          ∙ one-more (listed (rulesOf PresentLenient) k)
+          (carriedIn (rulesOf PresentLenient) (parametersFrom (turns - 1) o (s + n))) in
           (omega (arith, i .0), omega (arith, i .1, few (listed (rulesOf PresentLenient) k)))
 
-    pub counted-none : 0 < turns → Nothing ≡ parameterAt o at → count ≡ carriedIn (rulesOf PresentLenient) (parametersIn o)
+    pub counted-none : 0 < turns → Nothing ≡ parameterAt o at →
+        count ≡ carriedIn (rulesOf PresentLenient) (parametersIn o)
     unfolding carriedIn
     counted-none h e = let p = ap (carriedIn (rulesOf PresentLenient)) (none-here turns o at h e) in omega (arith, i .0)
 
@@ -143,13 +167,24 @@ pub carried-line : (n : ℕ) → numberLine (ascii "carried=") n ≡ written (ca
 unfolding numberLine written carriedLine lineText ascii
 carried-line n = sym (append-nil (ascii "carried=" ++ decimal n ++ ascii "\n"))
 
-pub message-text : (o : List ℕ) (x n : ℕ) → x ≡ getD o 0 0 → n ≡ carriedIn (rulesOf PresentLenient) (parametersIn o) → lineText (kindLine x) ++ written (rowsAt (rulesOf PresentLenient) o rows) ++ numberLine (ascii "carried=") n ≡ written (linesAt (rulesOf PresentLenient) o)
+pub message-text : (o : List ℕ) (x n : ℕ) → x ≡ getD o 0 0 →
+    n ≡ carriedIn (rulesOf PresentLenient) (parametersIn o) →
+    lineText (kindLine x) ++ written (rowsAt (rulesOf PresentLenient) o rows) ++ numberLine (ascii "carried=") n ≡
+    written (linesAt (rulesOf PresentLenient) o)
 unfolding linesAt written
 message-text o x n e d =
-    append-assoc (lineText (kindLine x)) (written (rowsAt (rulesOf PresentLenient) o rows)) (numberLine (ascii "carried=") n)
+    append-assoc (lineText (kindLine x)) (written (rowsAt (rulesOf PresentLenient) o rows))
+    (numberLine (ascii "carried=") n)
     ∙ ap₂ (λ (k : ℕ) (v : List ℕ). lineText (kindLine k) ++ v) e
-    (ap (λ (v : List ℕ). written (rowsAt (rulesOf PresentLenient) o rows) ++ v) (ap (λ (k : ℕ). numberLine (ascii "carried=") k) d ∙ carried-line (carriedIn (rulesOf PresentLenient) (parametersIn o))) ∙ sym (written-append (rowsAt (rulesOf PresentLenient) o rows) (carriedLine (carriedIn (rulesOf PresentLenient) (parametersIn o)) ∷ [])))
+    (ap (λ (v : List ℕ). written (rowsAt (rulesOf PresentLenient) o rows) ++ v)
+    (ap (λ (k : ℕ). numberLine (ascii "carried=") k) d
+    ∙ carried-line (carriedIn (rulesOf PresentLenient) (parametersIn o)))
+    ∙ sym (written-append (rowsAt (rulesOf PresentLenient) o rows)
+    (carriedLine (carriedIn (rulesOf PresentLenient) (parametersIn o)) ∷ [])))
 
-pub refusal-text : (f : Fault) → numberLine (ascii "refused=") (f .number) ++ numberLine (ascii "at=") (f .place) ≡ written (refusalLines f)
+pub refusal-text : (f : Fault) →
+    numberLine (ascii "refused=") (f .number) ++ numberLine (ascii "at=") (f .place) ≡ written (refusalLines f)
 unfolding refusalLines written lineText numberLine ascii
-refusal-text f = ap (λ (v : List ℕ). numberLine (ascii "refused=") (f .number) ++ v) (sym (append-nil (numberLine (ascii "at=") (f .place))))
+refusal-text f =
+    ap (λ (v : List ℕ). numberLine (ascii "refused=") (f .number) ++ v)
+    (sym (append-nil (numberLine (ascii "at=") (f .place))))

@@ -1,4 +1,5 @@
--- What a listing asks of each class: its value is not longer than the widest text of the class, and has no octet below 20H.
+-- What a listing asks of each class: its value is not longer than the widest text of the class, and has no octet
+-- below 20H.
 -- Assumes nothing.
 use Prim.Native.Nat.{ℕ, zero, suc, _+_, _*_, _/_, _%_, _≤_, _<_}
 use mathlib.Core.Path.{sym, subst}
@@ -51,11 +52,14 @@ up-from a b n t = ⊎-elim (λ s. le-of _ _ (both _ _ s .0)) (λ s. absurd s) (e
 
 lamp-wide : (x : ℕ) → length (lampWord x) ≤ 3
 unfolding lampWord ascii
-lamp-wide x = pick-case (λ (v : List ℕ). length v ≤ 3) (x =? 0) (ascii "off") (ascii "on") (λ _. omega arith) (λ _. omega arith)
+lamp-wide x =
+    pick-case (λ (v : List ℕ). length v ≤ 3) (x =? 0) (ascii "off") (ascii "on") (λ _. omega arith) (λ _. omega arith)
 
 state-wide : (x : ℕ) → length (stateWord x) ≤ 5
 unfolding stateWord ascii
-state-wide x = pick-case (λ (v : List ℕ). length v ≤ 5) (x =? 0x55) (ascii "unset") (lampWord x) (λ _. omega arith) (λ _. omega (arith, lamp-wide x))
+state-wide x =
+    pick-case (λ (v : List ℕ). length v ≤ 5) (x =? 0x55) (ascii "unset") (lampWord x) (λ _. omega arith)
+    (λ _. omega (arith, lamp-wide x))
 
 -- every octet is 20H or above
 unfoldable pub plain : List ℕ → Bool
@@ -82,7 +86,8 @@ plain-one x h = join _ _ (of-le 0x20 x h) tt
 pub plain-decimal : (n : ℕ) → T (plain (decimal n))
 plain-decimal = by-digits (λ (n : ℕ). T (plain (decimal n)))
     (λ n h. subst (λ (v : List ℕ). T (plain v)) (sym (decimal-small n h)) (plain-one (48 + n) (omega arith)))
-    (λ n h p. subst (λ (v : List ℕ). T (plain v)) (sym (decimal-big n h)) (plain-append (decimal (n / 10)) ((48 + n % 10) ∷ []) p (plain-one (48 + n % 10) (omega arith))))
+    (λ n h p. subst (λ (v : List ℕ). T (plain v)) (sym (decimal-big n h))
+    (plain-append (decimal (n / 10)) ((48 + n % 10) ∷ []) p (plain-one (48 + n % 10) (omega arith))))
 
 above : (k : ℕ) → 0x20 ≤ hexDigit k
 unfolding hexDigit
@@ -90,7 +95,9 @@ above k = pick-case (λ (x : ℕ). 0x20 ≤ x) (k ≤? 9) (48 + k) (55 + k) (λ 
 
 plain-hex : (n : ℕ) → T (plain (hex n))
 unfolding hex
-plain-hex n = plain-append (hexDigit (n / 16) ∷ []) (hexDigit (n % 16) ∷ []) (plain-one _ (above (n / 16))) (plain-one _ (above (n % 16)))
+plain-hex n =
+    plain-append (hexDigit (n / 16) ∷ []) (hexDigit (n % 16) ∷ []) (plain-one _ (above (n / 16)))
+    (plain-one _ (above (n % 16)))
 
 plain-lamp : (x : ℕ) → T (plain (lampWord x))
 unfolding lampWord plain every ascii _≤?_ _and_
@@ -98,7 +105,8 @@ plain-lamp x = pick-case (λ (v : List ℕ). T (plain v)) (x =? 0) (ascii "off")
 
 plain-state : (x : ℕ) → T (plain (stateWord x))
 unfolding stateWord plain every ascii _≤?_ _and_
-plain-state x = pick-case (λ (v : List ℕ). T (plain v)) (x =? 0x55) (ascii "unset") (lampWord x) (λ _. tt) (λ _. plain-lamp x)
+plain-state x =
+    pick-case (λ (v : List ℕ). T (plain v)) (x =? 0x55) (ascii "unset") (lampWord x) (λ _. tt) (λ _. plain-lamp x)
 
 -- ---- plain contents
 set-plain : (s : List Range) (x : ℕ) → T (plainSet s) → T (inSet s x) → 0x20 ≤ x
@@ -123,14 +131,18 @@ pairs-plain (r ∷ rs) (a ∷ b ∷ v) t =
     let d = both _ _ t in
     let e = both _ _ (d .0) in
     let f = both _ _ (e .1) in
-    cons-plain a (b ∷ v) (omega (arith, le-of _ _ (both _ _ (e .0) .0))) (cons-plain b v (omega (arith, le-of _ _ (both _ _ (f .0) .0))) (pairs-plain rs v (d .1)))
+    cons-plain a (b ∷ v) (omega (arith, le-of _ _ (both _ _ (e .0) .0)))
+    (cons-plain b v (omega (arith, le-of _ _ (both _ _ (f .0) .0))) (pairs-plain rs v (d .1)))
 
 columns-plain : (ss : List (List Range)) (v : List ℕ) → T (every plainSet ss) → T (columnsFit ss v) → T (plain v)
 unfolding columnsFit plain every
 columns-plain [] [] p t = tt
 columns-plain [] (x ∷ v) p t = absurd t
 columns-plain (s ∷ ss) [] p t = absurd t
-columns-plain (s ∷ ss) (x ∷ v) p t = let d = both _ _ t in let q = both _ _ p in cons-plain x v (set-plain s x (q .0) (d .0)) (columns-plain ss v (q .1) (d .1))
+columns-plain (s ∷ ss) (x ∷ v) p t =
+    let d = both _ _ t in
+    let q = both _ _ p in
+    cons-plain x v (set-plain s x (q .0) (d .0)) (columns-plain ss v (q .1) (d .1))
 
 all-plain : (s : List Range) (v : List ℕ) → T (plainSet s) → T (allIn s v) → T (plain v)
 unfolding allIn plain every
@@ -150,24 +162,38 @@ eight v t = up-from 8 8 (length v) (lawful Date .fit-length v t)
 plain-half : (v : List ℕ) (i mark : ℕ) → T (plain v) → i + 3 < length v → 0x20 ≤ mark → T (plain (half v i mark))
 unfolding half
 plain-half v i mark p h m =
-    cons-plain _ _ (plain-at v i p (omega arith)) (cons-plain _ _ (plain-at v (i + 1) p (omega arith)) (cons-plain _ _ m (cons-plain _ _ (plain-at v (i + 2) p (omega arith)) (plain-one _ (plain-at v (i + 3) p (omega arith))))))
+    cons-plain _ _ (plain-at v i p (omega arith))
+    (cons-plain _ _ (plain-at v (i + 1) p (omega arith))
+    (cons-plain _ _ m (cons-plain _ _ (plain-at v (i + 2) p (omega arith))
+    (plain-one _ (plain-at v (i + 3) p (omega arith))))))
 
 -- a value of the reference's style
 reference-wide : (v : List ℕ) → Octets v → length (stateWord (getD v 0 0) ++ ascii " " ++ decimal (reference v)) ≤ 11
 unfolding ascii reference
 reference-wide v o =
-    omega
-    (arith, state-wide (getD v 0 0), five-digits (referenceOf (getD v 1 0) (getD v 2 0)) (omega (arith, octet-at v o 1, octet-at v o 2)), length-append (stateWord (getD v 0 0) ++ ascii " ") (decimal (referenceOf (getD v 1 0) (getD v 2 0))), length-append (stateWord (getD v 0 0)) (ascii " "))
+    omega (
+      arith,
+      state-wide (getD v 0 0),
+      five-digits (referenceOf (getD v 1 0) (getD v 2 0))
+          (omega (arith, octet-at v o 1, octet-at v o 2)),
+      length-append (stateWord (getD v 0 0) ++ ascii " ")
+          (decimal (referenceOf (getD v 1 0) (getD v 2 0))),
+      length-append (stateWord (getD v 0 0)) (ascii " "),
+    )
 
 clock-plain : (v : List ℕ) → T (pairsFit dateRanges v) → T (plain (clock v))
 unfolding clock
 clock-plain v t =
     let p = pairs-plain dateRanges v t in
     let l = eight v t in
-    plain-append (half v 0 0x2D ++ ascii " ") (half v 4 0x3A) (plain-append (half v 0 0x2D) (ascii " ") (plain-half v 0 0x2D p (omega arith) (omega arith)) blank) (plain-half v 4 0x3A p (omega arith) (omega arith))
+    plain-append (half v 0 0x2D ++ ascii " ") (half v 4 0x3A)
+    (plain-append (half v 0 0x2D) (ascii " ") (plain-half v 0 0x2D p (omega arith) (omega arith)) blank)
+    (plain-half v 4 0x3A p (omega arith) (omega arith))
 
 reference-plain : (v : List ℕ) → T (plain (stateWord (getD v 0 0) ++ ascii " " ++ decimal (reference v)))
-reference-plain v = plain-append (stateWord (getD v 0 0) ++ ascii " ") (decimal (reference v)) (plain-append (stateWord (getD v 0 0)) (ascii " ") (plain-state (getD v 0 0)) blank) (plain-decimal (reference v))
+reference-plain v =
+    plain-append (stateWord (getD v 0 0) ++ ascii " ") (decimal (reference v))
+    (plain-append (stateWord (getD v 0 0)) (ascii " ") (plain-state (getD v 0 0)) blank) (plain-decimal (reference v))
 
 -- ---- the law of a class
 pub record Printed (c : Class) : Type 0 where
@@ -175,7 +201,8 @@ pub record Printed (c : Class) : Type 0 where
   pub plainly : (v : List ℕ) → T (contentsFit c v) → T (plain (printed (styleOf c) v))
 
 -- texts as they are
-verbatim : (hi : ℕ) (s : List Range) (v : List ℕ) → T (plainSet s) → T (inSet ((1, hi) ∷ []) (length v) and allIn s v) → (length v ≤ hi) × T (plain v)
+verbatim : (hi : ℕ) (s : List Range) (v : List ℕ) → T (plainSet s) →
+    T (inSet ((1, hi) ∷ []) (length v) and allIn s v) → (length v ≤ hi) × T (plain v)
 verbatim hi s v p t = let d = both _ _ t in (up-to 1 hi (length v) (d .0), all-plain s v p (d .1))
 
 letter-wide : (v : List ℕ) → T (columnsFit (absentSet ∷ []) v) → length v ≤ 1
@@ -185,17 +212,25 @@ letter-wide v t = up-to 1 1 (length v) (lawful Absent .fit-length v t)
 pub value : (c : Class) → Printed c
 unfolding printed styleOf widest whole clock half hex ascii plainSet plain every _≤?_ _and_
 value Date = record { wide = λ v t. omega arith; plainly = clock-plain }
-value Number = record { wide = λ v t. verbatim 20 numberSet v tt t .0; plainly = λ v t. verbatim 20 numberSet v tt t .1 }
+value Number =
+    record { wide = λ v t. verbatim 20 numberSet v tt t .0; plainly = λ v t. verbatim 20 numberSet v tt t .1 }
 value Absent = record { wide = letter-wide; plainly = λ v t. columns-plain (absentSet ∷ []) v tt t }
 value Name = record { wide = λ v t. verbatim 50 nameSet v tt t .0; plainly = λ v t. verbatim 50 nameSet v tt t .1 }
 value Lamp = record { wide = λ v t. lamp-wide (getD v 0 0); plainly = λ v t. plain-lamp (getD v 0 0) }
-value Identity = record { wide = λ v t. reference-wide v (fit-octets (lawful Identity) v t); plainly = λ v t. reference-plain v }
+value Identity =
+    record { wide = λ v t. reference-wide v (fit-octets (lawful Identity) v t); plainly = λ v t. reference-plain v }
 value CallType = record { wide = λ v t. omega arith; plainly = λ v t. plain-hex (getD v 0 0) }
-value Waiting = record { wide = λ v t. three-digits (getD v 0 0) (omega (arith, octet-at v (fit-octets (lawful Waiting) v t) 0)); plainly = λ v t. plain-decimal (getD v 0 0) }
+value Waiting =
+    record {
+      wide = λ v t. three-digits (getD v 0 0)
+          (omega (arith, octet-at v (fit-octets (lawful Waiting) v t) 0));
+      plainly = λ v t. plain-decimal (getD v 0 0);
+    }
 value Forwarded = record { wide = λ v t. omega arith; plainly = λ v t. plain-hex (getD v 0 0) }
 value User = record { wide = λ v t. omega arith; plainly = λ v t. plain-hex (getD v 0 0) }
 value Carried = record { wide = λ v t. omega arith; plainly = λ v t. tt }
-value OldNumber = record { wide = λ v t. verbatim 18 oldNumberSet v tt t .0; plainly = λ v t. verbatim 18 oldNumberSet v tt t .1 }
+value OldNumber =
+    record { wide = λ v t. verbatim 18 oldNumberSet v tt t .0; plainly = λ v t. verbatim 18 oldNumberSet v tt t .1 }
 value ShortText = record { wide = λ v t. verbatim 20 nameSet v tt t .0; plainly = λ v t. verbatim 20 nameSet v tt t .1 }
 value OldForwarded = record { wide = λ v t. omega arith; plainly = λ v t. plain-hex (getD v 0 0) }
 value OldUser = record { wide = λ v t. omega arith; plainly = λ v t. plain-hex (getD v 0 0) }

@@ -1,4 +1,5 @@
--- What `listing` owes its callers: the lines from an accepted message's octets are those of the message that they are, and they fit the buffer.
+-- What `listing` owes its callers: the lines from an accepted message's octets are those of the message that they
+-- are, and they fit the buffer.
 -- Assumes nothing.
 use Prim.Native.Nat.{ℕ, _+_, _-_, _≤_}
 use mathlib.Core.Path.{_≡_, refl, sym, _∙_, ap, ap₂, subst}
@@ -29,16 +30,25 @@ use Rattle.listing.specs.Listing.{Line, written, kindLine, carriedLine, 
 use Rattle.listing.proofs.Longest.{longest, refusal-short}
 
 -- ---- the rows from the octets, and from the message
-rows-same : (o : List ℕ) (m : message.Message) → ((t : ℕ) → partOf o (countedAt (rulesOf PresentLenient) o t) ≡ counted (rulesOf PresentLenient) m t) → (rs : List Row) → rowsAt (rulesOf PresentLenient) o rs ≡ rowLines (rulesOf PresentLenient) m rs
+rows-same : (o : List ℕ) (m : message.Message) →
+    ((t : ℕ) → partOf o (countedAt (rulesOf PresentLenient) o t) ≡ counted (rulesOf PresentLenient) m t) →
+    (rs : List Row) → rowsAt (rulesOf PresentLenient) o rs ≡ rowLines (rulesOf PresentLenient) m rs
 unfolding rowsAt rowLines partLines
 rows-same o m e [] = refl
-rows-same o m e (r ∷ rs) = ap₂ (λ (x : Option (List ℕ)) (ls : List Line). linesFor (rulesOf PresentLenient) r x ++ ls) (e (r .kind)) (rows-same o m e rs)
+rows-same o m e (r ∷ rs) =
+    ap₂ (λ (x : Option (List ℕ)) (ls : List Line). linesFor (rulesOf PresentLenient) r x ++ ls) (e (r .kind))
+    (rows-same o m e rs)
 
-lines-same : (m : message.Message) → LegalMessage (rulesOf PresentLenient) m → linesAt (rulesOf PresentLenient) (octets m) ≡ messageLines (rulesOf PresentLenient) (messageIn (octets m))
+lines-same : (m : message.Message) → LegalMessage (rulesOf PresentLenient) m →
+    linesAt (rulesOf PresentLenient) (octets m) ≡ messageLines (rulesOf PresentLenient) (messageIn (octets m))
 unfolding linesAt messageLines messageIn
 lines-same m l =
-    ap (λ (ls : List Line). kindLine (getD (octets m) 0 0) ∷ (ls ++ carriedLine (carriedIn (rulesOf PresentLenient) (parametersIn (octets m))) ∷ []))
-    (rows-same (octets m) (messageIn (octets m)) (λ t. counted-part (rulesOf PresentLenient) m t ∙ ap (λ (x : message.Message). counted (rulesOf PresentLenient) x t) (sym (message-in (rulesOf PresentLenient) (sound-rules PresentLenient) m l))) ((rulesOf PresentLenient) .rows))
+    ap (λ (ls : List Line). kindLine (getD (octets m) 0 0) ∷ (ls
+    ++ carriedLine (carriedIn (rulesOf PresentLenient) (parametersIn (octets m))) ∷ []))
+    (rows-same (octets m) (messageIn (octets m))
+    (λ t. counted-part (rulesOf PresentLenient) m t
+    ∙ ap (λ (x : message.Message). counted (rulesOf PresentLenient) x t)
+    (sym (message-in (rulesOf PresentLenient) (sound-rules PresentLenient) m l))) ((rulesOf PresentLenient) .rows))
 
 -- v is the listing of o, and has room in the buffer
 pub record Fitting (o v : List ℕ) : Type 0 where
@@ -54,11 +64,20 @@ module _ (o : List ℕ) (q : Octets o) (v : Verdict) (e : v ≡ verdictOf (rules
       go a =
           let m = a .0 in
           let l = a .1 in
-          let s : linesAt (rulesOf PresentLenient) o ≡ messageLines (rulesOf PresentLenient) (messageIn o) = subst (λ (x : List ℕ). linesAt (rulesOf PresentLenient) x ≡ messageLines (rulesOf PresentLenient) (messageIn x)) (a .2) (lines-same m l) in
-          let k : messageIn o ≡ m = ap messageIn (sym (a .2)) ∙ message-in (rulesOf PresentLenient) (sound-rules PresentLenient) m l in
+          let s : linesAt (rulesOf PresentLenient) o ≡ messageLines (rulesOf PresentLenient) (messageIn o) =
+          subst (λ (x : List ℕ). linesAt (rulesOf PresentLenient) x ≡ messageLines (rulesOf PresentLenient)
+          (messageIn x)) (a .2) (lines-same m l) in
+          let k : messageIn o ≡ m =
+          ap messageIn (sym (a .2)) ∙ message-in (rulesOf PresentLenient) (sound-rules PresentLenient) m l in
           record {
             is = ap written s ∙ ap (λ (x : Verdict). written (verdictLines (rulesOf PresentLenient) o x)) (sym d ∙ e);
-            short = omega (arith, longest m l, ap (λ (ls : List Line). length (written ls)) (s ∙ ap (messageLines (rulesOf PresentLenient)) k));
+            short =
+                omega (
+                  arith,
+                  longest m l,
+                  ap (λ (ls : List Line). length (written ls))
+                      (s ∙ ap (messageLines (rulesOf PresentLenient)) k),
+                );
           }
 
   pub lists-refusal : (f : Fault) → v ≡ Declined f → Fitting o (written (refusalLines f))
@@ -67,14 +86,17 @@ module _ (o : List ℕ) (q : Octets o) (v : Verdict) (e : v ≡ verdictOf (rules
       let j = judges-of PresentLenient o q in
       record {
         is = ap (λ (x : Verdict). written (verdictLines (rulesOf PresentLenient) o x)) (sym d ∙ e);
-        short = refusal-short f (omega (arith, told-small (spoken-of PresentLenient) _ (j .numbers f (sym e ∙ d)) .1)) (omega (arith, near-declined j f (sym e ∙ d)));
+        short =
+            refusal-short f (omega (arith, told-small (spoken-of PresentLenient) _ (j .numbers f (sym e ∙ d)) .1))
+            (omega (arith, near-declined j f (sym e ∙ d)));
       }
 
 -- every listing has
 pub listing-short : (o : List ℕ) → Octets o → length (listingOf (rulesOf PresentLenient) o) ≤ bufferSize
 listing-short o q = go (verdictOf (rulesOf PresentLenient) o) refl
   where
-    go : (v : Verdict) → v ≡ verdictOf (rulesOf PresentLenient) o → length (listingOf (rulesOf PresentLenient) o) ≤ bufferSize
+    go : (v : Verdict) → v ≡ verdictOf (rulesOf PresentLenient) o →
+        length (listingOf (rulesOf PresentLenient) o) ≤ bufferSize
     go (Accepted n) e = let f = lists-message o q _ e n refl in omega (arith, ap length (f .is), f .short)
     go (Declined g) e = let f = lists-refusal o q _ e g refl in omega (arith, ap length (f .is), f .short)
 
@@ -82,16 +104,20 @@ listing-short o q = go (verdictOf (rulesOf PresentLenient) o) refl
 zeros : (n k z : ℕ) → n ≤ k → drop n (replicate k z) ≡ replicate (k - n) z
 zeros n k z h =
     let e : n + (k - n) ≡ k = omega arith in
-    ap (drop n) (sym (replicate-append-replicate n (k - n) z ∙ ap (λ (x : ℕ). replicate x z) e)) ∙ drop-at (replicate n z) (replicate (k - n) z) n (length-replicate n z)
+    ap (drop n) (sym (replicate-append-replicate n (k - n) z ∙ ap (λ (x : ℕ). replicate x z) e))
+    ∙ drop-at (replicate n z) (replicate (k - n) z) n (length-replicate n z)
 
 module _ (o v : List ℕ) (l : Fitting o v) where
   pub listing-room : Room v 0 (replicate bufferSize 0)
   unfolding Room
   listing-room = omega (arith, l .short, length-replicate {A = ℕ} bufferSize 0)
 
-  pub listing-text : (end : ℕ) (new : List ℕ) → Put v 0 (replicate bufferSize 0) end new → (record { octets = new; length = end }) ≡ bufferOf (listingOf (rulesOf PresentLenient) o)
+  pub listing-text : (end : ℕ) (new : List ℕ) → Put v 0 (replicate bufferSize 0) end new →
+      (record { octets = new; length = end }) ≡ bufferOf (listingOf (rulesOf PresentLenient) o)
   unfolding bufferOf
   listing-text end new p =
       let n : end ≡ length v = omega (arith, p .ends) in
-      let w : new ≡ v ++ replicate (bufferSize - length v) 0 = put-first v (replicate bufferSize 0) end new p ∙ ap (λ (x : List ℕ). v ++ x) (zeros (length v) bufferSize 0 (l .short)) in
+      let w : new ≡ v ++ replicate (bufferSize - length v) 0 =
+      put-first v (replicate bufferSize 0) end new p
+      ∙ ap (λ (x : List ℕ). v ++ x) (zeros (length v) bufferSize 0 (l .short)) in
       (λ i. record { octets = w i; length = n i }) ∙ ap bufferOf (l .is)

@@ -97,7 +97,10 @@ messageLines R m = kindLine (m .kind) ∷ (rowLines R m (R .rows) ++ carriedLine
 
 -- number and place of a refusal
 unfoldable pub refusalLines : Fault → List Line
-refusalLines f = (record { key = ascii "refused"; value = decimal (f .number) }) ∷ (record { key = ascii "at"; value = decimal (f .place) }) ∷ []
+refusalLines f =
+    (record { key = ascii "refused"; value = decimal (f .number) })
+    ∷ (record { key = ascii "at"; value = decimal (f .place) })
+    ∷ []
 
 -- an accepted message has its lines, and a refusal its two
 unfoldable pub verdictLines : Rules → List ℕ → Verdict → List Line
@@ -157,4 +160,5 @@ written-one l = append-nil (lineText l)
 pub written-append : (a b : List Line) → written (a ++ b) ≡ written a ++ written b
 unfolding written
 written-append [] b = refl
-written-append (l ∷ a) b = ap (λ (v : List ℕ). lineText l ++ v) (written-append a b) ∙ sym (append-assoc (lineText l) (written a) (written b))
+written-append (l ∷ a) b =
+    ap (λ (v : List ℕ). lineText l ++ v) (written-append a b) ∙ sym (append-assoc (lineText l) (written a) (written b))

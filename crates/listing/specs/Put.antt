@@ -25,10 +25,12 @@ pub record Put (v : List ℕ) (at : ℕ) (old : List ℕ) (end : ℕ) (new : Lis
 
 -- nothing was put
 pub put-none : (at : ℕ) (old : List ℕ) → Put [] at old at old
-put-none at old = record { ends = sym (add-zero at); long = refl; front = sym (append-nil (take at old)); behind = refl }
+put-none at old =
+    record { ends = sym (add-zero at); long = refl; front = sym (append-nil (take at old)); behind = refl }
 
 -- one text, and another behind it
-pub put-then : (v w : List ℕ) (at : ℕ) (old : List ℕ) (mid : ℕ) (next : List ℕ) (end : ℕ) (new : List ℕ) → Put v at old mid next → Put w mid next end new → Put (v ++ w) at old end new
+pub put-then : (v w : List ℕ) (at : ℕ) (old : List ℕ) (mid : ℕ) (next : List ℕ) (end : ℕ) (new : List ℕ) →
+    Put v at old mid next → Put w mid next end new → Put (v ++ w) at old end new
 put-then v w at old mid next end new p q = record {
   ends = omega (arith, p .ends, q .ends, length-append v w);
   long = q .long ∙ p .long;
@@ -43,7 +45,8 @@ put-then v w at old mid next end new p q = record {
 }
 
 -- a text that is the same
-pub put-same : (v w : List ℕ) (at : ℕ) (old : List ℕ) (end : ℕ) (new : List ℕ) → v ≡ w → Put v at old end new → Put w at old end new
+pub put-same : (v w : List ℕ) (at : ℕ) (old : List ℕ) (end : ℕ) (new : List ℕ) → v ≡ w → Put v at old end new →
+    Put w at old end new
 put-same v w at old end new e p = record {
   ends = p .ends ∙ ap (λ (l : List ℕ). at + length l) e;
   long = p .long;
@@ -62,7 +65,8 @@ pub room-left : (v w : List ℕ) (at : ℕ) (old : List ℕ) → Room (v ++ w) a
 unfolding Room
 room-left v w at old h = omega (arith, length-append v w)
 
-pub room-then : (v w : List ℕ) (at : ℕ) (old : List ℕ) (mid : ℕ) (next : List ℕ) → Room (v ++ w) at old → Put v at old mid next → Room w mid next
+pub room-then : (v w : List ℕ) (at : ℕ) (old : List ℕ) (mid : ℕ) (next : List ℕ) → Room (v ++ w) at old →
+    Put v at old mid next → Room w mid next
 unfolding Room
 room-then v w at old mid next h p = omega (arith, length-append v w, p .ends, p .long)
 
@@ -78,5 +82,7 @@ module _ (u v w : List ℕ) (at : ℕ) (old : List ℕ) (h : Room (u ++ v ++ w) 
     pub room-third : (last : ℕ) (then : List ℕ) → Put v mid next last then → Room w last then
     room-third last then q = room-then (u ++ v) w at old last then h (put-then u v at old mid next last then p q)
 
-pub put-three : (u v w : List ℕ) (at : ℕ) (old : List ℕ) (a : ℕ) (x : List ℕ) (b : ℕ) (y : List ℕ) (end : ℕ) (new : List ℕ) → Put u at old a x → Put v a x b y → Put w b y end new → Put (u ++ v ++ w) at old end new
-put-three u v w at old a x b y end new p q r = put-then (u ++ v) w at old b y end new (put-then u v at old a x b y p q) r
+pub put-three : (u v w : List ℕ) (at : ℕ) (old : List ℕ) (a : ℕ) (x : List ℕ) (b : ℕ) (y : List ℕ) (end : ℕ)
+    (new : List ℕ) → Put u at old a x → Put v a x b y → Put w b y end new → Put (u ++ v ++ w) at old end new
+put-three u v w at old a x b y end new p q r =
+    put-then (u ++ v) w at old b y end new (put-then u v at old a x b y p q) r

@@ -139,7 +139,8 @@ module _ {L : Language} (S : Spoken L) (o : List ℕ) (q : Octets o) where
       (λ e. let k = ap (λ (x : Fault). x .number) (fault-of _ _ e) in absurd (omega arith), λ e. clash (cc (e .0)))
   followed-state (Message m) p t = (
     λ e. picked-by _ _ _ _ _ e (λ _ d. clash cc)
-        (λ n d. let k = ap (λ (x : Fault). x .place) (fault-of _ _ d) in (ap Message k, λ l. n (of-eq _ _ (l ∙ sym k)))),
+        (λ n d. let k = ap (λ (x : Fault). x .place) (fault-of _ _ d) in
+        (ap Message k, λ l. n (of-eq _ _ (l ∙ sym k)))),
     λ e. let k : m ≡ p = cc (e .0) in
         pick-not _ _ _ (λ l. e .1 (eq-of _ _ l ∙ k)) ∙ ap (λ (x : ℕ). Declined (noted 7 x)) k,
   )

@@ -42,7 +42,8 @@ module _ (L : Language) (o : List ℕ) where
   judges-one (Declined f) w A B = sym (declined-too _ w A B f refl)
 
 -- the place of a refusal is one of the octets, or, where they end early, their number
-pub placed : (L : Language) (o : List ℕ) (v : Verdict) → Judges L o v → (f : Fault) → v ≡ Declined f → f .place ≤ length o
+pub placed : (L : Language) (o : List ℕ) (v : Verdict) → Judges L o v → (f : Fault) → v ≡ Declined f →
+    f .place ≤ length o
 placed L o v A f e = go (verdict-number L _ (A .numbers f e))
   where
     at : (k : ℕ) → f .number ≡ k → Declined f ≡ Declined (noted k (f .place))

@@ -27,7 +27,8 @@ judge-gives b o v = (κs : _) × (a : _) × (s : _) × judge.Post κs a v s × (
 
 -- by the book b, of the octets o and the type t, `counted` answers p
 abbrev pub counted-gives : Book → List ℕ → ℕ → Part → Type 0
-counted-gives b o t p = (κs : _) × (a : _) × (s : _) × counted.Post κs a p s × (a .0 ≡ b) × (a .1 .0 .now ≡ o) × (a .1 .1 .0 ≡ t)
+counted-gives b o t p =
+    (κs : _) × (a : _) × (s : _) × counted.Post κs a p s × (a .0 ≡ b) × (a .1 .0 .now ≡ o) × (a .1 .1 .0 ≡ t)
 
 module _ (b : Book) (o : List ℕ) where
   pub judge-is : (v : Verdict) → judge-gives b o v → v ≡ verdictOf (rulesOf b) o
@@ -41,7 +42,8 @@ module _ (b : Book) (o : List ℕ) where
   verdicts v h q = subst (Judges (languageOf b) o) (sym (judge-is v h)) (judges-of b o q)
 
   -- of a message's octets, the part of the contents of the type that count (`CountsAt`)
-  pub counts : (t : ℕ) (p : Part) → counted-gives b o t p → (m : message.Message) → octets m ≡ o → CountsAt (rulesOf b) m t p
+  pub counts : (t : ℕ) (p : Part) → counted-gives b o t p → (m : message.Message) → octets m ≡ o →
+      CountsAt (rulesOf b) m t p
   counts t p h m e =
       let k = counted-is t p h ∙ ap (λ (x : List ℕ). countedAt (rulesOf b) x t) (sym e) in
       record {

@@ -35,7 +35,8 @@ told (Accepted n) = record { number = 0; place = 0; size = n }
 told (Declined f) = record { number = f .number; place = f .place; size = 0 }
 
 -- ---- the verdict
--- 8 at the number of octets while a message can still be completed; a message, or 7 at its size where octets follow; 1 to 6 and 10 as the machine gives them
+-- 8 at the number of octets while a message can still be completed; a message, or 7 at its size where octets follow;
+-- 1 to 6 and 10 as the machine gives them
 unfoldable pub judged : List ℕ → State → Verdict
 judged o (Waiting s q) = Declined (noted 8 (length o))
 judged o (Message n) = pick (length o =? n) (Accepted n) (Declined (noted 7 n))

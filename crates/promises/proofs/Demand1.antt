@@ -1,7 +1,8 @@
--- Demand 1: every input gets its answer. For each function that can refuse, and any input at all, an answer is the work or one refusal with a number of its
--- list and a place; and a refusal leaves everything that was lent or handed in as it was, the listener's own record excepted. Over the promises, whatever
--- outcomes they allow; the only hypothesis is that octets are below 256, which every slice of octets meets. Which number at which place, exactly, and that
--- there is only one, say the sentences of demands 2 and 3.
+-- Demand 1: every input gets its answer. For each function that can refuse, and any input at all, an answer is the
+-- work or one refusal with a number of its list and a place; and a refusal leaves everything that was lent or handed
+-- in as it was, the listener's own record excepted. Over the promises, whatever outcomes they allow; the only
+-- hypothesis is that octets are below 256, which every slice of octets meets. Which number at which place, exactly,
+-- and that there is only one, say the sentences of demands 2 and 3.
 -- Assumes nothing.
 use Prim.Native.Nat.{ℕ, _≤_, _<_}
 use mathlib.Core.Path.{_≡_, refl, sym, _∙_, ap, subst}
@@ -81,17 +82,22 @@ use Rattle.firmware.specs.Sizes.{listenerSize, draftSize, deskSize, partSize}
 abbrev pub From : ℕ → ℕ → ℕ → Type 0
 From a b k = (a ≤ k) × (k ≤ b)
 
--- by a book, a refusal of the octets o as the verdict gives it: a number of 1 to 8, or in a strict book 10, at one of the octets or at their end
+-- by a book, a refusal of the octets o as the verdict gives it: a number of 1 to 8, or in a strict book 10, at one of
+-- the octets or at their end
 abbrev pub Verdict-like : Book → List ℕ → Fault → Type 0
 Verdict-like b o f = T (verdictNumber (languageOf b) (f .number)) × (f .place ≤ length o)
 
--- the listener: 1 to 6, and 10 where its book is strict, at a place up to 257; or, for one out of range, 17 at 0, and it comes back as it was
-pub listen-refuses : (l : Listener) (o : List ℕ) (r : Heard) → listener.listen-gives l o r → Octets o → (f : Fault) → r .answer ≡ listened.Refused f →
+-- the listener: 1 to 6, and 10 where its book is strict, at a place up to 257; or, for one out of range, 17 at 0, and
+-- it comes back as it was
+pub listen-refuses : (l : Listener) (o : List ℕ) (r : Heard) → listener.listen-gives l o r → Octets o →
+    (f : Fault) → r .answer ≡ listened.Refused f →
     (T (languageOf (l .book) .given (f .number)) × (f .place ≤ 257)) ⊎ ((f ≡ noted 17 0) × (r ≡ outOfRange l))
 listen-refuses l o r h q f e = go (listener.numbers l o r h q f e) (decide (languageOf (l .book) .inRange (l .state)))
   where
     near : T (languageOf (l .book) .inRange (l .state)) → Ranged (r .answer)
-    near t = subst Ranged (sym (ap (λ (x : Heard). x .answer) (listener.by-the-rule l o r h t))) (ranged (spoken-of (l .book)) _ (in-range-run (spoken-of (l .book)) (l .state) o q t))
+    near t =
+        subst Ranged (sym (ap (λ (x : Heard). x .answer) (listener.by-the-rule l o r h t)))
+        (ranged (spoken-of (l .book)) _ (in-range-run (spoken-of (l .book)) (l .state) o q t))
 
     told : Ranged (r .answer) → f .place ≤ 257
     told g = subst Ranged e g .2
@@ -99,21 +105,25 @@ listen-refuses l o r h q f e = go (listener.numbers l o r h q f e) (decide (lang
     fault-of : (x y : Fault) → listened.Refused x ≡ listened.Refused y → x ≡ y
     fault-of x y z = cc
 
-    go : T (languageOf (l .book) .given (f .number)) ⊎ (f ≡ noted 17 0) → T (languageOf (l .book) .inRange (l .state)) ⊎ (T (languageOf (l .book) .inRange (l .state)) → ⊥) →
+    go : T (languageOf (l .book) .given (f .number)) ⊎ (f ≡ noted 17 0) →
+        T (languageOf (l .book) .inRange (l .state)) ⊎ (T (languageOf (l .book) .inRange (l .state)) → ⊥) →
         (T (languageOf (l .book) .given (f .number)) × (f .place ≤ 257)) ⊎ ((f ≡ noted 17 0) × (r ≡ outOfRange l))
     go (inl t) (inl k) = inl (t, told (near k))
     go (inr z) (inl k) = absurd (omega (arith, ap (λ (x : Fault). x .number) z, subst Ranged e (near k) .1))
-    go x (inr n) = let y = listener.out-of-range l o r h n in inr (fault-of f (noted 17 0) (sym e ∙ ap (λ (z : Heard). z .answer) y), y)
+    go x (inr n) =
+        let y = listener.out-of-range l o r h n in
+        inr (fault-of f (noted 17 0) (sym e ∙ ap (λ (z : Heard). z .answer) y), y)
 
--- the whole read, and the texts alone: 1 to 8, and 10 where the book is strict, at one of the octets or at their end; or 9 at the text octets that are
--- needed; the area stays, and the draft is empty
+-- the whole read, and the texts alone: 1 to 8, and 10 where the book is strict, at one of the octets or at their end;
+-- or 9 at the text octets that are needed; the area stays, and the draft is empty
 pub record Unread (b : Book) (o old : List ℕ) (f : Fault) (area : List ℕ) : Type 0 where
   pub number : T (readNumber (rulesOf b) (f .number))
   pub place : (f .number ≡ 9 → ⊥) → f .place ≤ length o
   pub needed : f .number ≡ 9 → length old < f .place
   pub stays : area ≡ old
 
-read-so : (b : Book) (o old : List ℕ) (r : Reading) (area : List ℕ) → Reads (rulesOf b) o old r area → (f : Fault) → r .answer ≡ packed.Refused f → Unread b o old f area
+read-so : (b : Book) (o old : List ℕ) (r : Reading) (area : List ℕ) → Reads (rulesOf b) o old r area →
+    (f : Fault) → r .answer ≡ packed.Refused f → Unread b o old f area
 unfolding readNumber
 read-so b o old r area x f e =
     let y = x .refused f e in
@@ -132,20 +142,32 @@ read-so b o old r area x f e =
     by-number (inr (inl k)) = omega (arith, x .followed (f .place) .0 (e ∙ at 7 k) .0)
     by-number (inr (inr k)) = omega (arith, x .early (f .place) .0 (e ∙ at 8 k) .0)
 
-    in-octets : (f .number ≡ 9 → ⊥) → T (verdictNumber (languageOf b) (f .number)) ⊎ T (f .number =? 9) → f .place ≤ length o
+    in-octets : (f .number ≡ 9 → ⊥) → T (verdictNumber (languageOf b) (f .number)) ⊎ T (f .number =? 9) →
+        f .place ≤ length o
     in-octets n (inl t) = by-number (verdict-number (languageOf b) _ t)
     in-octets n (inr t) = absurd (n (eq-of _ _ t))
 
-pub read-refuses : (b : Book) (o old : List ℕ) (r : Reading) (area : List ℕ) → reader.read-gives b o old r area → Octets o → (f : Fault) → r .answer ≡ packed.Refused f →
+pub read-refuses : (b : Book) (o old : List ℕ) (r : Reading) (area : List ℕ) → reader.read-gives b o old r area →
+    Octets o → (f : Fault) → r .answer ≡ packed.Refused f →
     Unread b o old f area × (r .draft ≡ emptyOf 0)
-read-refuses b o old r area h q f e = let x = reader.reads b o old r area h q in (read-so b o old r area x f e, x .refused f e .1)
+read-refuses b o old r area h q f e =
+    let x = reader.reads b o old r area h q in
+    (read-so b o old r area x f e, x .refused f e .1)
 
-pub pack-refuses : (b : Book) (o old : List ℕ) (w : Packed) (area : List ℕ) → reader.pack-gives b o old w area → Octets o → (f : Fault) → w ≡ packed.Refused f → Unread b o old f area
-pack-refuses b o old w area h q f e = let x = reader.packs b o old w area h q in read-so b o old (x .0) area (x .2) f (x .1 ∙ e)
+pub pack-refuses : (b : Book) (o old : List ℕ) (w : Packed) (area : List ℕ) → reader.pack-gives b o old w area →
+    Octets o → (f : Fault) → w ≡ packed.Refused f → Unread b o old f area
+pack-refuses b o old w area h q f e =
+    let x = reader.packs b o old w area h q in
+    read-so b o old (x .0) area (x .2) f (x .1 ∙ e)
 
 -- the writer: 11 to 15; the output stays
-pub write-refuses : (b : Book) (d : Draft) (t old : List ℕ) (w : Written) (out : List ℕ) → writer.write-gives b d t old w out → (f : Fault) → w ≡ Declined f → From 11 15 (f .number) × (out ≡ old)
-write-refuses b d t old w out h f e = (go w (answer-iff b d t (length old) w .0 (writer.write-is b d t old w out h)) e, writer.refusal-keeps b d t old w out h f e)
+pub write-refuses : (b : Book) (d : Draft) (t old : List ℕ) (w : Written) (out : List ℕ) →
+    writer.write-gives b d t old w out → (f : Fault) → w ≡ Declined f → From 11 15 (f .number) × (out ≡ old)
+write-refuses b d t old w out h f e = (
+  go w (answer-iff b d t (length old) w .0 (writer.write-is b d t old w out h)) e,
+  writer.refusal-keeps b d t
+      old w out h f e,
+)
   where
     fault-of : (x y : Fault) → Declined x ≡ Declined y → x .number ≡ y .number
     fault-of x y z = let k : x ≡ y = cc in ap (λ (v : Fault). v .number) k
@@ -160,7 +182,8 @@ write-refuses b d t old w out h f e = (go w (answer-iff b d t (length old) w .0 
     go x (fits k m l g) z = clash cc
 
 -- the desk: 17 at 0, or as the verdict, or 21 at 0; it comes back as it was
-pub settle-refuses : (b : Book) (d : Desk) (o : List ℕ) (r : Outcome) → desk.settle-gives b d o r → Octets o → (f : Fault) → r .answer ≡ settled.Refused f →
+pub settle-refuses : (b : Book) (d : Desk) (o : List ℕ) (r : Outcome) → desk.settle-gives b d o r → Octets o →
+    (f : Fault) → r .answer ≡ settled.Refused f →
     (Verdict-like b o f ⊎ ((f ≡ noted 17 0) ⊎ (f ≡ noted 21 0))) × (r .desk ≡ d)
 settle-refuses b d o r h q f e = (go (x .numbers f e), x .refusal-stays f e)
   where
@@ -170,29 +193,43 @@ settle-refuses b d o r h q f e = (go (x .numbers f e), x .refusal-stays f e)
     at : (k : ℕ) → f .number ≡ k → f ≡ noted k (f .place)
     at k z = λ i. noted (z i) (f .place)
 
-    go : T (verdictNumber (languageOf b) (f .number)) ⊎ ((f .number ≡ 17) ⊎ (f .number ≡ 21)) → Verdict-like b o f ⊎ ((f ≡ noted 17 0) ⊎ (f ≡ noted 21 0))
+    go : T (verdictNumber (languageOf b) (f .number)) ⊎ ((f .number ≡ 17) ⊎ (f .number ≡ 21)) →
+        Verdict-like b o f ⊎ ((f ≡ noted 17 0) ⊎ (f ≡ noted 21 0))
     go (inl t) = inl (t, placed (languageOf b) o _ (x .judged) f (x .refused f t .0 e .1))
-    go (inr (inl k)) = inr (inl (at 17 k ∙ ap (noted 17) (x .seventeen (f .place) .0 (e ∙ ap settled.Refused (at 17 k)) .0)))
+    go (inr (inl k)) =
+        inr (inl (at 17 k ∙ ap (noted 17) (x .seventeen (f .place) .0 (e ∙ ap settled.Refused (at 17 k)) .0)))
     go (inr (inr k)) = inr (inr (at 21 k ∙ ap (noted 21) (x .full (f .place) .0 (e ∙ ap settled.Refused (at 21 k)) .0)))
 
 -- the verdict, the caption and the walker; nothing is lent for writing but the caption's code, which stays
-pub judge-refuses : (b : Book) (o : List ℕ) (v : Verdict) → message.judge-gives b o v → Octets o → (f : Fault) → v ≡ Judged f → Verdict-like b o f
+pub judge-refuses : (b : Book) (o : List ℕ) (v : Verdict) → message.judge-gives b o v → Octets o → (f : Fault) →
+    v ≡ Judged f → Verdict-like b o f
 judge-refuses b o v h q f e = let x = message.verdicts b o v h q in (x .numbers f e, placed (languageOf b) o v x f e)
 
-pub find-refuses : (b : Book) (o d : List ℕ) (r : Shown) → caption.find-gives b o d r → Octets o → (f : Fault) → r ≡ found.Refused f → Verdict-like b o f
-find-refuses b o d r h q f e = let x = caption.finding b o d r h q in let y = x .refused f .0 e in (x .judged .numbers f y, placed (languageOf b) o _ (x .judged) f y)
+pub find-refuses : (b : Book) (o d : List ℕ) (r : Shown) → caption.find-gives b o d r → Octets o → (f : Fault) →
+    r ≡ found.Refused f → Verdict-like b o f
+find-refuses b o d r h q f e =
+    let x = caption.finding b o d r h q in
+    let y = x .refused f .0 e in
+    (x .judged .numbers f y, placed (languageOf b) o _ (x .judged) f y)
 
-pub caption-refuses : (b : Book) (o d : List ℕ) (r : Shown) → caption.find-gives b o d r → (x : ℕ) (p : List ℕ) (y : ℕ) → caption.caption-gives b o d x p y → (f : Fault) → r ≡ found.Refused f → y ≡ x
+pub caption-refuses : (b : Book) (o d : List ℕ) (r : Shown) → caption.find-gives b o d r →
+    (x : ℕ) (p : List ℕ) (y : ℕ) → caption.caption-gives b o d x p y → (f : Fault) → r ≡ found.Refused f → y ≡ x
 unfolding caption-of.codeOf
-caption-refuses b o d r h x p y k f e = caption.same-part b o d r h x p y k .1 ∙ ap (λ (z : Shown). caption-of.codeOf z x) e
+caption-refuses b o d r h x p y k f e =
+    caption.same-part b o d r h x p y k .1 ∙ ap (λ (z : Shown). caption-of.codeOf z x) e
 
-step-so : (b : Book) (o : List ℕ) (at : ℕ) (r : Step) → Walks (rulesOf b) o at r → (f : Fault) → r ≡ step.Refused f → Verdict-like b o f
-step-so b o at r x f e = let y = x .refused f .0 e in (x .judged .numbers f y, placed (languageOf b) o _ (x .judged) f y)
+step-so : (b : Book) (o : List ℕ) (at : ℕ) (r : Step) → Walks (rulesOf b) o at r → (f : Fault) →
+    r ≡ step.Refused f → Verdict-like b o f
+step-so b o at r x f e =
+    let y = x .refused f .0 e in
+    (x .judged .numbers f y, placed (languageOf b) o _ (x .judged) f y)
 
-pub step-refuses : (b : Book) (o : List ℕ) (at : ℕ) (r : Step) → walker.step-gives b o at r → Octets o → (f : Fault) → r ≡ step.Refused f → Verdict-like b o f
+pub step-refuses : (b : Book) (o : List ℕ) (at : ℕ) (r : Step) → walker.step-gives b o at r → Octets o →
+    (f : Fault) → r ≡ step.Refused f → Verdict-like b o f
 step-refuses b o at r h q f e = step-so b o at r (walker.stepping b o at r h q) f e
 
-pub look-refuses : (w : Walker) (r : Step) → Seen w r → Octets (now (w .message)) → (f : Fault) → r ≡ step.Refused f → Verdict-like PresentLenient (now (w .message)) f
+pub look-refuses : (w : Walker) (r : Step) → Seen w r → Octets (now (w .message)) → (f : Fault) →
+    r ≡ step.Refused f → Verdict-like PresentLenient (now (w .message)) f
 look-refuses w r h q f e = step-so PresentLenient (now (w .message)) (w .place) r (walker.looking w r h q) f e
 
 -- the numbers that a listener gives by each book: 1 to 6, and 10 where types without a row are refused
@@ -230,7 +267,8 @@ nine-lenient k = (λ t. to (either _ _ t), λ d. of (d .0) (d .1) (decide (k ≤
 
 -- ---- the exports, on any record at all: 17 comes first
 -- listening: a sound record gets 0 or 1 to 6; any other 17, and stays
-pub anthercup-listen-refuses : (c o : List ℕ) (w : ℕ) (c' : List ℕ) → firmware.listen-gives c o w c' → Octets c → Octets o → (Sound c × (wordNumber w ≤ 6)) ⊎ ((Sound c → ⊥) × Seventeen c w c')
+pub anthercup-listen-refuses : (c o : List ℕ) (w : ℕ) (c' : List ℕ) → firmware.listen-gives c o w c' → Octets c →
+    Octets o → (Sound c × (wordNumber w ≤ 6)) ⊎ ((Sound c → ⊥) × Seventeen c w c')
 anthercup-listen-refuses c o w c' h k q = go (firmware.sound-or-seventeen c o w c' h k)
   where
     go : Sound c ⊎ Seventeen c w c' → (Sound c × (wordNumber w ≤ 6)) ⊎ ((Sound c → ⊥) × Seventeen c w c')
@@ -238,29 +276,43 @@ anthercup-listen-refuses c o w c' h k q = go (firmware.sound-or-seventeen c o w 
     go (inr x) = inr (λ s. omega (arith, x .word .number, firmware.numbers c o w c' h s q), x)
 
 -- resetting, and clearing a desk: by the record's size alone
-pub anthercup-reset-refuses : (c : List ℕ) (w : ℕ) (c' : List ℕ) → firmware.reset-gives c w c' → (length c ≡ listenerSize → Unpacked 0 0 0 0 w) × ((length c ≡ listenerSize → ⊥) → Seventeen c w c')
+pub anthercup-reset-refuses : (c : List ℕ) (w : ℕ) (c' : List ℕ) → firmware.reset-gives c w c' →
+    (length c ≡ listenerSize → Unpacked 0 0 0 0 w) × ((length c ≡ listenerSize → ⊥) → Seventeen c w c')
 anthercup-reset-refuses c w c' h = (λ n. firmware.reset-is-new c w c' h n .0, λ n. firmware.reset-seventeen c w c' h n)
 
-pub anthercup-new-desk-refuses : (c : List ℕ) (w : ℕ) (c' : List ℕ) → firmware.new-desk-gives c w c' → (length c ≡ deskSize → Unpacked 0 0 0 0 w) × ((length c ≡ deskSize → ⊥) → Seventeen c w c')
-anthercup-new-desk-refuses c w c' h = (λ n. firmware.new-desk c w c' h n .0, λ n. firmware.new-desk-seventeen c w c' h n)
+pub anthercup-new-desk-refuses : (c : List ℕ) (w : ℕ) (c' : List ℕ) → firmware.new-desk-gives c w c' →
+    (length c ≡ deskSize → Unpacked 0 0 0 0 w) × ((length c ≡ deskSize → ⊥) → Seventeen c w c')
+anthercup-new-desk-refuses c w c' h =
+    (λ n. firmware.new-desk c w c' h n .0, λ n. firmware.new-desk-seventeen c w c' h n)
 
 -- reading: 17 for a record of another size than 688, else 0 or 1 to 9; with a number record and texts stay
 pub anthercup-read-refuses : (o c t : List ℕ) (w : ℕ) (c' t' : List ℕ) → firmware.read-gives o c t w c' t' → Octets o →
-    (length c ≡ draftSize → (wordNumber w ≤ 9) × (1 ≤ wordNumber w → (c' ≡ c) × (t' ≡ t))) × ((length c ≡ draftSize → ⊥) → Seventeen c w c' × (t' ≡ t))
+    (length c ≡ draftSize → (wordNumber w ≤ 9) × (1 ≤ wordNumber w → (c' ≡ c) × (t' ≡ t)))
+    × ((length c ≡ draftSize → ⊥) → Seventeen c w c' × (t' ≡ t))
 unfolding told
-anthercup-read-refuses o c t w c' t' h q = (λ n. let y = firmware.record-read o c t w c' t' h q n in so y (y .reading .answer) refl, λ n. firmware.read-seventeen o c t w c' t' h n)
+anthercup-read-refuses o c t w c' t' h q = (
+  λ n. let y = firmware.record-read o c t w c' t' h q n in
+      so y (y .reading .answer) refl,
+  λ n. firmware.read-seventeen o c t w c' t' h n,
+)
   where
-    so : (y : RecordReads o c t w c' t') (x : Packed) → y .reading .answer ≡ x → (wordNumber w ≤ 9) × (1 ≤ wordNumber w → (c' ≡ c) × (t' ≡ t))
-    so y (packed.Texts n) e = let z = y .word .number ∙ ap (λ (x : Packed). told x .number) e in (omega (arith, z), λ k. absurd (omega (arith, z)))
+    so : (y : RecordReads o c t w c' t') (x : Packed) → y .reading .answer ≡ x →
+        (wordNumber w ≤ 9) × (1 ≤ wordNumber w → (c' ≡ c) × (t' ≡ t))
+    so y (packed.Texts n) e =
+        let z = y .word .number ∙ ap (λ (x : Packed). told x .number) e in
+        (omega (arith, z), λ k. absurd (omega (arith, z)))
     so y (packed.Refused f) e =
         let z = y .word .number ∙ ap (λ (x : Packed). told x .number) e in
         let k = y .reads .refused f e in
         (omega (arith, z, nine-lenient _ .0 (k .2) .1), λ _. (y .refused f e, k .0))
 
 -- settling: 17 exactly for a record that is no desk's, else 0, 1 to 8 or 21; with a number the record stays
-pub anthercup-settle-refuses : (c o : List ℕ) (w : ℕ) (c' : List ℕ) → firmware.settle-gives c o w c' → Octets c → Octets o →
-    ((wordNumber w ≤ 8) ⊎ ((wordNumber w ≡ 17) ⊎ (wordNumber w ≡ 21))) × ((wordNumber w ≡ 17) ↔ (IsDesk c → ⊥)) × (1 ≤ wordNumber w → c' ≡ c)
-anthercup-settle-refuses c o w c' h k q = (firmware.settle-numbers c o w c' h q, firmware.seventeen-iff c o w c' h q, firmware.refusal-stays c o w c' h k q)
+pub anthercup-settle-refuses : (c o : List ℕ) (w : ℕ) (c' : List ℕ) → firmware.settle-gives c o w c' → Octets c →
+    Octets o →
+    ((wordNumber w ≤ 8) ⊎ ((wordNumber w ≡ 17) ⊎ (wordNumber w ≡ 21))) × ((wordNumber w ≡ 17) ↔ (IsDesk c → ⊥))
+    × (1 ≤ wordNumber w → c' ≡ c)
+anthercup-settle-refuses c o w c' h k q =
+    (firmware.settle-numbers c o w c' h q, firmware.seventeen-iff c o w c' h q, firmware.refusal-stays c o w c' h k q)
 
 -- what counts: 0 or 1 to 8; nothing is lent for writing
 pub anthercup-counted-refuses : (o : List ℕ) (t w : ℕ) → firmware.counted-gives o t w → Octets o → wordNumber w ≤ 8
@@ -269,9 +321,11 @@ anthercup-counted-refuses o t w h q = go (x .verdict) refl
     x : RecordCounts o t w
     x = firmware.counted-word o t w h q
 
-    of-message : (d : Accepts (rulesOf PresentLenient) o) (v : Option (List ℕ)) → counted (rulesOf PresentLenient) (d .0) t ≡ v → wordNumber w ≤ 8
+    of-message : (d : Accepts (rulesOf PresentLenient) o) (v : Option (List ℕ)) →
+        counted (rulesOf PresentLenient) (d .0) t ≡ v → wordNumber w ≤ 8
     of-message d none e = omega (arith, x .none-counts (d .0) (d .1) (d .2) e .number)
-    of-message d (some v) e = omega (arith, x .counts (d .0) (d .1) (d .2) v (counted-iff (rulesOf PresentLenient) (d .0) t v .0 e) .number)
+    of-message d (some v) e =
+        omega (arith, x .counts (d .0) (d .1) (d .2) v (counted-iff (rulesOf PresentLenient) (d .0) t v .0 e) .number)
 
     go : (v : Verdict) → x .verdict ≡ v → wordNumber w ≤ 8
     go (Accepted n) e = of-message (x .judged .accepted n .0 e .1) _ refl
@@ -279,13 +333,24 @@ anthercup-counted-refuses o t w h q = go (x .verdict) refl
 
 -- the caption: 17 for a record of another size than 24, else 0 or 1 to 8; with a number the record stays
 pub anthercup-caption-refuses : (o d c : List ℕ) (w : ℕ) (c' : List ℕ) → firmware.caption-gives o d c w c' → Octets o →
-    (length c ≡ partSize → (wordNumber w ≤ 8) × (1 ≤ wordNumber w → c' ≡ c)) × ((length c ≡ partSize → ⊥) → Seventeen c w c')
+    (length c ≡ partSize → (wordNumber w ≤ 8) × (1 ≤ wordNumber w → c' ≡ c))
+    × ((length c ≡ partSize → ⊥) → Seventeen c w c')
 unfolding caption-of.told
-anthercup-caption-refuses o d c w c' h q = (λ n. let y = firmware.record-caption o d c w c' h q n in so y (y .found) refl, λ n. firmware.caption-seventeen o d c w c' h n)
+anthercup-caption-refuses o d c w c' h q = (
+  λ n. let y = firmware.record-caption o d c w c' h q n in
+      so y (y .found) refl,
+  λ n. firmware.caption-seventeen o d c w c' h n,
+)
   where
     so : (y : RecordFinds o d c w c') (x : Shown) → y .found ≡ x → (wordNumber w ≤ 8) × (1 ≤ wordNumber w → c' ≡ c)
-    so y (found.InMessage start n) e = let z = y .word .number ∙ ap (λ (x : Shown). caption-of.told x .number) e in (omega (arith, z), λ k. absurd (omega (arith, z)))
-    so y (found.InDirectory start n) e = let z = y .word .number ∙ ap (λ (x : Shown). caption-of.told x .number) e in (omega (arith, z), λ k. absurd (omega (arith, z)))
-    so y (found.Refused f) e =
+    so y (found.InMessage start n) e =
         let z = y .word .number ∙ ap (λ (x : Shown). caption-of.told x .number) e in
-        (omega (arith, z, eight-lenient _ .0 (y .finds .judged .numbers f (y .finds .refused f .0 e)) .1), λ _. y .refused f e)
+        (omega (arith, z), λ k. absurd (omega (arith, z)))
+    so y (found.InDirectory start n) e =
+        let z = y .word .number ∙ ap (λ (x : Shown). caption-of.told x .number) e in
+        (omega (arith, z), λ k. absurd (omega (arith, z)))
+    so y (found.Refused f) e =
+        let z = y .word .number ∙ ap (λ (x : Shown). caption-of.told x .number) e in (
+          omega (arith, z, eight-lenient _ .0 (y .finds .judged .numbers f (y .finds .refused f .0 e)) .1),
+          λ _. y .refused f e,
+        )

@@ -1,5 +1,6 @@
--- Demand 3: the listener gives up at the very octet that spoils the message, and not before. Over the promises of `reset` and `listen` and of the exports, call
--- after call, whatever outcomes they allow; and a whole read of the same octets says the same.
+-- Demand 3: the listener gives up at the very octet that spoils the message, and not before. Over the promises of
+-- `reset` and `listen` and of the exports, call after call, whatever outcomes they allow; and a whole read of the
+-- same octets says the same.
 -- Assumes nothing.
 use Prim.Native.Nat.{ℕ, _+_}
 use mathlib.Core.Path.{_≡_, refl}
@@ -28,14 +29,18 @@ use Rattle.firmware.specs.Word.{packed as word-of, wordNumber, wordPlace, wordS
 use Rattle.firmware.specs.RecordHears.{RecordHears, SameEnd}
 use Rattle.firmware.proofs.Promised as firmware
 
-module _ (b : Book) (l : Listener) (h : List ℕ) (d : listener.HasHeard b l h) (o : List ℕ) (q : Octets o) (r : Heard) (p : listener.listen-gives l o r) where
-  -- the listener heard h since its reset to the book b, in whatever runs, and then one more: it waits, has a message or refuses exactly as that book's rules
-  -- say of all these octets (`Hears`: waits, has-message, refuses, answers-by-258, and the octets taken)
+module _ (b : Book) (l : Listener) (h : List ℕ) (d : listener.HasHeard b l h) (o : List ℕ) (q : Octets o)
+    (r : Heard) (p : listener.listen-gives l o r) where
+  -- the listener heard h since its reset to the book b, in whatever runs, and then one more: it waits, has a message
+  -- or refuses exactly as that book's rules say of all these octets (`Hears`: waits, has-message, refuses,
+  -- answers-by-258, and the octets taken)
   pub waits-or-answers : Hears (languageOf b) h o r
   waits-or-answers = listener.demand3 b l h d o q r p
 
-  -- an answer, once given, stays the same with the same place: the next call, with any run, takes nothing, says it again and leaves the listener
-  pub answer-stays : (r .answer ≡ answer.Waits → ⊥) → (o' : List ℕ) (r' : Heard) → listener.listen-gives (r .listener) o' r' → r' ≡ record { listener = r .listener; answer = r .answer; taken = 0 }
+  -- an answer, once given, stays the same with the same place: the next call, with any run, takes nothing, says it
+  -- again and leaves the listener
+  pub answer-stays : (r .answer ≡ answer.Waits → ⊥) → (o' : List ℕ) (r' : Heard) →
+      listener.listen-gives (r .listener) o' r' → r' ≡ record { listener = r .listener; answer = r .answer; taken = 0 }
   answer-stays n o' r' k = listener.answer-stays b l h d o q r p n o' r' k
 
   -- it never gets 17
@@ -52,7 +57,8 @@ module _ (l : Listener) (o : List ℕ) (r : Heard) (p : listener.listen-gives l 
   out-of-range n = listener.out-of-range l o r p n
 
 -- any cutting ends as one run does
-pub cut-anywhere : (l : Listener) (x y : List ℕ) (r r₁ r₂ : Heard) → listener.listen-gives l (x ++ y) r → listener.listen-gives l x r₁ → listener.listen-gives (r₁ .listener) y r₂ → Octets x →
+pub cut-anywhere : (l : Listener) (x y : List ℕ) (r r₁ r₂ : Heard) → listener.listen-gives l (x ++ y) r →
+    listener.listen-gives l x r₁ → listener.listen-gives (r₁ .listener) y r₂ → Octets x →
     (r .listener ≡ r₂ .listener) × (r .answer ≡ r₂ .answer) × (r .taken ≡ r₁ .taken + r₂ .taken)
 cut-anywhere l x y r r₁ r₂ p p₁ p₂ q = listener.cut-anywhere l x y r r₁ r₂ p p₁ p₂ q
 
@@ -64,23 +70,31 @@ pub book-kept : (b : Book) (l : Listener) (h : List ℕ) → listener.HasHeard b
 book-kept b l h d = listener.book-kept b l h d
 
 -- ---- the exports, on a record that heard h since it was reset: the same, read off the word
-module _ (c h : List ℕ) (d : firmware.RecordHasHeard c h) (o : List ℕ) (q : Octets o) (w : ℕ) (c' : List ℕ) (k : firmware.listen-gives c o w c') where
+module _ (c h : List ℕ) (d : firmware.RecordHasHeard c h) (o : List ℕ) (q : Octets o) (w : ℕ) (c' : List ℕ)
+    (k : firmware.listen-gives c o w c') where
   pub anthercup-waits-or-answers : RecordHears (languageOf PresentLenient) h o w
   anthercup-waits-or-answers = firmware.demand3 c h d o q w c' k
 
-  pub anthercup-answer-stays : (((wordNumber w ≡ 0) × (wordSize w ≡ 0)) → ⊥) → (o' : List ℕ) (w' : ℕ) (c'' : List ℕ) → firmware.listen-gives c' o' w' c'' → (w' ≡ word-of (wordNumber w) (wordPlace w) (wordSize w) 0) × (c'' ≡ c')
+  pub anthercup-answer-stays : (((wordNumber w ≡ 0) × (wordSize w ≡ 0)) → ⊥) →
+      (o' : List ℕ) (w' : ℕ) (c'' : List ℕ) → firmware.listen-gives c' o' w' c'' →
+      (w' ≡ word-of (wordNumber w) (wordPlace w) (wordSize w) 0) × (c'' ≡ c')
   anthercup-answer-stays n o' w' c'' x = firmware.answer-stays c h d o q w c' k n o' w' c'' x
 
-pub anthercup-cut-anywhere : (c x y : List ℕ) (w w₁ w₂ : ℕ) (d d₁ d₂ : List ℕ) → firmware.listen-gives c (x ++ y) w d → firmware.listen-gives c x w₁ d₁ → firmware.listen-gives d₁ y w₂ d₂ → Octets c → Octets x → Octets y → SameEnd w w₁ w₂ d d₂
+pub anthercup-cut-anywhere : (c x y : List ℕ) (w w₁ w₂ : ℕ) (d d₁ d₂ : List ℕ) →
+    firmware.listen-gives c (x ++ y) w d → firmware.listen-gives c x w₁ d₁ → firmware.listen-gives d₁ y w₂ d₂ →
+    Octets c → Octets x → Octets y → SameEnd w w₁ w₂ d d₂
 anthercup-cut-anywhere c x y w w₁ w₂ d d₁ d₂ h h₁ h₂ q a b = firmware.cut-anywhere c x y w w₁ w₂ d d₁ d₂ h h₁ h₂ q a b
 
--- ---- a listener heard h since its reset, and then a run: what it says is what a whole read of all these octets by the book of the reset says
+-- ---- a listener heard h since its reset, and then a run: what it says is what a whole read of all these octets by
+-- the book of the reset says
 pub record AsListened (b : Book) (o : List ℕ) (w : Answer) (x : Packed) : Type 0 where
   pub refuses : (f : Fault) → T (languageOf b .given (f .number)) → (x ≡ packed.Refused f) ↔ (w ≡ answer.Refused f)
   pub waits : (x ≡ packed.Refused (noted 8 (length o))) ↔ (w ≡ answer.Waits)
 
-pub as-listened : (b : Book) (l : Listener) (h : List ℕ) → listener.HasHeard b l h → (o : List ℕ) → Octets o → (r : Heard) → listener.listen-gives l o r →
-    (old : List ℕ) (x : Reading) (area : List ℕ) → reader.read-gives b (h ++ o) old x area → Octets (h ++ o) → AsListened b (h ++ o) (r .answer) (x .answer)
+pub as-listened : (b : Book) (l : Listener) (h : List ℕ) → listener.HasHeard b l h → (o : List ℕ) → Octets o →
+    (r : Heard) → listener.listen-gives l o r →
+    (old : List ℕ) (x : Reading) (area : List ℕ) → reader.read-gives b (h ++ o) old x area → Octets (h ++ o) →
+    AsListened b (h ++ o) (r .answer) (x .answer)
 as-listened b l h d o q r p old x area k q' =
     let g = reader.reads b (h ++ o) old x area k q' in
     let y = listener.demand3 b l h d o q r p in

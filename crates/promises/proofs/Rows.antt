@@ -1,5 +1,5 @@
--- Document 01's rows marked P (Octets on each side of the line), one list under one claim over the promises of `listen`, `read`, `settle` and `counted`,
--- whatever outcomes they allow.
+-- Document 01's rows marked P (Octets on each side of the line), one list under one claim over the promises of
+-- `listen`, `read`, `settle` and `counted`, whatever outcomes they allow.
 -- Assumes nothing.
 use Prim.Native.Nat.{ℕ}
 use mathlib.Core.Path.{_≡_, refl, _∙_, ap}
@@ -61,14 +61,17 @@ abbrev Heard-as : List ℕ → Answer → Type 0
 Heard-as o w = (r : Heard) → listener.listen-gives (newListener PresentLenient) o r → r .answer ≡ w
 
 abbrev Read-as : List ℕ → ℕ → ℕ → Type 0
-Read-as o k p = (old : List ℕ) (r : Reading) (area : List ℕ) → reader.read-gives PresentLenient o old r area → r .answer ≡ packed.Refused (noted k p)
+Read-as o k p =
+    (old : List ℕ) (r : Reading) (area : List ℕ) → reader.read-gives PresentLenient o old r area →
+    r .answer ≡ packed.Refused (noted k p)
 
 abbrev pub Holds : List ℕ → Outcomes → Type 0
 Holds o (heard w) = Heard-as o w
 Holds o (unread k p) = Read-as o k p
 Holds o (refused k p) = Heard-as o (answer.Refused (noted k p)) × Read-as o k p
 Holds o (counts t v) = (p : Part) → message.counted-gives PresentLenient o t p → partOf o p ≡ v
-Holds o (settles d) = (r : Outcome) → desk.settle-gives PresentLenient newDesk o r → r ≡ record { desk = d; answer = settled.Done }
+Holds o (settles d) =
+    (r : Outcome) → desk.settle-gives PresentLenient newDesk o r → r ≡ record { desk = d; answer = settled.Done }
 
 abbrev pub All : List Row → Type 0
 All [] = Unit {0}
@@ -118,12 +121,16 @@ hears o w e r h = ap (λ (x : Heard). x .answer) (listener.listen-is (newListene
 
 reads : (o : List ℕ) (k p : ℕ) → verdictOf (rulesOf PresentLenient) o ≡ Declined (noted k p) → Read-as o k p
 unfolding readOf packOf packFrom
-reads o k p e old r area h = ap (λ (x : Reading). x .answer) (reader.read-is PresentLenient o old r area h .0) ∙ ap (packFrom (rulesOf PresentLenient) o (length old)) e
+reads o k p e old r area h =
+    ap (λ (x : Reading). x .answer) (reader.read-is PresentLenient o old r area h .0)
+    ∙ ap (packFrom (rulesOf PresentLenient) o (length old)) e
 
-finds : (o : List ℕ) (t : ℕ) (v : Option (List ℕ)) → partOf o (countedAt (rulesOf PresentLenient) o t) ≡ v → Holds o (counts t v)
+finds : (o : List ℕ) (t : ℕ) (v : Option (List ℕ)) → partOf o (countedAt (rulesOf PresentLenient) o t) ≡ v →
+    Holds o (counts t v)
 finds o t v e p h = ap (partOf o) (message.counted-is PresentLenient o t p h) ∙ e
 
-leaves : (o : List ℕ) (d : Desk) → settleOf (rulesOf PresentLenient) newDesk o ≡ (record { desk = d; answer = settled.Done }) → Holds o (settles d)
+leaves : (o : List ℕ) (d : Desk) →
+    settleOf (rulesOf PresentLenient) newDesk o ≡ (record { desk = d; answer = settled.Done }) → Holds o (settles d)
 leaves o d e r h = desk.settle-is PresentLenient newDesk o r h ∙ e
 
 pub rows : All document01

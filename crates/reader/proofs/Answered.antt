@@ -162,7 +162,8 @@ module _ (R : Rules) (S : SoundRules R) where
     refused-number f e = numbers-of v f (j .numbers) e
 
     -- numbers, places and sizes are small: a word has room for them
-    near-of : (w : Verdict) → ((g : Fault) → w ≡ Declined g → (g .number ≤ 10) × (g .place ≤ 258)) → ((n : ℕ) → w ≡ Accepted n → length o ≤ 258) → Near (packFrom R o room w)
+    near-of : (w : Verdict) → ((g : Fault) → w ≡ Declined g → (g .number ≤ 10) × (g .place ≤ 258)) →
+        ((n : ℕ) → w ≡ Accepted n → length o ≤ 258) → Near (packFrom R o room w)
     unfolding packFrom told
     near-of (Accepted n) b l =
         let z = size-within R o in
@@ -176,7 +177,9 @@ module _ (R : Rules) (S : SoundRules R) where
 
     pub near : Near (packOf R o room)
     unfolding packOf
-    near = near-of v (λ g e. (told-small (spoken R S) _ (j .numbers g e) .1, near-declined j g e)) (λ n e. accepted-size R o (j .accepted n .0 e .1) .1)
+    near =
+        near-of v (λ g e. (told-small (spoken R S) _ (j .numbers g e) .1, near-declined j g e))
+        (λ n e. accepted-size R o (j .accepted n .0 e .1) .1)
 
     only-message : (n : ℕ) → packOf R o room ≡ Texts n → Accepts R o
     unfolding packOf

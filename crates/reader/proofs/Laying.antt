@@ -41,10 +41,12 @@ untaken o count at = parametersFrom (most - count) o at
 pub left-full : (o : List ℕ) (count at : ℕ) → most ≤ count → untaken o count at ≡ []
 left-full o count at h = no-more (most - count) o at (omega arith)
 
-pub left-none : (R : Rules) (o : List ℕ) (count at : ℕ) → count < most → text.End ≡ textAt R o at → untaken o count at ≡ []
+pub left-none : (R : Rules) (o : List ℕ) (count at : ℕ) → count < most → text.End ≡ textAt R o at →
+    untaken o count at ≡ []
 left-none R o count at h e = text-none R o (most - count) at (omega arith) e
 
-pub left-ended : (R : Rules) (o : List ℕ) (count at used : ℕ) → count < most → taken.End ≡ takenAt R o at used → untaken o count at ≡ []
+pub left-ended : (R : Rules) (o : List ℕ) (count at used : ℕ) → count < most → taken.End ≡ takenAt R o at used →
+    untaken o count at ≡ []
 left-ended R o count at used h e = entry-none R o (most - count) at (omega arith) used e
 
 turn : (o : List ℕ) (count at : ℕ) → parametersFrom (most - count - 1) o at ≡ untaken o (count + 1) at
@@ -108,7 +110,8 @@ module _ (R : Rules) (o : List ℕ) where
           omega (arith, w .sized .sum, parted count at used (w .sized) h start n place e, w .long),
         )
 
-        pub laid-more : (next : List ℕ) → next ≡ laidAt (take n (drop start o)) used area → LaidTexts old (count + 1) place (used + n) next
+        pub laid-more : (next : List ℕ) → next ≡ laidAt (take n (drop start o)) used area →
+            LaidTexts old (count + 1) place (used + n) next
         laid-more next p =
             let v = take n (drop start o) in
             let l : length v ≡ n = text-long count at used (w .sized) h start n place e in
@@ -121,7 +124,9 @@ module _ (R : Rules) (o : List ℕ) where
                   ap₂ (λ (k : ℕ) (a : List ℕ). take k a ++ textsOf R (untaken o (count + 1) place)) z p
                   ∙ ap (λ (a : List ℕ). a ++ textsOf R (untaken o (count + 1) place)) (laid-front v used area f)
                   ∙ append-assoc (take used area) v (textsOf R (untaken o (count + 1) place))
-                  ∙ ap (λ (a : List ℕ). take used area ++ a) (ap (λ (ps : List Parameter). v ++ textsOf R ps) (sym (turn o count place)) ∙ sym (here count at used (w .sized) h start n place e .texts))
+                  ∙ ap (λ (a : List ℕ). take used area ++ a)
+                  (ap (λ (ps : List Parameter). v ++ textsOf R ps) (sym (turn o count place))
+                  ∙ sym (here count at used (w .sized) h start n place e .texts))
                   ∙ w .texts;
               rest =
                   ap₂ drop z p
@@ -175,9 +180,12 @@ module _ (R : Rules) (o : List ℕ) where
             long = length-set entries count e ∙ w .long;
             used-small = omega (arith, w .used-small, entry-is .behind);
             front =
-                ap (λ (l : List Entry). l ++ entriesOf R (used + n) (untaken o (count + 1) place)) (ap (λ (k : ℕ). take k (set entries count e)) (add-one count) ∙ take-suc-set entries count e f)
+                ap (λ (l : List Entry). l ++ entriesOf R (used + n) (untaken o (count + 1) place))
+                (ap (λ (k : ℕ). take k (set entries count e)) (add-one count) ∙ take-suc-set entries count e f)
                 ∙ append-assoc (take count entries) (e ∷ []) (entriesOf R (used + n) (untaken o (count + 1) place))
-                ∙ ap (λ (l : List Entry). take count entries ++ l) (ap (λ (ps : List Parameter). e ∷ entriesOf R (used + n) ps) (sym (turn o count place)) ∙ sym (entry-is .entries))
+                ∙ ap (λ (l : List Entry). take count entries ++ l)
+                (ap (λ (ps : List Parameter). e ∷ entriesOf R (used + n) ps) (sym (turn o count place))
+                ∙ sym (entry-is .entries))
                 ∙ w .front;
             rest =
                 drop-set-lt (count + 1) entries count e (omega arith)
@@ -187,7 +195,8 @@ module _ (R : Rules) (o : List ℕ) where
                 ap (λ (k : ℕ). replicate k noEntry) z));
           }
 
-    pub filled-end : (d : Draft) → d .kind ≡ getD o 0 0 → d .count ≡ count → d .entries ≡ entries → untaken o count at ≡ [] → d ≡ draftOf R (messageIn o)
+    pub filled-end : (d : Draft) → d .kind ≡ getD o 0 0 → d .count ≡ count → d .entries ≡ entries →
+        untaken o count at ≡ [] → d ≡ draftOf R (messageIn o)
     unfolding draftOf messageIn entriesOf
     filled-end d k c s e =
         let t : take count entries ≡ entriesOf R 0 (parametersIn o) =

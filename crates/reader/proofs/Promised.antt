@@ -18,30 +18,38 @@ use Rattle.reader.proofs.pack.Reads as pack
 
 -- by the book b, of the octets o, `read` answers r; the area held `old` and then holds `area`
 abbrev pub read-gives : Book → List ℕ → List ℕ → Reading → List ℕ → Type 0
-read-gives b o old r area = (κs : _) × (a : _) × (s : _) × read.Post κs a r s × (a .0 ≡ b) × (a .1 .0 .now ≡ o) × (a .1 .1 .0 .now ≡ old) × (s .1 .1 .0 .now ≡ area)
+read-gives b o old r area =
+    (κs : _) × (a : _) × (s : _) × read.Post κs a r s × (a .0 ≡ b) × (a .1 .0 .now ≡ o) × (a .1 .1 .0 .now ≡ old)
+    × (s .1 .1 .0 .now ≡ area)
 
 -- likewise `pack`, which lays down the texts and gives no draft
 abbrev pub pack-gives : Book → List ℕ → List ℕ → Packed → List ℕ → Type 0
-pack-gives b o old w area = (κs : _) × (a : _) × (s : _) × pack.Post κs a w s × (a .0 ≡ b) × (a .1 .0 .now ≡ o) × (a .1 .1 .0 .now ≡ old) × (s .1 .1 .0 .now ≡ area)
+pack-gives b o old w area =
+    (κs : _) × (a : _) × (s : _) × pack.Post κs a w s × (a .0 ≡ b) × (a .1 .0 .now ≡ o) × (a .1 .1 .0 .now ≡ old)
+    × (s .1 .1 .0 .now ≡ area)
 
 module _ (b : Book) (o old : List ℕ) where
-  pub read-is : (r : Reading) (area : List ℕ) → read-gives b o old r area → (r ≡ readOf (rulesOf b) o (length old)) × (area ≡ areaAfter (rulesOf b) o old)
+  pub read-is : (r : Reading) (area : List ℕ) → read-gives b o old r area →
+      (r ≡ readOf (rulesOf b) o (length old)) × (area ≡ areaAfter (rulesOf b) o old)
   read-is r area h = (
     h .3 .0 ∙ (λ i. readOf (rulesOf (h .4 i)) (h .5 i) (length (h .6 i))),
     sym (h .7) ∙ h .3 .1 ∙ (λ i. areaAfter (rulesOf (h .4 i)) (h .5 i) (h .6 i)),
   )
 
-  reads-so : (r : Reading) (area : List ℕ) → r ≡ readOf (rulesOf b) o (length old) → area ≡ areaAfter (rulesOf b) o old → Octets o → Reads (rulesOf b) o old r area
+  reads-so : (r : Reading) (area : List ℕ) → r ≡ readOf (rulesOf b) o (length old) →
+      area ≡ areaAfter (rulesOf b) o old → Octets o → Reads (rulesOf b) o old r area
   reads-so r area e f q =
       subst (λ (x : Reading). Reads (rulesOf b) o old x area) (sym e)
-      (subst (Reads (rulesOf b) o old (readOf (rulesOf b) o (length old))) (sym f) (reads-of (rulesOf b) (sound-rules b) o old q))
+      (subst (Reads (rulesOf b) o old (readOf (rulesOf b) o (length old))) (sym f)
+      (reads-of (rulesOf b) (sound-rules b) o old q))
 
   -- which answer, with its place, and which draft and texts (`Reads`)
   pub reads : (r : Reading) (area : List ℕ) → read-gives b o old r area → Octets o → Reads (rulesOf b) o old r area
   reads r area h q = let e = read-is r area h in reads-so r area (e .0) (e .1) q
 
   -- `pack` answers and lays down what a read does
-  pub packs : (w : Packed) (area : List ℕ) → pack-gives b o old w area → Octets o → (r : Reading) × (r .answer ≡ w) × Reads (rulesOf b) o old r area
+  pub packs : (w : Packed) (area : List ℕ) → pack-gives b o old w area → Octets o →
+      (r : Reading) × (r .answer ≡ w) × Reads (rulesOf b) o old r area
   unfolding readOf
   packs w area h q =
       let e = h .3 .0 ∙ (λ i. packOf (rulesOf (h .4 i)) (h .5 i) (length (h .6 i))) in

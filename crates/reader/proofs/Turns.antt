@@ -209,10 +209,13 @@ module _ (R : Rules) (o : List ℕ) (at : ℕ) (f : Found) (e : f ≡ parameterA
     unfolding textAt textFrom
     text-found = ap (λ (x : ℕ). text.At start x (start + l)) size ∙ ap (textFrom R o) (sym p ∙ e)
 
-    pub entry-found : (used : ℕ) (v : Value) (g : Form) → g ≡ kindOf R k → v ≡ valueAt used (meant g (take (start + l - start) (drop start o))) → taken.Next (record { kind = k; value = v }) n (start + l) ≡ takenAt R o at used
+    pub entry-found : (used : ℕ) (v : Value) (g : Form) → g ≡ kindOf R k →
+        v ≡ valueAt used (meant g (take (start + l - start) (drop start o))) →
+        taken.Next (record { kind = k; value = v }) n (start + l) ≡ takenAt R o at used
     unfolding takenAt takenFrom entryOf meaningIn
     entry-found used v g a d =
-        let z : v ≡ valueAt used (meant (kindOf R k) (take l (drop start o))) = d ∙ ap₂ (λ (x : Form) (y : List ℕ). valueAt used (meant x y)) a (part-is o start l) in
+        let z : v ≡ valueAt used (meant (kindOf R k) (take l (drop start o))) =
+        d ∙ ap₂ (λ (x : Form) (y : List ℕ). valueAt used (meant x y)) a (part-is o start l) in
         (λ i. taken.Next (record { kind = k; value = z i }) (size i) (start + l)) ∙ ap (takenFrom R o used) (sym p ∙ e)
 
   pub text-ended : f ≡ found.Nothing → text.End ≡ textAt R o at

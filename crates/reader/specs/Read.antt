@@ -66,9 +66,11 @@ readOf R o room = record { answer = packOf R o room; draft = draftFrom R o (pack
 abbrev pub standing : List ℕ → ℕ → ℕ → ℕ → Parameter
 standing o k start n = record { kind = k; contents = take n (drop start o) }
 
--- the entry of the parameter at a place, its text to be packed at another; how long its text is; the place behind the parameter
+-- the entry of the parameter at a place, its text to be packed at another; how long its text is; the place behind the
+-- parameter
 unfoldable pub takenFrom : Rules → List ℕ → ℕ → Found → Taken
-takenFrom R o used (found.Parameter k start n) = taken.Next (entryOf R used (standing o k start n)) (length (textOf R (standing o k start n))) (start + n)
+takenFrom R o used (found.Parameter k start n) =
+    taken.Next (entryOf R used (standing o k start n)) (length (textOf R (standing o k start n))) (start + n)
 takenFrom R o used found.Nothing = taken.End
 
 unfoldable pub takenAt : Rules → List ℕ → ℕ → ℕ → Taken

@@ -50,7 +50,9 @@ readNumber R k = verdictNumber (calls R) k or k =? 9
 -- r is the answer to the octets o with an area that held `old` and then holds `area`
 pub record Reads (R : Rules) (o old : List ℕ) (r : Reading) (area : List ℕ) : Type 0 where
   -- 1 to 6 and 10 exactly at the octet that spoils the message, with the number of its role
-  pub spoilt : (f : Fault) → T (calls R .given (f .number)) → (r .answer ≡ Refused f) ↔ (Spoilt (Accepts R) o (f .place) × Numbered (Accepts R) (calls R .roles) o (f .place) (f .number))
+  pub spoilt : (f : Fault) → T (calls R .given (f .number)) →
+      (r .answer ≡ Refused f) ↔
+      (Spoilt (Accepts R) o (f .place) × Numbered (Accepts R) (calls R .roles) o (f .place) (f .number))
   -- 8 at the number of octets exactly when they can still be completed
   pub early : (p : ℕ) → (r .answer ≡ Refused (noted 8 p)) ↔ ((p ≡ length o) × Ending (Accepts R) o)
   -- 7 at the first octet behind an accepted message

@@ -20,7 +20,8 @@ first-is t u [] v e = clash cc
 first-is t u (p ∷ ps) v e = go (first-is t u ps v) (picked _ _ _ _ e)
   where
     later : (p .kind ≡ t → ⊥) → (firstOf t u ps ≡ some v → First t u ps v) →
-        (T (p .kind =? u) × (none ≡ some v)) ⊎ ((T (p .kind =? u) → ⊥) × (firstOf t u ps ≡ some v)) → First t u (p ∷ ps) v
+        (T (p .kind =? u) × (none ≡ some v)) ⊎ ((T (p .kind =? u) → ⊥) × (firstOf t u ps ≡ some v)) →
+        First t u (p ∷ ps) v
     later n f (inl q) = clash (cc (q .1))
     later n f (inr q) =
         let d = f (q .1) in

@@ -47,7 +47,8 @@ kind-octet x t = go (either _ _ t)
 
 module _ (R : Rules) where
   trace-contents : (c : Class) (n i m r : ℕ) (v rest : List ℕ) → i + length v ≡ n →
-      trace (machine R) (contents c n i m r) (v ++ rest) ≡ times (length v) (always 5) ++ trace (machine R) (Header r) rest
+      trace (machine R) (contents c n i m r) (v ++ rest) ≡ times (length v) (always 5)
+      ++ trace (machine R) (Header r) rest
   unfolding trace after fault machine times
   trace-contents c n i m r [] rest e =
       at-contents (λ (s : Stage). trace (machine R) s rest ≡ trace (machine R) (Header r) rest) c n i m r
@@ -83,7 +84,8 @@ module _ (R : Rules) (S : SoundRules R) where
         (
           omega arith,
           octets-append (q .contents) (body ps)
-              (fit-octets (lawful (classOf R (q .kind))) (q .contents) (l .0 .fits)) (body-octets ps (l .1) (omega arith)),
+              (fit-octets (lawful (classOf R (q .kind))) (q .contents) (l .0 .fits))
+              (body-octets ps (l .1) (omega arith)),
         ),
       )
 

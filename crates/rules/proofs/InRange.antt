@@ -117,7 +117,8 @@ module _ (R : Rules) (S : SoundRules R) where
   given-fault (Length c r) x = among-six _ (omega arith) (omega arith)
   given-fault (Content c n i m r) x = among-six _ (omega arith) (omega arith)
 
-  by : (s : Stage) (q : Spot) (x : ℕ) (r : State) → StepWay (machine R) s q x r → x < 256 → T (inRange R (Waiting s q)) → T (inRange R r)
+  by : (s : Stage) (q : Spot) (x : ℕ) (r : State) → StepWay (machine R) s q x r → x < 256 →
+      T (inRange R (Waiting s q)) → T (inRange R r)
   unfolding inRange machine
   by s q x _ (seals f k) o t = inside _ _ _ (omega (arith, sealing s q t f)) (omega (arith, near s q t))
   by s q x _ (spoils f k) o t = join _ _ (among-six 6 (omega arith) (omega arith)) (of-le _ _ (near s q t))

@@ -84,7 +84,8 @@ module _ (M : Machine) where
   unfolding step
   stepped s q x =
       pick-case (StepWay s q x) (M .final s) _ _
-      (λ f. pick-case (StepWay s q x) (x =? checksum (q .sum)) _ _ (λ e. seals f (eq-of _ _ e)) (λ e. spoils f (λ k. e (of-eq _ _ k))))
+      (λ f. pick-case (StepWay s q x) (x =? checksum (q .sum)) _ _ (λ e. seals f (eq-of _ _ e))
+      (λ e. spoils f (λ k. e (of-eq _ _ k))))
       (λ f. pick-case (StepWay s q x) (M .fits s x) _ _ (takes f) (declines f))
 
   -- the state reached by octets all of which were needed

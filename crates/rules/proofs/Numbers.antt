@@ -67,7 +67,8 @@ module _ (M : Machine) (G : Grammar M) where
   Roled (Message n) e ρ = Unit {0}
   Roled (Refused f) e ρ = Unit {0}
 
-  roled : {s : Stage} {q : Spot} {x : ℕ} {r : State} (e : List ℕ) (ρ : List Role) → StepWay M s q x r → Roled (Waiting s q) (x ∷ e) ρ → Roled r e (tail ρ)
+  roled : {s : Stage} {q : Spot} {x : ℕ} {r : State} (e : List ℕ) (ρ : List Role) → StepWay M s q x r →
+      Roled (Waiting s q) (x ∷ e) ρ → Roled r e (tail ρ)
   unfolding close trace tail
   roled e ρ (seals f k) d = tt
   roled e ρ (spoils f k) d = tt
@@ -134,6 +135,7 @@ module _ (M : Machine) (G : Grammar M) where
             let j : roleAt ρ (f .place) ≡ role M s =
             ap (roleAt ρ) (sym n) ∙ sym (at-drop (length (g .a)) ρ) ∙ head-role s q e _ y in
             ap (λ (r : Role). r (getD h (f .place) 0)) j
-            ∙ sym (refused-number M (subst (StepWay M s q (getD h (f .place) 0)) (judged s q u) (stepped M s q (getD h (f .place) 0))))
+            ∙ sym (refused-number M (subst (StepWay M s q (getD h (f .place) 0)) (judged s q u)
+            (stepped M s q (getD h (f .place) 0))))
         go (Message m) w _ u = absurd w
         go (Refused _) w _ u = absurd w

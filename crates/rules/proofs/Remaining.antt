@@ -140,7 +140,8 @@ at-contents P c n i m r f g = pick-case P _ _ _ (λ e. f (eq-of _ _ e)) (λ e. g
 
 module _ (R : Rules) (S : SoundRules R) where
   -- ---- a parameter stands first
-  first-go : (t r : ℕ) (b : List ℕ) (ps : List Parameter) → AllLegal R ps → body ps ≡ t ∷ b → suc (length b) ≡ r → FromLength R (classOf R t) r b
+  first-go : (t r : ℕ) (b : List ℕ) (ps : List Parameter) → AllLegal R ps → body ps ≡ t ∷ b → suc (length b) ≡ r →
+      FromLength R (classOf R t) r b
   unfolding body
   first-go t r b [] l e n = clash cc
   first-go t r b (q ∷ ps) l e n =
@@ -200,7 +201,8 @@ module _ (R : Rules) (S : SoundRules R) where
       (λ e d. d .1)
 
   -- ---- an octet comes off
-  off-length : (c : Class) (r x : ℕ) (b : List ℕ) → FromLength R c r (x ∷ b) → T (fits R (Length c r) x) × Body R (after R (Length c r) x) b
+  off-length : (c : Class) (r x : ℕ) (b : List ℕ) → FromLength R c r (x ∷ b) →
+      T (fits R (Length c r) x) × Body R (after R (Length c r) x) b
   unfolding fits after
   off-length c r x b f =
       let n : length (f .v) ≡ x = cc in
@@ -258,7 +260,9 @@ module _ (R : Rules) (S : SoundRules R) where
   forward (Header r) x b d = let f = first x r b d in (may-stand f, f)
     where
       may-stand : FromLength R (classOf R x) r b → T (somePossible (whole (classOf R x) .lengths) r)
-      may-stand f = possible-has _ (length (f .v)) r (lawful (classOf R x) .fit-length (f .v) (f .fits)) (room-fits _ _ (f .room) (f .size) (room-of _ _ (f .tail)))
+      may-stand f =
+          possible-has _ (length (f .v)) r (lawful (classOf R x) .fit-length (f .v) (f .fits))
+          (room-fits _ _ (f .room) (f .size) (room-of _ _ (f .tail)))
   forward (Length c r) x b d = off-length c r x b d
   forward (Content c n i m r) x b d = off-content c n i m r x b (d .0) (d .1)
 

@@ -81,7 +81,15 @@ module _ (R : Rules) (S : SoundRules R) where
       empty R S e (omega (arith, length-append o e))
 
   pub told-of : Unique R
-  told-of = record { message = told; whole = no-prefix; sum = λ o d. ap (λ (l : List ℕ). total l % 256) (sym (d .2)) ∙ sums (d .0); octets = accepts-octets; size = accepted-size R }
+  told-of =
+      record {
+        message = told;
+        whole = no-prefix;
+        sum = λ o d. ap (λ (l : List ℕ). total l % 256) (sym (d .2))
+            ∙ sums (d .0);
+        octets = accepts-octets;
+        size = accepted-size R;
+      }
 
 pub unique-in : (b : Book) → Unique (rulesOf b)
 unique-in b = told-of (rulesOf b) (sound-rules b)

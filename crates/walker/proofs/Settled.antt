@@ -12,7 +12,8 @@ use Rattle.walker.proofs.step_at.Reads as step-at
 pub step-at-settled : (κs : _) (a : _) (r r' : _) (s s' : _) → step-at.Post κs a r s → step-at.Post κs a r' s' → r ≡ r'
 step-at-settled κs a r r' s s' p q = p ∙ sym q
 
--- `new`, `look` and `next` are walked by hand and have no generated reading: their promises go by the names that their contracts give them (`Clauses`)
+-- `new`, `look` and `next` are walked by hand and have no generated reading: their promises go by the names that
+-- their contracts give them (`Clauses`)
 pub new-settled : (s : RefT (List ℕ)) (r r' : Walker) → Begun s r → Begun s r' → r ≡ r'
 new-settled s r r' p q = p ∙ sym q
 

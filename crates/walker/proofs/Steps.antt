@@ -33,7 +33,8 @@ module _ (turns : ℕ) (o : List ℕ) (at place : ℕ) where
   none-here h e = turned h ∙ ap (λ (x : Found). met at place x (walkFrom (turns - 1) o at)) e
 
   module _ (h : 0 < turns) (k start n : ℕ) (e : parameterAt o place ≡ found.Parameter k start n) where
-    pub stands : walkFrom turns o at place ≡ pick (place =? at) (Parameter k start n (start + n)) (walkFrom (turns - 1) o at (start + n))
+    pub stands : walkFrom turns o at place ≡
+        pick (place =? at) (Parameter k start n (start + n)) (walkFrom (turns - 1) o at (start + n))
     unfolding met
     stands = turned h ∙ ap (λ (x : Found). met at place x (walkFrom (turns - 1) o at)) e
 
@@ -58,7 +59,8 @@ module _ (o : List ℕ) where
 
   met-plain : (at place : ℕ) (f : Found) (go : ℕ → Step) → ((b : ℕ) → Unrefused (go b)) → Unrefused (met at place f go)
   unfolding met
-  met-plain at place (found.Parameter k start n) go i = pick-case Unrefused _ _ _ (λ _. plain-given k start n (start + n)) (λ _. i (start + n))
+  met-plain at place (found.Parameter k start n) go i =
+      pick-case Unrefused _ _ _ (λ _. plain-given k start n (start + n)) (λ _. i (start + n))
   met-plain at place found.Nothing go i = plain-none
 
   pub walk-plain : (turns at place : ℕ) → Unrefused (walkFrom turns o at place)
@@ -71,15 +73,18 @@ module _ (o : List ℕ) where
   abbrev Inside : Step → Type 0
   Inside r = told r .start + told r .size ≤ length o
 
-  met-inside : (at place : ℕ) (f : Found) → f ≡ parameterAt o place → (go : ℕ → Step) → ((b : ℕ) → Inside (go b)) → Inside (met at place f go)
+  met-inside : (at place : ℕ) (f : Found) → f ≡ parameterAt o place → (go : ℕ → Step) → ((b : ℕ) → Inside (go b)) →
+      Inside (met at place f go)
   unfolding met told
-  met-inside at place (found.Parameter k start n) e go i = pick-case Inside _ _ _ (λ _. omega (arith, found-inside o place _ k start n e refl)) (λ _. i (start + n))
+  met-inside at place (found.Parameter k start n) e go i =
+      pick-case Inside _ _ _ (λ _. omega (arith, found-inside o place _ k start n e refl)) (λ _. i (start + n))
   met-inside at place found.Nothing e go i = omega arith
 
   walk-inside : (turns at place : ℕ) → Inside (walkFrom turns o at place)
   unfolding walkFrom told
   walk-inside zero at place = omega arith
-  walk-inside (suc turns) at place = met-inside at place (parameterAt o place) refl (walkFrom turns o at) (walk-inside turns at)
+  walk-inside (suc turns) at place =
+      met-inside at place (parameterAt o place) refl (walkFrom turns o at) (walk-inside turns at)
 
   pub under-inside : (v : Verdict) (at : ℕ) → Inside (stepUnder v o at)
   unfolding stepUnder told

@@ -1,5 +1,5 @@
--- The walker gives what is promised: its step follows the verdict on the octets, and in a message the walk meets each parameter where it begins; so one call
--- after the other gives all the parameters in order, then none for ever.
+-- The walker gives what is promised: its step follows the verdict on the octets, and in a message the walk meets each
+-- parameter where it begins; so one call after the other gives all the parameters in order, then none for ever.
 -- Assumes nothing.
 use Prim.Native.Nat.{ℕ, zero, suc, _+_, _≤_}
 use mathlib.Core.Path.{_≡_, refl, sym, _∙_, ap, ap₂, subst}
@@ -38,7 +38,8 @@ module _ (o : List ℕ) (at : ℕ) where
   unfolding stepUnder
   accepted-is v n e = rw e
 
-  accepted-of : (v : Verdict) → ((f : Fault) → v ≡ Declined f → 1 ≤ f .number) → told (stepUnder v o at) .number ≡ 0 → (n : ℕ) × (v ≡ Accepted n)
+  accepted-of : (v : Verdict) → ((f : Fault) → v ≡ Declined f → 1 ≤ f .number) →
+      told (stepUnder v o at) .number ≡ 0 → (n : ℕ) × (v ≡ Accepted n)
   unfolding stepUnder told
   accepted-of (Accepted n) h e = (n, refl)
   accepted-of (Declined f) h e = absurd (omega (arith, h f refl))
@@ -48,14 +49,22 @@ module _ (o : List ℕ) (at : ℕ) where
   refused-of (Accepted n) f = (λ e. absurd (walk-plain o most at 2 .1 f e), λ e. clash cc)
   refused-of (Declined g) f = (λ e. cc, λ e. cc)
 
-  numbers-of : (R : Rules) (v : Verdict) → ((f : Fault) → v ≡ Declined f → T (verdictNumber (calls R) (f .number))) → (told (stepUnder v o at) .number ≡ 0) ⊎ T (verdictNumber (calls R) (told (stepUnder v o at) .number))
+  numbers-of : (R : Rules) (v : Verdict) →
+      ((f : Fault) → v ≡ Declined f → T (verdictNumber (calls R) (f .number))) →
+      (told (stepUnder v o at) .number ≡ 0) ⊎ T (verdictNumber (calls R) (told (stepUnder v o at) .number))
   unfolding stepUnder told
   numbers-of R (Accepted n) h = inl (walk-plain o most at 2 .0)
   numbers-of R (Declined f) h = inr (h f refl)
 
-refusal-of : (at : ℕ) (r : Step) (f : Fault) → r ≡ Refused f → (told r .number ≡ f .number) × (told r .place ≡ f .place) × (told r .more ≡ 0) × (nextPlace at r ≡ at)
+refusal-of : (at : ℕ) (r : Step) (f : Fault) → r ≡ Refused f →
+    (told r .number ≡ f .number) × (told r .place ≡ f .place) × (told r .more ≡ 0) × (nextPlace at r ≡ at)
 unfolding told nextPlace
-refusal-of at r f e = (ap (λ (s : Step). told s .number) e, ap (λ (s : Step). told s .place) e, ap (λ (s : Step). told s .more) e, ap (nextPlace at) e)
+refusal-of at r f e = (
+  ap (λ (s : Step). told s .number) e,
+  ap (λ (s : Step). told s .place) e,
+  ap (λ (s : Step). told s .more) e,
+  ap (nextPlace at) e,
+)
 
 -- ---- the step in a message
 given-is : (r : Step) → told r .more ≡ 1 → (k s n next : ℕ) × (r ≡ Parameter k s n next)
@@ -64,9 +73,11 @@ given-is (Parameter k s n next) e = (k, s, n, next, refl)
 given-is NoMore e = absurd (omega arith)
 given-is (Refused f) e = absurd (omega arith)
 
-giving-gives : (o : List ℕ) (at : ℕ) (p : message.Parameter) → take (length (p .contents)) (drop (at + 2) o) ≡ p .contents → Gives o at p (giving at p)
+giving-gives : (o : List ℕ) (at : ℕ) (p : message.Parameter) →
+    take (length (p .contents)) (drop (at + 2) o) ≡ p .contents → Gives o at p (giving at p)
 unfolding told nextPlace
-giving-gives o at p e = record { number = refl; place = refl; more = refl; kind = refl; start = refl; size = refl; octets = e; next = refl }
+giving-gives o at p e =
+    record { number = refl; place = refl; more = refl; kind = refl; start = refl; size = refl; octets = e; next = refl }
 
 module _ (R : Rules) (S : SoundRules R) where
   module _ (m : Message) (l : LegalMessage R m) where
@@ -78,7 +89,9 @@ module _ (R : Rules) (S : SoundRules R) where
 
     legal-step : (at : ℕ) → stepOf R o at ≡ walkFrom most o at 2
     unfolding stepOf
-    legal-step at = accepted-is o at _ (length o) (judges-calls R S o (told-of R S .octets _ (m, l, refl)) .accepted (length o) .1 (refl, (m, l, refl)))
+    legal-step at =
+        accepted-is o at _ (length o) (judges-calls R S o (told-of R S .octets _ (m, l, refl)) .accepted
+        (length o) .1 (refl, (m, l, refl)))
 
     stand : Stand o c 2 (m .parameters)
     unfolding octets
@@ -86,7 +99,8 @@ module _ (R : Rules) (S : SoundRules R) where
 
     step-gives : (at : ℕ) (b : Begins 2 (m .parameters) at) → Gives o at (b .p) (stepOf R o at)
     step-gives at b =
-        subst (Gives o at (b .p)) (sym (legal-step at ∙ walk-begins o c most at 2 (m .parameters) stand (few R S m l) b))
+        subst (Gives o at (b .p))
+        (sym (legal-step at ∙ walk-begins o c most at 2 (m .parameters) stand (few R S m l) b))
         (giving-gives o at (b .p) (contents-stand o c at 2 (m .parameters) stand b))
 
     none-at : (at : ℕ) → (Begins 2 (m .parameters) at → ⊥) → stepOf R o at ≡ NoMore
@@ -99,7 +113,9 @@ module _ (R : Rules) (S : SoundRules R) where
     step-stands : (at : ℕ) → StepAt m at (stepOf R o at)
     step-stands at = record {
       parameter = step-gives at;
-      begins = λ e. let g = given-is _ e in walk-begun o c most at 2 (m .parameters) stand (few R S m l) _ _ _ _ (sym (legal-step at) ∙ g .4);
+      begins =
+          λ e. let g = given-is _ e in walk-begun o c most at 2 (m .parameters) stand (few R S m l) _ _ _ _
+          (sym (legal-step at) ∙ g .4);
       none = none-at at;
       none-early = λ h. none-at at (λ b. omega (arith, b .place, h));
       none-inside = λ place b h k. none-at at (λ d. omega (arith, begins-apart 2 (m .parameters) place at b d h, k));
@@ -115,13 +131,15 @@ module _ (R : Rules) (S : SoundRules R) where
         ∙ walk-on o c most 2 (m .parameters) calls stand (few R S m l)
 
     -- the call that as many went before as the parameter p has before it gives p
-    pub in-order : (b : List message.Parameter) (p : message.Parameter) (a : List message.Parameter) → m .parameters ≡ b ++ p ∷ a → Gives o (placeAt R o (length b)) p (stepOf R o (placeAt R o (length b)))
+    pub in-order : (b : List message.Parameter) (p : message.Parameter) (a : List message.Parameter) →
+        m .parameters ≡ b ++ p ∷ a → Gives o (placeAt R o (length b)) p (stepOf R o (placeAt R o (length b)))
     in-order b p a e = step-gives _ (record {
       before = b;
       p = p;
       behind = a;
       is = e;
-      place = place-is (length b) ∙ ap (λ (ps : List message.Parameter). beginAt 2 ps (length b)) e ∙ place-behind 2 b p a;
+      place =
+          place-is (length b) ∙ ap (λ (ps : List message.Parameter). beginAt 2 ps (length b)) e ∙ place-behind 2 b p a;
     })
 
     -- and after as many as there are parameters there are no more, for ever
@@ -142,8 +160,11 @@ module _ (R : Rules) (S : SoundRules R) where
     unfolding stepOf
     walks = record {
       done = (
-        λ e. let a = accepted-of o at v (λ f k. told-small (spoken R S) _ (J .numbers f k) .0) e in J .accepted (a .0) .0 (a .1) .1,
-        λ a. ap (λ (r : Step). told r .number) (accepted-is o at v (length o) (J .accepted (length o) .1 (refl, a))) ∙ walk-plain o most at 2 .0,
+        λ e. let a =
+            accepted-of o at v (λ f k. told-small (spoken R S) _ (J .numbers f k) .0) e in
+            J .accepted (a .0) .0 (a .1) .1,
+        λ a. ap (λ (r : Step). told r .number)
+            (accepted-is o at v (length o) (J .accepted (length o) .1 (refl, a))) ∙ walk-plain o most at 2 .0,
       );
       verdict = v;
       judged = J;

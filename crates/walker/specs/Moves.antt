@@ -1,4 +1,5 @@
--- What the functions over a walker promise, each in one equation (document 01: a walker holding the message slice and a place).
+-- What the functions over a walker promise, each in one equation (document 01: a walker holding the message slice and
+-- a place).
 -- Assumes nothing.
 use Prim.Native.Nat.{ℕ, zero, suc}
 use mathlib.Core.Path.{_≡_, _∙_, ap}
@@ -38,7 +39,8 @@ Reached s zero w = Begun s w
 Reached s (suc calls) w = (v : Walker) × Reached s calls v × Moved v w
 
 -- it holds s, and the place of the next call
-pub reached : (s : RefT (List ℕ)) (calls : ℕ) (w : Walker) → Reached s calls w → w ≡ record { message = s; place = placeAt (rulesOf PresentLenient) (now s) calls }
+pub reached : (s : RefT (List ℕ)) (calls : ℕ) (w : Walker) → Reached s calls w →
+    w ≡ record { message = s; place = placeAt (rulesOf PresentLenient) (now s) calls }
 unfolding Reached placeAt
 reached s zero w e = e
 reached s (suc calls) w e = e .2 ∙ ap advanced (reached s calls (e .0) (e .1))

@@ -14,9 +14,11 @@ use Rattle.message.specs.Walking.{parameterAt}
 use Rattle.walker.specs.declared.Step.{Step}
 use Rattle.walker.specs.declared.Step.the-variants.{Parameter, NoMore, Refused}
 
--- the walk stands at a place and finds a parameter there: it is given where that is the place asked for, else the walk goes on behind it
+-- the walk stands at a place and finds a parameter there: it is given where that is the place asked for, else the
+-- walk goes on behind it
 unfoldable pub met : ℕ → ℕ → Found → (ℕ → Step) → Step
-met at place (found.Parameter k start n) onward = pick (place =? at) (Parameter k start n (start + n)) (onward (start + n))
+met at place (found.Parameter k start n) onward =
+    pick (place =? at) (Parameter k start n (start + n)) (onward (start + n))
 met at place found.Nothing onward = NoMore
 
 -- what stands at the place `at`, for a walk that stands at `place`; each parameter takes one of the turns
@@ -24,7 +26,8 @@ unfoldable pub walkFrom : ℕ → List ℕ → ℕ → ℕ → Step
 walkFrom zero o at place = NoMore
 walkFrom (suc turns) o at place = met at place (parameterAt o place) (walkFrom turns o at)
 
--- octets that the whole read declines get its number and place; of a message the walk begins at 2 and meets 85 parameters at most
+-- octets that the whole read declines get its number and place; of a message the walk begins at 2 and meets 85
+-- parameters at most
 unfoldable pub stepUnder : Verdict → List ℕ → ℕ → Step
 stepUnder (Accepted n) o at = walkFrom most o at 2
 stepUnder (Declined f) o at = Refused f

@@ -1,5 +1,5 @@
--- What the walker gives, over the written rules (document 01, Drafts): each parameter where it begins, none anywhere else, refusals exactly as the whole
--- read's.
+-- What the walker gives, over the written rules (document 01, Drafts): each parameter where it begins, none anywhere
+-- else, refusals exactly as the whole read's.
 -- Assumes nothing.
 use Prim.Native.Nat.{ℕ, _+_, _≤_, _<_}
 use mathlib.Core.Path.{_≡_}
@@ -27,7 +27,8 @@ pub record Begins (first : ℕ) (ps : List message.Parameter) (at : ℕ) : Type 
   pub is : ps ≡ before ++ p ∷ behind
   pub place : at ≡ first + length (body before)
 
--- the step r at a place of the octets o gives the parameter p: its type, its contents' own place and size in o, and the place behind them
+-- the step r at a place of the octets o gives the parameter p: its type, its contents' own place and size in o, and
+-- the place behind them
 pub record Gives (o : List ℕ) (at : ℕ) (p : message.Parameter) (r : Step) : Type 0 where
   pub number : told r .number ≡ 0
   pub place : told r .place ≡ 0
@@ -48,7 +49,8 @@ pub record StepAt (m : Message) (at : ℕ) (r : Step) : Type 0 where
   pub none : (Begins 2 (m .parameters) at → ⊥) → r ≡ NoMore
   -- that is so at 0 and 1, inside a parameter, at the checksum and beyond
   pub none-early : at < 2 → r ≡ NoMore
-  pub none-inside : (place : ℕ) (b : Begins 2 (m .parameters) place) → place < at → at < place + 2 + length (b .p .contents) → r ≡ NoMore
+  pub none-inside : (place : ℕ) (b : Begins 2 (m .parameters) place) → place < at →
+      at < place + 2 + length (b .p .contents) → r ≡ NoMore
   pub none-late : length (octets m) ≤ at + 1 → r ≡ NoMore
 
 -- the octets o and a place went in, and r came back
@@ -59,7 +61,8 @@ pub record Walks (R : Rules) (o : List ℕ) (at : ℕ) (r : Step) : Type 0 where
   pub verdict : Verdict
   pub judged : Judges (calls R) o verdict
   pub refused : (f : Fault) → (r ≡ Refused f) ↔ (verdict ≡ Declined f)
-  pub refusal : (f : Fault) → r ≡ Refused f → (told r .number ≡ f .number) × (told r .place ≡ f .place) × (told r .more ≡ 0) × (nextPlace at r ≡ at)
+  pub refusal : (f : Fault) → r ≡ Refused f →
+      (told r .number ≡ f .number) × (told r .place ≡ f .place) × (told r .more ≡ 0) × (nextPlace at r ≡ at)
   -- no number but 1 to 8, and 10
   pub numbers : (told r .number ≡ 0) ⊎ T (verdictNumber (calls R) (told r .number))
   -- the part lies inside the octets

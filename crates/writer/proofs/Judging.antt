@@ -59,7 +59,8 @@ small-short (Text s n) = omega arith
 small-short (Carried s n) = omega arith
 
 -- without a text, they are the octets spelled
-pub small-contents : (texts : List ℕ) (v : Value) → flatOf v .form < 3 → (small v ≡ spelled (meaningOf texts v)) × (inside texts v ≡ true)
+pub small-contents : (texts : List ℕ) (v : Value) → flatOf v .form < 3 →
+    (small v ≡ spelled (meaningOf texts v)) × (inside texts v ≡ true)
 unfolding small spellingOf spelled meaningOf flatOf inside formNumber
 small-contents texts (Date m d h n) l = (refl, refl)
 small-contents texts (Code x) l = (refl, refl)
@@ -68,7 +69,8 @@ small-contents texts (Text s n) l = absurd (omega arith)
 small-contents texts (Carried s n) l = absurd (omega arith)
 
 -- with one, they are the text
-pub text-contents : (texts : List ℕ) (v : Value) → 3 ≤ flatOf v .form → take (flatOf v .length) (drop (flatOf v .start) texts) ≡ spelled (meaningOf texts v)
+pub text-contents : (texts : List ℕ) (v : Value) → 3 ≤ flatOf v .form →
+    take (flatOf v .length) (drop (flatOf v .start) texts) ≡ spelled (meaningOf texts v)
 unfolding spelled meaningOf flatOf formNumber
 text-contents texts (Date m d h n) l = absurd (omega arith)
 text-contents texts (Code x) l = absurd (omega arith)

@@ -60,7 +60,8 @@ pub spelled-asked : (s : Spelling) (v : Value) (room : ℕ) → s ≡ spellingOf
 spelled-asked s v room e h = let k = ap length (spelled-small s v e) in (omega arith, omega (arith, small-short v))
 
 pub spelled-put : (s : Spelling) (v : Value) (kind : ℕ) (old new : List ℕ) (r : ℕ) → s ≡ spellingOf v →
-    LaidParameter kind (length (take (s .length) (s .octets))) (take (s .length) (s .octets)) old new r → LaidParameter kind (length (small v)) (small v) old new r
+    LaidParameter kind (length (take (s .length) (s .octets))) (take (s .length) (s .octets)) old new r →
+    LaidParameter kind (length (small v)) (small v) old new r
 spelled-put s v kind old new r e d =
     subst (λ (w : List ℕ). LaidParameter kind (length w) w old new r) (spelled-small s v e) d
 
@@ -74,9 +75,12 @@ module _ (texts : List ℕ) (start n : ℕ) (h : start + n ≤ length texts) whe
       × (length (take (start + n - start) (drop start texts)) < 256)
   part-asked room f l = (omega (arith, part-long), omega (arith, part-long))
 
-  pub part-put : (kind : ℕ) (old new : List ℕ) (r : ℕ) → LaidParameter kind (length (take (start + n - start) (drop start texts))) (take (start + n - start) (drop start texts)) old new r → LaidParameter kind n (take n (drop start texts)) old new r
+  pub part-put : (kind : ℕ) (old new : List ℕ) (r : ℕ) →
+      LaidParameter kind (length (take (start + n - start) (drop start texts)))
+      (take (start + n - start) (drop start texts)) old new r → LaidParameter kind n (take n (drop start texts)) old new r
   part-put kind old new r d =
-      subst (λ (v : List ℕ). LaidParameter kind n v old new r) (part-is texts start n) (subst (λ (m : ℕ). LaidParameter kind m (take (start + n - start) (drop start texts)) old new r) part-long d)
+      subst (λ (v : List ℕ). LaidParameter kind n v old new r) (part-is texts start n)
+      (subst (λ (m : ℕ). LaidParameter kind m (take (start + n - start) (drop start texts)) old new r) part-long d)
 
 -- ---- the parameter of an entry, by its value laid flat
 module _ (texts : List ℕ) (e : Entry) (f : Flat) (q : f ≡ flatOf (e .value)) (room : ℕ)
@@ -95,9 +99,14 @@ module _ (texts : List ℕ) (e : Entry) (f : Flat) (q : f ≡ flatOf (e .value))
   pub number-asked : f .form < 3 → 2 + length (small (e .value)) ≤ room
   number-asked l = omega (arith, ap length (number-is l), p .fits, whole)
 
-  pub number-put : f .form < 3 → (old new : List ℕ) (r : ℕ) → LaidParameter (e .kind) (length (small (e .value))) (small (e .value)) old new r → (new ≡ laid (parameterOctets texts e) old) × (r ≡ length (parameterOctets texts e))
-  number-put l old new r d =
-      (d .0 ∙ ap (λ (t : List ℕ). laid t old) (by-contents _ (number-is l)), d .1 ∙ ap (λ (v : List ℕ). 2 + length v) (number-is l) ∙ sym whole)
+  pub number-put : f .form < 3 → (old new : List ℕ) (r : ℕ) →
+      LaidParameter (e .kind) (length (small (e .value))) (small (e .value)) old new r →
+      (new ≡ laid (parameterOctets texts e) old) × (r ≡ length (parameterOctets texts e))
+  number-put l old new r d = (
+    d .0 ∙ ap (λ (t : List ℕ). laid t old) (by-contents _ (number-is l)),
+    d .1
+        ∙ ap (λ (v : List ℕ). 2 + length v) (number-is l) ∙ sym whole,
+  )
 
   text-is : 3 ≤ f .form → take (f .length) (drop (f .start) texts) ≡ contentsOf texts e
   text-is l = rw q (text-contents texts (e .value) (rw q at l))
@@ -113,7 +122,9 @@ module _ (texts : List ℕ) (e : Entry) (f : Flat) (q : f ≡ flatOf (e .value))
   pub text-asked : 3 ≤ f .form → (2 + f .length ≤ room) × ((f .start + f .length ≤ length texts) × (f .length < 256))
   text-asked l = (omega (arith, text-long l, p .fits, whole), (text-inside, omega (arith, text-long l, p .short)))
 
-  pub text-put : 3 ≤ f .form → (old new : List ℕ) (r : ℕ) → LaidParameter (e .kind) (f .length) (take (f .length) (drop (f .start) texts)) old new r → (new ≡ laid (parameterOctets texts e) old) × (r ≡ length (parameterOctets texts e))
+  pub text-put : 3 ≤ f .form → (old new : List ℕ) (r : ℕ) →
+      LaidParameter (e .kind) (f .length) (take (f .length) (drop (f .start) texts)) old new r →
+      (new ≡ laid (parameterOctets texts e) old) × (r ≡ length (parameterOctets texts e))
   text-put l old new r d = (
     d .0 ∙ ap (λ (n : ℕ). laid (e .kind ∷ n ∷ take (f .length) (drop (f .start) texts)) old)
         (sym (text-long l) ∙ ap length (sym (text-is l))) ∙ ap (λ (t : List ℕ). laid t old) (by-contents _ (text-is l)),
@@ -145,7 +156,8 @@ module _ (es : List Entry) (texts : List ℕ) (i : ℕ) (z : Entry) (l : i < len
       ∙ ap (λ (t : List ℕ). bodyOf texts (take i es) ++ t) (one-body texts (getD es i z))
 
   body-less : (n : ℕ) → i < n →
-      length (bodyOf texts (take i es)) + length (parameterOctets texts (getD es i z)) ≤ length (bodyOf texts (take n es))
+      length (bodyOf texts (take i es)) + length (parameterOctets texts (getD es i z)) ≤ length
+      (bodyOf texts (take n es))
   body-less n h =
       let a : bodyOf texts (take n es) ≡ bodyOf texts (take (i + 1) (take n es))
       ++ bodyOf texts (drop (i + 1) (take n es)) =

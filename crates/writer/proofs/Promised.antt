@@ -28,7 +28,9 @@ use Rattle.writer.proofs.write.Reads as write
 
 -- by the book b, of the draft d with the text area t, `write` answers w; the output held `old` and then holds `out`
 abbrev pub write-gives : Book → Draft → List ℕ → List ℕ → Written → List ℕ → Type 0
-write-gives b d t old w out = (κs : _) × (a : _) × (s : _) × write.Post κs a w s × (a .0 ≡ b) × (a .1 .0 ≡ d) × (a .1 .1 .0 .now ≡ t) × (a .1 .1 .1 .0 .now ≡ old) × (s .1 .1 .1 .0 .now ≡ out)
+write-gives b d t old w out =
+    (κs : _) × (a : _) × (s : _) × write.Post κs a w s × (a .0 ≡ b) × (a .1 .0 ≡ d) × (a .1 .1 .0 .now ≡ t)
+    × (a .1 .1 .1 .0 .now ≡ old) × (s .1 .1 .1 .0 .now ≡ out)
 
 module _ (b : Book) (d : Draft) (t old : List ℕ) (w : Written) (out : List ℕ) (h : write-gives b d t old w out) where
   pub write-is : w ≡ writeOf (rulesOf b) d t (length old)
@@ -48,7 +50,8 @@ module _ (b : Book) (d : Draft) (t old : List ℕ) (w : Written) (out : List ℕ
       let m = messageOf d t in
       let x = written (rulesOf b) d t (length old) n (sym write-is ∙ e) in
       let l : length (octets m) ≡ n = octets-length m ∙ sym (x .1) in
-      let q : out ≡ octets m ++ drop (length (octets m)) old = output-is ∙ ap (λ (y : Written). outputAfter y (octets m) old) e in
+      let q : out ≡ octets m ++ drop (length (octets m)) old =
+      output-is ∙ ap (λ (y : Written). outputAfter y (octets m) old) e in
       let f : take n out ≡ octets m = ap (take n) q ∙ take-at (octets m) _ n l in
       record {
         begins = f;
@@ -65,24 +68,32 @@ module _ (b : Book) (d : Draft) (t old : List ℕ) (w : Written) (out : List ℕ
   pub writing : Writes (rulesOf b) d t old w out
   writing = record { answers = writer-answers; lays = writer-lays; keeps = refusal-keeps }
 
-  -- the draft of a legal message, over an area that begins with its texts, is written as exactly its octets where there is room
-  pub writes-back : (m : message.Message) → LegalMessage (rulesOf b) m → (rest : List ℕ) → d ≡ draftOf (rulesOf b) m → t ≡ textsOf (rulesOf b) (m .parameters) ++ rest → length (octets m) ≤ length old →
+  -- the draft of a legal message, over an area that begins with its texts, is written as exactly its octets where
+  -- there is room
+  pub writes-back : (m : message.Message) → LegalMessage (rulesOf b) m → (rest : List ℕ) →
+      d ≡ draftOf (rulesOf b) m → t ≡ textsOf (rulesOf b) (m .parameters) ++ rest → length (octets m) ≤ length old →
       (w ≡ Message (length (octets m))) × (out ≡ laid (octets m) old)
   unfolding outputAfter
   writes-back m l rest e f g =
       let k = round-trips-of b .message-written m rest l (length old) g in
-      let x : w ≡ Message (length (octets m)) = write-is ∙ ap₂ (λ (y : Draft) (z : List ℕ). writeOf (rulesOf b) y z (length old)) e f ∙ k .0 in
+      let x : w ≡ Message (length (octets m)) =
+      write-is ∙ ap₂ (λ (y : Draft) (z : List ℕ). writeOf (rulesOf b) y z (length old)) e f ∙ k .0 in
       let o : octets (messageOf d t) ≡ octets m = ap octets (ap₂ messageOf e f ∙ k .1) in
       (x, output-is ∙ ap₂ (λ (y : Written) (z : List ℕ). outputAfter y z old) x o)
 
   -- a draft that is written is equal to the draft of its message, over any area that begins with the message's texts
-  pub reads-back : (n : ℕ) → w ≡ Message n → (rest : List ℕ) → Equal d t (draftOf (rulesOf b) (messageOf d t)) (textsOf (rulesOf b) (messageOf d t .parameters) ++ rest)
+  pub reads-back : (n : ℕ) → w ≡ Message n → (rest : List ℕ) →
+      Equal d t (draftOf (rulesOf b) (messageOf d t)) (textsOf (rulesOf b) (messageOf d t .parameters) ++ rest)
   reads-back n e rest = round-trips-of b .draft-again d t (length old) n (sym write-is ∙ e) rest
 
--- equal drafts, each with its text area, written by one book over one output, get the same answer and leave the same output
-pub equals-written : (b : Book) (d : Draft) (t : List ℕ) (e : Draft) (u old : List ℕ) (w w' : Written) (out out' : List ℕ) → write-gives b d t old w out → write-gives b e u old w' out' → Equal d t e u → (w ≡ w') × (out ≡ out')
+-- equal drafts, each with its text area, written by one book over one output, get the same answer and leave the same
+-- output
+pub equals-written : (b : Book) (d : Draft) (t : List ℕ) (e : Draft) (u old : List ℕ) (w w' : Written)
+    (out out' : List ℕ) → write-gives b d t old w out → write-gives b e u old w' out' → Equal d t e u →
+    (w ≡ w') × (out ≡ out')
 equals-written b d t e u old w w' out out' h k q =
-    let x = write-is b d t old w out h ∙ round-trips-of b .equal-answer d t e u (length old) q ∙ sym (write-is b e u old w' out' k) in (
+    let x = write-is b d t old w out h ∙ round-trips-of b .equal-answer d t e u (length old) q
+    ∙ sym (write-is b e u old w' out' k) in (
       x,
       output-is b d t old w out h
           ∙ ap₂ (λ (y : Written) (m : message.Message). outputAfter y (octets m) old) x (equal-stand d t e u q)

@@ -165,7 +165,8 @@ module _ (book : Book) where
   place-of k p q e = sym (ap (λ (a : Told). a .place) e)
 
   module _ (d : Draft) (texts : List ℕ) (room : ℕ) where
-    eleven-when : (x : Written) → Went (rulesOf book) d texts room x → (p : ℕ) → told x ≡ refusal 11 p → (p ≡ 0) × (T (messageKind (d .kind)) → ⊥)
+    eleven-when : (x : Written) → Went (rulesOf book) d texts room x → (p : ℕ) → told x ≡ refusal 11 p →
+        (p ≡ 0) × (T (messageKind (d .kind)) → ⊥)
     unfolding told
     eleven-when x (kind-is-none n) p e = (place-of _ _ _ e, n)
     eleven-when x (no-entries k z) p e = absurd (apart _ _ e (λ z. omega arith))
@@ -175,7 +176,8 @@ module _ (book : Book) where
     eleven-when x (too-tight a m s r) p e = absurd (apart _ _ e (λ z. omega arith))
     eleven-when x (fits a m s r) p e = absurd (apart _ _ e (λ z. omega arith))
 
-    fourteen-when : (x : Written) → Went (rulesOf book) d texts room x → (p : ℕ) → told x ≡ refusal 14 p → (p ≡ 0) × (T (messageKind (d .kind)) × (d .count ≡ 0))
+    fourteen-when : (x : Written) → Went (rulesOf book) d texts room x → (p : ℕ) → told x ≡ refusal 14 p →
+        (p ≡ 0) × (T (messageKind (d .kind)) × (d .count ≡ 0))
     unfolding told
     fourteen-when x (kind-is-none n) p e = absurd (apart _ _ e (λ z. omega arith))
     fourteen-when x (no-entries k z) p e = (place-of _ _ _ e, (k, z))
@@ -185,7 +187,8 @@ module _ (book : Book) where
     fourteen-when x (too-tight a m s r) p e = absurd (apart _ _ e (λ z. omega arith))
     fourteen-when x (fits a m s r) p e = absurd (apart _ _ e (λ z. omega arith))
 
-    twelve-when : (x : Written) → Went (rulesOf book) d texts room x → (i : ℕ) → told x ≡ refusal 12 i → FirstBad (rulesOf book) d texts i
+    twelve-when : (x : Written) → Went (rulesOf book) d texts room x → (i : ℕ) → told x ≡ refusal 12 i →
+        FirstBad (rulesOf book) d texts i
     unfolding told
     twelve-when x (kind-is-none n) p e = absurd (apart _ _ e (λ z. omega arith))
     twelve-when x (no-entries k z) p e = absurd (apart _ _ e (λ z. omega arith))
@@ -195,7 +198,9 @@ module _ (book : Book) where
     twelve-when x (too-tight a m s r) p e = absurd (apart _ _ e (λ z. omega arith))
     twelve-when x (fits a m s r) p e = absurd (apart _ _ e (λ z. omega arith))
 
-    thirteen-when : (x : Written) → Went (rulesOf book) d texts room x → (p : ℕ) → told x ≡ refusal 13 p → (p ≡ 0) × ((T (messageKind (d .kind)) × (suc most ≤ d .count)) ⊎ (Asked d × (AllMake (rulesOf book) d texts × (256 ≤ lengthOf d texts))))
+    thirteen-when : (x : Written) → Went (rulesOf book) d texts room x → (p : ℕ) → told x ≡ refusal 13 p →
+        (p ≡ 0) × ((T (messageKind (d .kind)) × (suc most ≤ d .count))
+        ⊎ (Asked d × (AllMake (rulesOf book) d texts × (256 ≤ lengthOf d texts))))
     unfolding told
     thirteen-when x (kind-is-none n) p e = absurd (apart _ _ e (λ z. omega arith))
     thirteen-when x (no-entries k z) p e = absurd (apart _ _ e (λ z. omega arith))
@@ -205,7 +210,9 @@ module _ (book : Book) where
     thirteen-when x (too-tight a m s r) p e = absurd (apart _ _ e (λ z. omega arith))
     thirteen-when x (fits a m s r) p e = absurd (apart _ _ e (λ z. omega arith))
 
-    fifteen-when : (x : Written) → Went (rulesOf book) d texts room x → (p : ℕ) → told x ≡ refusal 15 p → (p ≡ lengthOf d texts + 3) × (Asked d × (AllMake (rulesOf book) d texts × ((lengthOf d texts ≤ 255) × (room < lengthOf d texts + 3))))
+    fifteen-when : (x : Written) → Went (rulesOf book) d texts room x → (p : ℕ) → told x ≡ refusal 15 p →
+        (p ≡ lengthOf d texts + 3)
+        × (Asked d × (AllMake (rulesOf book) d texts × ((lengthOf d texts ≤ 255) × (room < lengthOf d texts + 3))))
     unfolding told
     fifteen-when x (kind-is-none n) p e = absurd (apart _ _ e (λ z. omega arith))
     fifteen-when x (no-entries k z) p e = absurd (apart _ _ e (λ z. omega arith))
@@ -215,7 +222,9 @@ module _ (book : Book) where
     fifteen-when x (too-tight a m s r) p e = (place-of _ _ _ e, (a, (m, (s, r))))
     fifteen-when x (fits a m s r) p e = absurd (apart _ _ e (λ z. omega arith))
 
-    message-when : (x : Written) → Went (rulesOf book) d texts room x → (n : ℕ) → told x ≡ success n → (n ≡ lengthOf d texts + 3) × (Asked d × (AllMake (rulesOf book) d texts × ((lengthOf d texts ≤ 255) × (lengthOf d texts + 3 ≤ room))))
+    message-when : (x : Written) → Went (rulesOf book) d texts room x → (n : ℕ) → told x ≡ success n →
+        (n ≡ lengthOf d texts + 3)
+        × (Asked d × (AllMake (rulesOf book) d texts × ((lengthOf d texts ≤ 255) × (lengthOf d texts + 3 ≤ room))))
     unfolding told
     message-when x (kind-is-none n) p e = absurd (apart _ _ e (λ z. omega arith))
     message-when x (no-entries k z) p e = absurd (apart _ _ e (λ z. omega arith))
@@ -225,7 +234,8 @@ module _ (book : Book) where
     message-when x (too-tight a m s r) p e = absurd (apart _ _ e (λ z. omega arith))
     message-when x (fits a m s r) p e = (sym (ap (λ (a : Told). a .size) e), (a, (m, (s, r))))
 
-    numbers-are : (x : Written) → Went (rulesOf book) d texts room x → 1 ≤ told x .number → (11 ≤ told x .number) × (told x .number ≤ 15)
+    numbers-are : (x : Written) → Went (rulesOf book) d texts room x → 1 ≤ told x .number →
+        (11 ≤ told x .number) × (told x .number ≤ 15)
     unfolding told
     numbers-are x (kind-is-none n) h = (omega arith, omega arith)
     numbers-are x (no-entries k z) h = (omega arith, omega arith)
@@ -236,10 +246,13 @@ module _ (book : Book) where
     numbers-are x (fits a m s r) h = absurd (omega arith)
 
     -- an answer with a reason is the writer's answer
-    given : (w : Written) → w ≡ writeOf (rulesOf book) d texts room → (x : Written) → Went (rulesOf book) d texts room x → told w ≡ told x
+    given : (w : Written) → w ≡ writeOf (rulesOf book) d texts room → (x : Written) →
+        Went (rulesOf book) d texts room x → told w ≡ told x
     given w e x r = ap told (e ∙ sym (answer d texts room x r))
 
-    over : (w : Written) → w ≡ writeOf (rulesOf book) d texts room → (T (messageKind (d .kind)) × (suc most ≤ d .count)) ⊎ (Asked d × (AllMake (rulesOf book) d texts × (256 ≤ lengthOf d texts))) → told w ≡ refusal 13 0
+    over : (w : Written) → w ≡ writeOf (rulesOf book) d texts room →
+        (T (messageKind (d .kind)) × (suc most ≤ d .count))
+        ⊎ (Asked d × (AllMake (rulesOf book) d texts × (256 ≤ lengthOf d texts))) → told w ≡ refusal 13 0
     unfolding told
     over w e (inl h) = given w e _ (many-entries (h .0) (h .1))
     over w e (inr h) = given w e _ (too-long (h .0) (h .1 .0) (h .1 .1))

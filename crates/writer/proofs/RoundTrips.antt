@@ -165,7 +165,9 @@ module _ (R : Rules) where
       ap (λ (m : message.Message). length (body (m .parameters))) (equal-stand a s b t e) in
       let k = e .kind in
       let c = e .count in
-      λ i. pick (messageKind (k i)) (pick (c i =? 0) (declined 14 0) (pick (suc most ≤? c i) (declined 13 0) (pick (suc (n i) ≤? c i) (declined 12 (n i)) (sized (l i) room)))) (declined 11 0)
+      λ i. pick (messageKind (k i)) (pick (c i =? 0) (declined 14 0)
+      (pick (suc most ≤? c i) (declined 13 0) (pick (suc (n i) ≤? c i) (declined 12 (n i)) (sized (l i) room))))
+      (declined 11 0)
 
 round-trips : (R : Rules) → SoundRules R → RoundTrips R
 round-trips R S =

@@ -79,11 +79,20 @@ pub record Answers (R : Rules) (d : Draft) (texts : List ℕ) (room : ℕ) (w : 
   -- with 1 to 85 entries, 12 exactly at the first that makes no legal parameter
   pub twelve : (i : ℕ) → Asked d → (told w ≡ refusal 12 i) ↔ FirstBad R d texts i
   -- 13 for more than 85 entries, before any is looked at, and for more than 255 octets, when all make legal parameters
-  pub thirteen : (p : ℕ) → (told w ≡ refusal 13 p) ↔ ((p ≡ 0) × ((T (messageKind (d .kind)) × (suc most ≤ d .count)) ⊎ (Asked d × (AllMake R d texts × (256 ≤ lengthOf d texts)))))
+  pub thirteen : (p : ℕ) →
+      (told w ≡ refusal 13 p) ↔
+      ((p ≡ 0) × ((T (messageKind (d .kind)) × (suc most ≤ d .count))
+      ⊎ (Asked d × (AllMake R d texts × (256 ≤ lengthOf d texts)))))
   -- 15 at L + 3 exactly where only the output is too short
-  pub fifteen : (p : ℕ) → (told w ≡ refusal 15 p) ↔ ((p ≡ lengthOf d texts + 3) × (Asked d × (AllMake R d texts × ((lengthOf d texts ≤ 255) × (room < lengthOf d texts + 3)))))
+  pub fifteen : (p : ℕ) →
+      (told w ≡ refusal 15 p) ↔
+      ((p ≡ lengthOf d texts + 3)
+      × (Asked d × (AllMake R d texts × ((lengthOf d texts ≤ 255) × (room < lengthOf d texts + 3)))))
   -- a legal draft with room is always written, and no other
-  pub message : (n : ℕ) → (told w ≡ success n) ↔ ((n ≡ lengthOf d texts + 3) × (Asked d × (AllMake R d texts × ((lengthOf d texts ≤ 255) × (lengthOf d texts + 3 ≤ room)))))
+  pub message : (n : ℕ) →
+      (told w ≡ success n) ↔
+      ((n ≡ lengthOf d texts + 3)
+      × (Asked d × (AllMake R d texts × ((lengthOf d texts ≤ 255) × (lengthOf d texts + 3 ≤ room)))))
   -- and no other number
   pub numbers : 1 ≤ told w .number → (11 ≤ told w .number) × (told w .number ≤ 15)
 

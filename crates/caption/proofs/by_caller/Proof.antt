@@ -15,14 +15,21 @@ enum-known-part : tie.Need-enum-known-part
 enum-known-part c = search needs
 
 by-entry-requires : tie.Need-by-entry-requires
-by-entry-requires c κs = omega (arith, counted-inside _ _ _ _ _ (sym (c .before .before .before .counted .ensures) ∙ c .before .part .given .1))
+by-entry-requires c κs =
+    omega (
+      arith,
+      counted-inside _ _ _ _ _
+          (sym (c .before .before .before .counted .ensures) ∙ c .before .part .given .1),
+    )
 
 enum-told : tie.Need-enum-told
 enum-told c = search needs
 
 returns : tie.Need-returns
 unfolding byCaller
-returns c = rw (sym (c .before .before .before .before .counted .ensures) ∙ c .before .before .part .given .1) (c .by-entry .ensures)
+returns c =
+    rw (sym (c .before .before .before .before .counted .ensures) ∙ c .before .before .part .given .1)
+    (c .by-entry .ensures)
 
 returns-2 : tie.Need-returns-2
 unfolding byCaller

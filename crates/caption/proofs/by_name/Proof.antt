@@ -27,7 +27,8 @@ returns c = rw (sym (c .before .before .before .counted .ensures) ∙ c .before 
 
 returns-2 : tie.Need-returns-2
 unfolding byName
-returns-2 c = rw (sym (c .before .before .before .counted .ensures) ∙ c .before .enum-told .given .1) (c .by-caller .ensures)
+returns-2 c =
+    rw (sym (c .before .before .before .counted .ensures) ∙ c .before .enum-told .given .1) (c .by-caller .ensures)
 
 pub by-name-spec : {M : Type 1} → statement M
 by-name-spec =

@@ -1,4 +1,5 @@
--- `caption::caption` meets its contract: the part that `find` finds lies inside its slice, and is cut out of it; the code says which slice it was.
+-- `caption::caption` meets its contract: the part that `find` finds lies inside its slice, and is cut out of it; the
+-- code says which slice it was.
 -- Assumes nothing.
 use mathlib.Core.Path.{sym, _∙_, ap}
 use native.Mathlib.Omega.{arith}

@@ -1,5 +1,5 @@
--- `caption::entry_for` meets its contract. The loop's invariant: the search from the line that begins here finds what the whole search finds.
--- The measure is what is left of the directory. Assumes nothing.
+-- `caption::entry_for` meets its contract. The loop's invariant: the search from the line that begins here finds what
+-- the whole search finds. The measure is what is left of the directory. Assumes nothing.
 use Prim.Native.Nat.{_-_}
 use mathlib.Core.Path.{_≡_, refl, sym, _∙_}
 use native.Mathlib.Omega.{arith}
@@ -37,7 +37,8 @@ sub-length-2 : tie.Need-sub-length-2 Inv-loop μ-loop
 sub-length-2 c = omega (arith, c .before .line-at .ensures .caller-inside (c .if1 .taken))
 
 returns : tie.Need-returns Inv-loop μ-loop
-returns c = pick-t _ _ _ _ (c .if1 .taken) refl ∙ sym (c .before .line-at .ensures .goes) ∙ c .before .before .before .loop .inv
+returns c =
+    pick-t _ _ _ _ (c .if1 .taken) refl ∙ sym (c .before .line-at .ensures .goes) ∙ c .before .before .before .loop .inv
 
 add-at : tie.Need-add-at Inv-loop μ-loop
 add-at c = omega arith
@@ -49,7 +50,8 @@ loop-less : tie.Need-loop-less Inv-loop μ-loop
 loop-less c = omega arith
 
 loop-again : tie.Need-loop-again Inv-loop μ-loop
-loop-again c = pick-f _ _ _ _ (c .if1 .left) refl ∙ sym (c .before .line-at .ensures .goes) ∙ c .before .before .before .loop .inv
+loop-again c =
+    pick-f _ _ _ _ (c .if1 .left) refl ∙ sym (c .before .line-at .ensures .goes) ∙ c .before .before .before .loop .inv
 
 returns-2 : tie.Need-returns-2 Inv-loop μ-loop
 returns-2 c = sym (entry-end _ _ _ (c .loop-test .left)) ∙ c .before .loop .inv

@@ -21,7 +21,10 @@ change-by-requires c κs = search needs
 
 returns : tie.Need-returns
 unfolding changeIn
-returns c = c .change-by .ensures ∙ (λ i. changeBy (c .before .before .before .octet .ensures i) (c .before .before .octet2 .ensures i) (c .before .octet3 .ensures i))
+returns c =
+    c .change-by .ensures
+    ∙ (λ i. changeBy (c .before .before .before .octet .ensures i) (c .before .before .octet2 .ensures i)
+    (c .before .octet3 .ensures i))
 
 pub change-in-spec : {M : Type 1} → statement M
 change-in-spec =

@@ -19,7 +19,9 @@ cast-end : tie.Need-cast-end
 cast-end c = search needs
 
 add-end : tie.Need-add-end
-add-end c = let h = counted-inside _ _ _ _ _ (sym (c .before .before .before .counted .ensures) ∙ c .before .part .given .1) in search (needs, h)
+add-end c =
+    let h = counted-inside _ _ _ _ _ (sym (c .before .before .before .counted .ensures) ∙ c .before .part .given .1) in
+    search (needs, h)
 
 sub-change-in : tie.Need-sub-change-in
 sub-change-in c = search needs
@@ -28,7 +30,9 @@ part-change-in-start : tie.Need-part-change-in-start
 part-change-in-start c = search needs
 
 part-change-in-end : tie.Need-part-change-in-end
-part-change-in-end c = let h = counted-inside _ _ _ _ _ (sym (c .before .before .before .counted .ensures) ∙ c .before .part .given .1) in omega (arith, h)
+part-change-in-end c =
+    let h = counted-inside _ _ _ _ _ (sym (c .before .before .before .counted .ensures) ∙ c .before .part .given .1) in
+    omega (arith, h)
 
 change-in-requires : tie.Need-change-in-requires
 change-in-requires c κs = search needs

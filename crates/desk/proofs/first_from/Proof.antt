@@ -1,5 +1,5 @@
--- `desk::first_from` meets its contract. The loop's invariant: none of the places before i is the one sought, so the first from i on is the first. The
--- measure is the places left.
+-- `desk::first_from` meets its contract. The loop's invariant: none of the places before i is the one sought, so the
+-- first from i on is the first. The measure is the places left.
 -- Assumes nothing.
 use mathlib.Core.Path.{_≡_, refl, sym, _∙_}
 use Prim.Native.Nat.{_+_, _-_, _≤_}
@@ -12,7 +12,8 @@ use Rattle.desk.proofs.first_from.Statement.{statement}
 use Rattle.desk.proofs.first_from.Tie as tie
 
 abbrev Inv-loop : tie.InvT-loop
-Inv-loop from sought places i₀ i = (i ≤ placeCount) × (i + placeWith sought (drop i places) ≡ from + placeWith sought (drop from places))
+Inv-loop from sought places i₀ i =
+    (i ≤ placeCount) × (i + placeWith sought (drop i places) ≡ from + placeWith sought (drop from places))
 
 abbrev μ-loop : tie.MeasureT-loop
 μ-loop from sought places i₀ i = placeCount - i
@@ -30,7 +31,8 @@ returns : tie.Need-returns Inv-loop μ-loop
 returns c =
     let places = c .before .before .before .args .t1 in
     let l : length places ≡ placeCount = search needs in
-    sym (first-here _ places _ (omega (arith, l, c .before .loop-test .taken)) (c .if1 .taken)) ∙ c .before .before .loop .inv .1
+    sym (first-here _ places _ (omega (arith, l, c .before .loop-test .taken)) (c .if1 .taken))
+    ∙ c .before .before .loop .inv .1
 
 add-i : tie.Need-add-i Inv-loop μ-loop
 add-i c = search needs
@@ -41,8 +43,11 @@ loop-less c = search needs
 loop-again : tie.Need-loop-again Inv-loop μ-loop
 loop-again c =
     let places = c .before .before .before .args .t1 in
-    let l : length places ≡ placeCount = search needs in
-    (omega (arith, c .before .loop-test .taken), sym (first-next _ places _ (omega (arith, l, c .before .loop-test .taken)) (c .if1 .left)) ∙ c .before .before .loop .inv .1)
+    let l : length places ≡ placeCount = search needs in (
+      omega (arith, c .before .loop-test .taken),
+      sym (first-next _ places _ (omega (arith, l, c .before .loop-test .taken)) (c .if1 .left))
+          ∙ c .before .before .loop .inv .1,
+    )
 
 returns-2 : tie.Need-returns-2 Inv-loop μ-loop
 returns-2 c =

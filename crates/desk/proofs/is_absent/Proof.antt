@@ -17,7 +17,8 @@ first-from-requires c κs = search needs
 returns : tie.Need-returns
 returns c =
     let l : length (c .before .args .places) ≡ placeCount = search needs in
-    ap (λ (k : ℕ). eqb k placeCount) (c .first-from .ensures) ∙ ap (eqb _) (sym l) ∙ absent-from _ (c .before .args .places) 0 (omega arith)
+    ap (λ (k : ℕ). eqb k placeCount) (c .first-from .ensures) ∙ ap (eqb _) (sym l)
+    ∙ absent-from _ (c .before .args .places) 0 (omega arith)
 
 pub is-absent-spec : {M : Type 1} → statement M
 is-absent-spec = tie.close (tie.spec first-from-requires returns)

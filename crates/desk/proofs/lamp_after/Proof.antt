@@ -1,4 +1,5 @@
--- `desk::lamp_after` meets its contract: off or on by the octet at the start of the contents of 0BH that count, or the lamp as it was.
+-- `desk::lamp_after` meets its contract: off or on by the octet at the start of the contents of 0BH that count, or
+-- the lamp as it was.
 -- Assumes nothing.
 use mathlib.Core.Path.{refl, sym, _∙_}
 use Rattle.rules.proofs.Returns.{pick-t, pick-f, yes-eq, no-eq}

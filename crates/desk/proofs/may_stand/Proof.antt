@@ -35,11 +35,13 @@ returns-2 c =
     let l : length places ≡ placeCount = search needs in
     pick-f _ _ _ _ (no-eq _ _ (c .before .before .if1 .left))
     (and-t _ _ _ (yes-le _ _ (c .before .if2 .taken))
-    (ap (λ (k : ℕ). eqb k placeCount) (c .first-from .ensures) ∙ ap (eqb _) (sym l) ∙ absent-behind places _ _ (omega (arith, l, c .before .before .before .pre))))
+    (ap (λ (k : ℕ). eqb k placeCount) (c .first-from .ensures) ∙ ap (eqb _) (sym l)
+    ∙ absent-behind places _ _ (omega (arith, l, c .before .before .before .pre))))
 
 returns-3 : tie.Need-returns-3
 unfolding mayStand
-returns-3 c = pick-f _ _ _ _ (no-eq _ _ (c .before .if1 .left)) (and-f _ _ _ (no-le _ _ (omega (arith, c .if2 .left))) refl)
+returns-3 c =
+    pick-f _ _ _ _ (no-eq _ _ (c .before .if1 .left)) (and-f _ _ _ (no-le _ _ (omega (arith, c .if2 .left))) refl)
 
 pub may-stand-spec : {M : Type 1} → statement M
 may-stand-spec =

@@ -1,4 +1,5 @@
--- `desk::places_fit` meets its contract. The loop's invariant: the places before i may stand, so those from i on decide. The measure is the places left.
+-- `desk::places_fit` meets its contract. The loop's invariant: the places before i may stand, so those from i on
+-- decide. The measure is the places left.
 -- Assumes nothing.
 use mathlib.Core.Path.{_≡_, refl}
 use Prim.Native.Nat.{_-_, _≤_}
@@ -33,19 +34,25 @@ loop-again : tie.Need-loop-again Inv-loop μ-loop
 loop-again c =
     let places = c .before .before .before .before .args .places in
     let l : length places ≡ placeCount = search needs in
-    let h = c .before .before .loop-test .taken in
-    (omega (arith, h), fit-more places (c .before .before .before .loop .i) (c .before .before .before .loop .inv .1) (omega (arith, l, h)) (via _ _ _ (c .before .may-stand .ensures) (c .if1 .taken)))
+    let h = c .before .before .loop-test .taken in (
+      omega (arith, h),
+      fit-more places (c .before .before .before .loop .i)
+          (c .before .before .before .loop .inv .1) (omega (arith, l, h))
+          (via _ _ _ (c .before .may-stand .ensures) (c .if1 .taken)),
+    )
 
 returns : tie.Need-returns Inv-loop μ-loop
 returns c =
     let places = c .before .before .before .before .args .places in
     let l : length places ≡ placeCount = search needs in
-    fit-fails places (c .before .before .before .loop .i) (c .before .before .before .loop .inv .1) (omega (arith, l, c .before .before .loop-test .taken)) (via _ _ _ (c .before .may-stand .ensures) (c .if1 .left))
+    fit-fails places (c .before .before .before .loop .i) (c .before .before .before .loop .inv .1)
+    (omega (arith, l, c .before .before .loop-test .taken)) (via _ _ _ (c .before .may-stand .ensures) (c .if1 .left))
 
 returns-2 : tie.Need-returns-2 Inv-loop μ-loop
 returns-2 c =
     let l : length (c .before .before .args .places) ≡ placeCount = search needs in
-    fit-all (c .before .before .args .places) (c .before .loop .i) (c .before .loop .inv .1) (omega (arith, l, c .loop-test .left))
+    fit-all (c .before .before .args .places) (c .before .loop .i) (c .before .loop .inv .1)
+    (omega (arith, l, c .loop-test .left))
 
 pub places-fit-spec : {M : Type 1} → statement M
 places-fit-spec =

@@ -49,7 +49,9 @@ returns-2 c =
 
 returns-3 : tie.Need-returns-3
 unfolding settleOf
-returns-3 c = pick-f _ _ _ _ (via _ _ _ (c .before .before .places-fit .ensures) (c .before .if1 .left)) (c .refused-with .ensures)
+returns-3 c =
+    pick-f _ _ _ _ (via _ _ _ (c .before .before .places-fit .ensures) (c .before .if1 .left))
+    (c .refused-with .ensures)
 
 pub settle-spec : {M : Type 1} → statement M
 settle-spec =

@@ -1,4 +1,5 @@
--- `desk::settle_notice` meets its contract: a reference without a place settles nothing; else number, lamp and places are set.
+-- `desk::settle_notice` meets its contract: a reference without a place settles nothing; else number, lamp and places
+-- are set.
 -- Assumes nothing.
 use mathlib.Core.Path.{_≡_, ap, _∙_}
 use Prim.Native.Nat.{ℕ}
@@ -15,7 +16,9 @@ use borrow.Author.Needs.{needs}
 use Rattle.desk.proofs.settle_notice.Statement.{statement}
 use Rattle.desk.proofs.settle_notice.Tie as tie
 
-set-all : (w x : Waiting) (l k : Lamp) (p q : List ℕ) → w ≡ x → l ≡ k → p ≡ q → _≡_ {A = Outcome} (record { desk = record { waiting = w; lamp = l; places = p }; answer = Done }) (record { desk = record { waiting = x; lamp = k; places = q }; answer = Done })
+set-all : (w x : Waiting) (l k : Lamp) (p q : List ℕ) → w ≡ x → l ≡ k → p ≡ q →
+    _≡_ {A = Outcome} (record { desk = record { waiting = w; lamp = l; places = p }; answer = Done })
+    (record { desk = record { waiting = x; lamp = k; places = q }; answer = Done })
 set-all w x l k p q e f g = λ i. record { desk = record { waiting = e i; lamp = f i; places = g i }; answer = Done }
 
 change-of-requires : tie.Need-change-of-requires

@@ -1,4 +1,5 @@
--- `desk::waiting_after` meets its contract: the octet at the start of the contents of 13H that count, or the number as it was.
+-- `desk::waiting_after` meets its contract: the octet at the start of the contents of 13H that count, or the number
+-- as it was.
 -- Assumes nothing.
 use mathlib.Core.Path.{refl, sym, _∙_, ap}
 use Rattle.desk.specs.declared.Waiting.the-variants.{Number}

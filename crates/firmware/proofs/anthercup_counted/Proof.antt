@@ -19,7 +19,8 @@ enum-told c = search needs
 counted-in-requires : tie.Need-counted-in-requires
 counted-in-requires c κs =
     let o = c .before .before .before .before .args .octets .now in
-    accepted-small o (octets-at o (λ i. omega (arith, c .before .before .before .shared-slice-known .given i))) _ (sym (c .before .before .judge .ensures) ∙ c .enum-told .given .1)
+    accepted-small o (octets-at o (λ i. omega (arith, c .before .before .before .shared-slice-known .given i))) _
+    (sym (c .before .before .judge .ensures) ∙ c .enum-told .given .1)
 
 enum-known-verdict : tie.Need-enum-known-verdict
 enum-known-verdict c = search needs

@@ -1,4 +1,5 @@
--- `firmware::anthercup_listen` meets its contract: a record that stands for a listener is heard and written anew; any other is 17.
+-- `firmware::anthercup_listen` meets its contract: a record that stands for a listener is heard and written anew; any
+-- other is 17.
 -- Assumes nothing.
 use mathlib.Core.Path.{sym, _∙_}
 use Rattle.firmware.proofs.Coding.{known-size}
@@ -41,7 +42,9 @@ same-length-2 : tie.Need-same-length-2
 same-length-2 c = search needs
 
 returns-2 : tie.Need-returns-2
-returns-2 c = unknown-answers _ _ _ (c .before .before .before .decode .ensures) _ (c .before .enum-told .given .1) (c .packed .ensures)
+returns-2 c =
+    unknown-answers _ _ _ (c .before .before .before .decode .ensures) _ (c .before .enum-told .given .1)
+    (c .packed .ensures)
 
 pub anthercup-listen-spec : {M : Type 1} → statement M
 anthercup-listen-spec =

@@ -35,7 +35,9 @@ returns c =
 
 returns-2 : tie.Need-returns-2
 unfolding newDeskAnswer newDeskRecord
-returns-2 c = let n = no-eq _ _ (c .before .if1 .left) in (pick-f _ _ _ _ n (c .packed2 .ensures), pick-f _ _ _ _ n refl)
+returns-2 c =
+    let n = no-eq _ _ (c .before .if1 .left) in
+    (pick-f _ _ _ _ n (c .packed2 .ensures), pick-f _ _ _ _ n refl)
 
 pub anthercup-new-desk-spec : {M : Type 1} → statement M
 anthercup-new-desk-spec =

@@ -34,7 +34,9 @@ returns c =
 
 returns-2 : tie.Need-returns-2
 unfolding readAnswer readRecord readTexts
-returns-2 c = let n = no-eq _ _ (c .before .if1 .left) in (pick-f _ _ _ _ n (c .packed .ensures), (pick-f _ _ _ _ n refl, pick-f _ _ _ _ n refl))
+returns-2 c =
+    let n = no-eq _ _ (c .before .if1 .left) in
+    (pick-f _ _ _ _ n (c .packed .ensures), (pick-f _ _ _ _ n refl, pick-f _ _ _ _ n refl))
 
 pub anthercup-read-spec : {M : Type 1} → statement M
 anthercup-read-spec =

@@ -13,7 +13,8 @@ is-record-requires : tie.Need-is-record-requires
 is-record-requires c κs = search needs
 
 decode-requires : tie.Need-decode-requires
-decode-requires c κs = record-size _ (T-of _ (via _ _ _ (c .before .before .is-record .ensures) (c .before .if1 .taken)))
+decode-requires c κs =
+    record-size _ (T-of _ (via _ _ _ (c .before .before .is-record .ensures) (c .before .if1 .taken)))
 
 settle-requires : tie.Need-settle-requires
 settle-requires c κs = search needs
@@ -44,7 +45,8 @@ same-length-2 : tie.Need-same-length-2
 same-length-2 c = search needs
 
 returns-2 : tie.Need-returns-2
-returns-2 c = settles-unknown _ _ _ (c .before .before .is-record .ensures) (c .before .if1 .left) _ (c .packed .ensures)
+returns-2 c =
+    settles-unknown _ _ _ (c .before .before .is-record .ensures) (c .before .if1 .left) _ (c .packed .ensures)
 
 pub anthercup-settle-spec : {M : Type 1} → statement M
 anthercup-settle-spec =

@@ -30,11 +30,15 @@ packed-requires-2 c κs = search needs
 
 returns : tie.Need-returns
 unfolding partWord
-returns c = c .packed .ensures ∙ ap partWord (sym (c .before .before .part .given .1) ∙ c .before .before .before .before .counted .ensures)
+returns c =
+    c .packed .ensures ∙ ap partWord (sym (c .before .before .part .given .1)
+    ∙ c .before .before .before .before .counted .ensures)
 
 returns-2 : tie.Need-returns-2
 unfolding partWord
-returns-2 c = c .packed2 .ensures ∙ ap partWord (sym (c .before .enum-told .given .1) ∙ c .before .before .before .counted .ensures)
+returns-2 c =
+    c .packed2 .ensures ∙ ap partWord (sym (c .before .enum-told .given .1)
+    ∙ c .before .before .before .counted .ensures)
 
 pub counted-in-spec : {M : Type 1} → statement M
 counted-in-spec =

@@ -15,7 +15,9 @@ state-of-requires c κs = search needs
 
 returns : tie.Need-returns
 unfolding decodeOf
-returns c = pick-t _ _ _ _ (yes-eq _ _ (c .before .before .if1 .taken)) (c .state-of .ensures ∙ ap stateOf (c .before .fields-of .ensures))
+returns c =
+    pick-t _ _ _ _ (yes-eq _ _ (c .before .before .if1 .taken))
+    (c .state-of .ensures ∙ ap stateOf (c .before .fields-of .ensures))
 
 returns-2 : tie.Need-returns-2
 unfolding decodeOf

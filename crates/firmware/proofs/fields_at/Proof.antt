@@ -55,11 +55,14 @@ returns-3 c = rw (c .before .before .stage .given .1) (c .fields-waiting3 .ensur
 
 returns-4 : tie.Need-returns-4
 unfolding fieldsAt
-returns-4 c = rw (c .before .before .before .stage2 .given .1) (rw (c .before .code-of .ensures) at (c .fields-waiting4 .ensures))
+returns-4 c =
+    rw (c .before .before .before .stage2 .given .1) (rw (c .before .code-of .ensures) at (c .fields-waiting4 .ensures))
 
 returns-5 : tie.Need-returns-5
 unfolding fieldsAt
-returns-5 c = rw (c .before .before .before .stage3 .given .1) (rw (c .before .code-of2 .ensures) at (c .fields-waiting5 .ensures))
+returns-5 c =
+    rw (c .before .before .before .stage3 .given .1)
+    (rw (c .before .code-of2 .ensures) at (c .fields-waiting5 .ensures))
 
 pub fields-at-spec : {M : Type 1} → statement M
 fields-at-spec =

@@ -12,7 +12,10 @@ listen-requires : tie.Need-listen-requires
 listen-requires c κs = search needs
 
 word-of-requires : tie.Need-word-of-requires
-word-of-requires c κs = rw (c .before .listen .ensures) (taken-small _ _ (octets-at (c .before .before .before .args .octets .now) (λ i. omega (arith, c .before .before .shared-slice-known .given i))))
+word-of-requires c κs =
+    rw (c .before .listen .ensures) (taken-small _ _
+    (octets-at (c .before .before .before .args .octets .now)
+    (λ i. omega (arith, c .before .before .shared-slice-known .given i))))
 
 returns : tie.Need-returns
 returns c = outcome _ _ _ _ (c .before .before .listen .ensures) (c .word-of .ensures)

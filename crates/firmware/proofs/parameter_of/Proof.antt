@@ -32,11 +32,17 @@ known-requires-2 c κs = search needs
 
 returns-2 : tie.Need-returns-2
 unfolding parameterState
-returns-2 c = pick-t _ _ _ _ (yes-le _ _ (c .before .before .before .if1 .left)) (pick-t _ _ _ _ (yes-eq _ _ (c .before .if2 .taken)) (known-eq _ _ _ _ (rw (c .before .before .class-coded .ensures) at (c .known .ensures))))
+returns-2 c =
+    pick-t _ _ _ _ (yes-le _ _ (c .before .before .before .if1 .left))
+    (pick-t _ _ _ _ (yes-eq _ _ (c .before .if2 .taken))
+    (known-eq _ _ _ _ (rw (c .before .before .class-coded .ensures) at (c .known .ensures))))
 
 returns-3 : tie.Need-returns-3
 unfolding parameterState
-returns-3 c = pick-t _ _ _ _ (yes-le _ _ (c .before .before .before .if1 .left)) (pick-f _ _ _ _ (no-eq _ _ (c .before .if2 .left)) (known-eq _ _ _ _ (rw (c .before .before .class-coded .ensures) at (c .known2 .ensures))))
+returns-3 c =
+    pick-t _ _ _ _ (yes-le _ _ (c .before .before .before .if1 .left))
+    (pick-f _ _ _ _ (no-eq _ _ (c .before .if2 .left))
+    (known-eq _ _ _ _ (rw (c .before .before .class-coded .ensures) at (c .known2 .ensures))))
 
 pub parameter-of-spec : {M : Type 1} → statement M
 parameter-of-spec =

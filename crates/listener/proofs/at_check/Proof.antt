@@ -16,10 +16,13 @@ declined-requires : tie.Need-declined-requires
 declined-requires c κs = search needs
 
 returns : tie.Need-returns
-returns c = seals _ _ _ _ (c .before .before .wrapping-sub-u8 .ensures) (omega arith) (omega arith) (c .before .if1 .taken)
+returns c =
+    seals _ _ _ _ (c .before .before .wrapping-sub-u8 .ensures) (omega arith) (omega arith) (c .before .if1 .taken)
 
 returns-2 : tie.Need-returns-2
-returns-2 c = spoils _ _ _ _ (c .before .before .wrapping-sub-u8 .ensures) (omega arith) (omega arith) _ (c .before .if1 .left) (c .declined .ensures)
+returns-2 c =
+    spoils _ _ _ _ (c .before .before .wrapping-sub-u8 .ensures) (omega arith) (omega arith) _
+    (c .before .if1 .left) (c .declined .ensures)
 
 pub at-check-spec : {M : Type 1} → statement M
 at-check-spec =

@@ -1,4 +1,5 @@
--- `listener::at_header` meets its contract: the checksum where no room is left; else the type is taken or declined as the machine does.
+-- `listener::at_header` meets its contract: the checksum where no room is left; else the type is taken or declined as
+-- the machine does.
 -- Assumes nothing.
 use mathlib.Core.Path.{sym, _∙_}
 use Rattle.rules.specs.Judge.{final}
@@ -30,7 +31,10 @@ unfolding final
 returns c = rw (c .before .if1 .taken) (c .at-check .ensures)
 
 returns-2 : tie.Need-returns-2
-returns-2 c = type-taken _ _ _ _ _ (c .before .before .before .before .if1 .left) (c .before .before .before .class-of .ensures) _ (sym (c .before .before .possible .ensures) ∙ c .before .if2 .taken) (c .moved .ensures)
+returns-2 c =
+    type-taken _ _ _ _ _ (c .before .before .before .before .if1 .left)
+    (c .before .before .before .class-of .ensures) _
+    (sym (c .before .before .possible .ensures) ∙ c .before .if2 .taken) (c .moved .ensures)
 
 returns-3 : tie.Need-returns-3
 returns-3 c =

@@ -18,11 +18,15 @@ declined-requires c κs = search needs
 
 returns : tie.Need-returns
 unfolding final fits after fault
-returns c = takes _ _ _ _ _ _ refl (sym (c .before .before .message-kind .ensures) ∙ c .before .if1 .taken) refl (c .moved .ensures)
+returns c =
+    takes _ _ _ _ _ _ refl (sym (c .before .before .message-kind .ensures) ∙ c .before .if1 .taken) refl
+    (c .moved .ensures)
 
 returns-2 : tie.Need-returns-2
 unfolding final fits after fault
-returns-2 c = declines _ _ _ _ _ refl (sym (c .before .before .message-kind .ensures) ∙ c .before .if1 .left) (c .declined .ensures)
+returns-2 c =
+    declines _ _ _ _ _ refl (sym (c .before .before .message-kind .ensures) ∙ c .before .if1 .left)
+    (c .declined .ensures)
 
 pub at-kind-spec : {M : Type 1} → statement M
 at-kind-spec =

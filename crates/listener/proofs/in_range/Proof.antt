@@ -38,11 +38,15 @@ returns-2 c = rw (c .before .before .s2 .given .1) (c .between .ensures)
 
 returns-3 : tie.Need-returns-3
 unfolding inRange
-returns-3 c = rw (c .before .before .before .before .s3 .given .1) (and-t _ _ _ (sym (c .before .before .known-number .ensures) ∙ c .before .if1 .taken) (is-le _ _))
+returns-3 c =
+    rw (c .before .before .before .before .s3 .given .1)
+    (and-t _ _ _ (sym (c .before .before .known-number .ensures) ∙ c .before .if1 .taken) (is-le _ _))
 
 returns-4 : tie.Need-returns-4
 unfolding inRange
-returns-4 c = rw (c .before .before .before .s3 .given .1) (and-f _ _ _ (sym (c .before .known-number .ensures) ∙ c .if1 .left) refl)
+returns-4 c =
+    rw (c .before .before .before .s3 .given .1)
+    (and-f _ _ _ (sym (c .before .known-number .ensures) ∙ c .if1 .left) refl)
 
 pub in-range-spec : {M : Type 1} → statement M
 in-range-spec =

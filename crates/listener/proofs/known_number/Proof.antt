@@ -19,11 +19,15 @@ returns c = or-t _ _ _ (sym (c .before .between .ensures) ∙ c .if1 .taken) ref
 
 returns-2 : tie.Need-returns-2
 unfolding given
-returns-2 c = or-f _ _ _ (sym (c .before .before .before .between .ensures) ∙ c .before .before .if1 .left) (and-t _ _ _ (yes-eq _ _ (c .before .if2 .taken)) (c .is-strict .ensures))
+returns-2 c =
+    or-f _ _ _ (sym (c .before .before .before .between .ensures) ∙ c .before .before .if1 .left)
+    (and-t _ _ _ (yes-eq _ _ (c .before .if2 .taken)) (c .is-strict .ensures))
 
 returns-3 : tie.Need-returns-3
 unfolding given
-returns-3 c = or-f _ _ _ (sym (c .before .before .between .ensures) ∙ c .before .if1 .left) (and-f _ _ _ (no-eq _ _ (c .if2 .left)) refl)
+returns-3 c =
+    or-f _ _ _ (sym (c .before .before .between .ensures) ∙ c .before .if1 .left)
+    (and-f _ _ _ (no-eq _ _ (c .if2 .left)) refl)
 
 pub known-number-spec : {M : Type 1} → statement M
 known-number-spec = tie.close (tie.spec between-requires is-strict-requires returns returns-2 returns-3)

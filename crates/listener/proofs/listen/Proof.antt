@@ -19,12 +19,17 @@ use Rattle.listener.proofs.listen.Statement.{statement}
 use Rattle.listener.proofs.listen.Tie as tie
 
 -- the state, the answer and the octets taken of a run
-together : (b : Book) (M : Machine) (w : State) (h : List ℕ) (r : Ran) (a : Answer) → r ≡ runOf M w h → a ≡ answerOf (r .state) → _≡_ {A = Heard} (record { listener = record { book = b; state = r .state }; answer = a; taken = r .taken }) (record { listener = record { book = b; state = run M w h }; answer = answerOf (run M w h); taken = taken M w h })
+together : (b : Book) (M : Machine) (w : State) (h : List ℕ) (r : Ran) (a : Answer) → r ≡ runOf M w h →
+    a ≡ answerOf (r .state) →
+    _≡_ {A = Heard} (record { listener = record { book = b; state = r .state }; answer = a; taken = r .taken })
+    (record { listener = record { book = b; state = run M w h }; answer = answerOf (run M w h); taken = taken M w h })
 unfolding runOf
 together b M w h r a e d = rw (d, e)
 
 -- a refusal, and nothing taken
-refusing : (l : Listener) (f g : Fault) → f ≡ g → _≡_ {A = Heard} (record { listener = l; answer = Refused f; taken = 0 }) (record { listener = l; answer = Refused g; taken = 0 })
+refusing : (l : Listener) (f g : Fault) → f ≡ g →
+    _≡_ {A = Heard} (record { listener = l; answer = Refused f; taken = 0 })
+    (record { listener = l; answer = Refused g; taken = 0 })
 refusing l f g e = rw e
 
 in-range-requires : tie.Need-in-range-requires
@@ -41,11 +46,15 @@ noted-requires c κs = search needs
 
 returns : tie.Need-returns
 unfolding heardIn
-returns c = pick-t _ _ _ _ (sym (c .before .before .before .in-range .ensures) ∙ c .before .before .if1 .taken) (together _ _ _ _ _ _ (c .before .run .ensures) (c .answer-of .ensures))
+returns c =
+    pick-t _ _ _ _ (sym (c .before .before .before .in-range .ensures) ∙ c .before .before .if1 .taken)
+    (together _ _ _ _ _ _ (c .before .run .ensures) (c .answer-of .ensures))
 
 returns-2 : tie.Need-returns-2
 unfolding heardIn
-returns-2 c = pick-f _ _ _ _ (sym (c .before .before .in-range .ensures) ∙ c .before .if1 .left) (refusing _ _ _ (c .noted .ensures))
+returns-2 c =
+    pick-f _ _ _ _ (sym (c .before .before .in-range .ensures) ∙ c .before .if1 .left)
+    (refusing _ _ _ (c .noted .ensures))
 
 pub listen-spec : {M : Type 1} → statement M
 listen-spec =

@@ -1,5 +1,5 @@
--- `listener::run` meets its contract. The loop's invariant: the state is in range, and the run from here on gives what the whole run gives. The measure is what
--- is left of the run.
+-- `listener::run` meets its contract. The loop's invariant: the state is in range, and the run from here on gives
+-- what the whole run gives. The measure is what is left of the run.
 -- Assumes nothing.
 use mathlib.Core.Path.{_≡_, refl, sym, _∙_, ap, subst}
 use Prim.Native.Nat.{_≤_, _-_}
@@ -16,7 +16,9 @@ use Rattle.listener.proofs.run.Statement.{statement}
 use Rattle.listener.proofs.run.Tie as tie
 
 abbrev Inv-loop : tie.InvT-loop
-Inv-loop book octets cur₀ i₀ cur i = (i ≤ length octets) × T (inRange (rulesOf book) cur) × (runFrom i (machine (rulesOf book)) cur (drop i octets) ≡ runOf (machine (rulesOf book)) cur₀ octets)
+Inv-loop book octets cur₀ i₀ cur i =
+    (i ≤ length octets) × T (inRange (rulesOf book) cur)
+    × (runFrom i (machine (rulesOf book)) cur (drop i octets) ≡ runOf (machine (rulesOf book)) cur₀ octets)
 
 abbrev μ-loop : tie.MeasureT-loop
 μ-loop book octets cur₀ i₀ cur i = length octets - i

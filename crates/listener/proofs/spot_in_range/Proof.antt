@@ -82,7 +82,9 @@ returns-3 c = rw (c .before .before .stage .given .1) (c .between .ensures)
 
 returns-4 : tie.Need-returns-4
 unfolding inRange
-returns-4 c = rw (c .before .before .before .stage2 .given .1) (and-t _ _ _ (yes-le _ _ (c .before .if1 .taken)) (c .between2 .ensures))
+returns-4 c =
+    rw (c .before .before .before .stage2 .given .1)
+    (and-t _ _ _ (yes-le _ _ (c .before .if1 .taken)) (c .between2 .ensures))
 
 returns-5 : tie.Need-returns-5
 unfolding inRange
@@ -90,7 +92,9 @@ returns-5 c = rw (c .before .before .stage2 .given .1) (and-f _ _ _ (no-le _ _ (
 
 returns-6 : tie.Need-returns-6
 unfolding inRange
-returns-6 c = rw (c .before .before .before .stage3 .given .1) (and-t _ _ _ (yes-le _ _ (c .before .if2 .taken)) (c .between3 .ensures))
+returns-6 c =
+    rw (c .before .before .before .stage3 .given .1)
+    (and-t _ _ _ (yes-le _ _ (c .before .if2 .taken)) (c .between3 .ensures))
 
 returns-7 : tie.Need-returns-7
 unfolding inRange

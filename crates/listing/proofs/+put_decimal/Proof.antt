@@ -49,7 +49,9 @@ put-decimal-put-octet-requires : (t : ℕ) → put-decimal-lts.Need-put-octet-re
   put-decimal-below t,
   put-decimal.Post,
 ) (put-decimal-at t) put-decimal.Post
-put-decimal-put-octet-requires t c κs = room-same _ _ _ _ (sym (decimal-small (c .before .before .before .args .n) (c .before .if1 .taken))) (c .before .before .before .pre .1)
+put-decimal-put-octet-requires t c κs =
+    room-same _ _ _ _ (sym (decimal-small (c .before .before .before .args .n) (c .before .if1 .taken)))
+    (c .before .before .before .pre .1)
 
 put-decimal-put-decimal-requires : (t : ℕ) → put-decimal-lts.Need-put-decimal-requires (
   put-octet-reads.Asked,
@@ -58,7 +60,14 @@ put-decimal-put-decimal-requires : (t : ℕ) → put-decimal-lts.Need-put-decima
   put-decimal.Post,
 ) (put-decimal-at t) put-decimal.Post
 unfolding Room
-put-decimal-put-decimal-requires t c κs = (omega arith, omega (arith, decimal-long (c .before .before .before .args .n) (c .before .if1 .left), c .before .before .before .pre .1))
+put-decimal-put-decimal-requires t c κs = (
+  omega arith,
+  omega (
+    arith,
+    decimal-long (c .before .before .before .args .n) (c .before .if1 .left),
+    c .before .before .before .pre .1,
+  ),
+)
 
 put-decimal-cast-put-octet-2 : (t : ℕ) → put-decimal-lts.Need-cast-put-octet-2 (
   put-octet-reads.Asked,

@@ -1,4 +1,5 @@
--- `listing::carried` meets its contract. The loop's invariant: what was counted and the carried parameters that are left make all of them. The measure is the turns left.
+-- `listing::carried` meets its contract. The loop's invariant: what was counted and the carried parameters that are
+-- left make all of them. The measure is the turns left.
 -- Assumes nothing.
 use mathlib.Core.Path.{sym, _∙_}
 use native.Mathlib.Omega.{arith}
@@ -43,7 +44,12 @@ cast-at : tie.Need-cast-at Inv-loop μ-loop
 cast-at c = search needs
 
 add-at : tie.Need-add-at Inv-loop μ-loop
-add-at c = omega (arith, found-inside _ _ _ _ _ _ (c .before .before .before .before .parameter .ensures) (c .before .before .found .given .1))
+add-at c =
+    omega (
+      arith,
+      found-inside _ _ _ _ _ _ (c .before .before .before .before .parameter .ensures)
+          (c .before .before .found .given .1),
+    )
 
 sub-turns : tie.Need-sub-turns Inv-loop μ-loop
 sub-turns c = search needs
@@ -70,7 +76,8 @@ returns c =
     (sym (c .enum-told .given .1) ∙ c .before .before .parameter .ensures)
 
 returns-2 : tie.Need-returns-2 Inv-loop μ-loop
-returns-2 c = counted-end (c .before .before .before .args .octets .now) _ _ _ (c .before .loop .inv) (c .loop-test .left)
+returns-2 c =
+    counted-end (c .before .before .before .args .octets .now) _ _ _ (c .before .loop .inv) (c .loop-test .left)
 
 pub carried-spec : {M : Type 1} → statement M
 carried-spec =

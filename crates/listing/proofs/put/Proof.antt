@@ -32,7 +32,8 @@ same-length c = search needs
 returns : tie.Need-returns
 returns c =
     let start = c .before .before .before .before .before .before in
-    copied (start .args .text .now) (start .args .out .now) _ (start .args .at) (start .pre) (c .before .before .copy .ensures .1)
+    copied (start .args .text .now) (start .args .out .now) _ (start .args .at) (start .pre)
+    (c .before .before .copy .ensures .1)
 
 pub put-spec : {M : Type 1} → statement M
 put-spec =

@@ -15,7 +15,9 @@ octet-requires c κs = search needs
 
 put-state-requires : tie.Need-put-state-requires
 unfolding ascii
-put-state-requires c κs = room-same _ _ _ _ (ap stateWord (c .before .octet .ensures)) (room-first _ _ _ _ _ (c .before .before .before .before .pre))
+put-state-requires c κs =
+    room-same _ _ _ _ (ap stateWord (c .before .octet .ensures))
+    (room-first _ _ _ _ _ (c .before .before .before .before .pre))
 
 put-octet-requires : tie.Need-put-octet-requires
 unfolding ascii

@@ -31,7 +31,9 @@ slice-aggregate-put-part c = search needs
 
 put-part-requires : tie.Need-put-part-requires
 unfolding starts keys ascii
-put-part-requires c κs = let k = key-at (c .before .before .before .args .i) (c .before .before .before .pre .0) in (k .order, k .ends, room-same _ _ _ _ (k .key) (c .before .before .before .pre .1))
+put-part-requires c κs =
+    let k = key-at (c .before .before .before .args .i) (c .before .before .before .pre .0) in
+    (k .order, k .ends, room-same _ _ _ _ (k .key) (c .before .before .before .pre .1))
 
 same-length : tie.Need-same-length
 same-length c = search needs

@@ -1,4 +1,5 @@
--- `listing::put_message` meets its contract: the kind, the rows and the number of carried parameters, one behind the other.
+-- `listing::put_message` meets its contract: the kind, the rows and the number of carried parameters, one behind the
+-- other.
 -- Assumes nothing.
 use mathlib.Core.Path.{refl, ap}
 use Rattle.rules.specs.Table.{ascii}

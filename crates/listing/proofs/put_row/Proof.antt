@@ -77,7 +77,8 @@ returns-2 : tie.Need-returns-2
 unfolding kinds
 returns-2 c =
     let start = c .before .before .before .before .before in
-    put-same _ _ _ _ _ _ (row-none (start .args .octets .now) (start .args .i) (start .pre .0) _ (c .before .before .counted .ensures) (c .enum-told .given .1)) (put-none _ _)
+    put-same _ _ _ _ _ _ (row-none (start .args .octets .now) (start .args .i) (start .pre .0) _
+    (c .before .before .counted .ensures) (c .enum-told .given .1)) (put-none _ _)
 
 pub put-row-spec : {M : Type 1} → statement M
 put-row-spec =

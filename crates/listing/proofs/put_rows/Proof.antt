@@ -1,4 +1,5 @@
--- `listing::put_rows` meets its contract. The loop's invariant: the lines of the rows so far stand one behind the other. The measure is the rows left.
+-- `listing::put_rows` meets its contract. The loop's invariant: the lines of the rows so far stand one behind the
+-- other. The measure is the rows left.
 -- Assumes nothing.
 use Prim.Native.Nat.{_-_, _≤_}
 use native.Mathlib.Omega.{arith}
@@ -13,7 +14,9 @@ use Rattle.listing.proofs.put_rows.Statement.{statement}
 use Rattle.listing.proofs.put_rows.Tie as tie
 
 abbrev Inv-loop : tie.InvT-loop
-Inv-loop octets out₀ at end₀ i₀ out end i = (i ≤ rowCount) × Put (written (rowsAt (rulesOf PresentLenient) octets (take i ((rulesOf PresentLenient) .rows)))) at out₀ end out
+Inv-loop octets out₀ at end₀ i₀ out end i =
+    (i ≤ rowCount)
+    × Put (written (rowsAt (rulesOf PresentLenient) octets (take i ((rulesOf PresentLenient) .rows)))) at out₀ end out
 
 abbrev μ-loop : tie.MeasureT-loop
 μ-loop octets out₀ at end₀ i₀ out end i = rowCount - i
@@ -48,7 +51,9 @@ same-length : tie.Need-same-length Inv-loop μ-loop
 same-length c = c .before .loop .inv .1 .long
 
 returns : tie.Need-returns Inv-loop μ-loop
-returns c = all-rows (c .before .before .before .before .args .octets .now) _ _ _ _ _ (c .before .loop .inv .0) (c .loop-test .left) (c .before .loop .inv .1)
+returns c =
+    all-rows (c .before .before .before .before .args .octets .now) _ _ _ _ _ (c .before .loop .inv .0)
+    (c .loop-test .left) (c .before .loop .inv .1)
 
 pub put-rows-spec : {M : Type 1} → statement M
 put-rows-spec =

@@ -17,7 +17,9 @@ put-requires c κs =
     room-same _ _ _ _ (is-unset (start .args .x) (c .before .before .if1 .taken)) (start .pre)
 
 put-lamp-requires : tie.Need-put-lamp-requires
-put-lamp-requires c κs = room-same _ _ _ _ (is-set (c .before .before .before .args .x) (c .before .if1 .left)) (c .before .before .before .pre)
+put-lamp-requires c κs =
+    room-same _ _ _ _ (is-set (c .before .before .before .args .x) (c .before .if1 .left))
+    (c .before .before .before .pre)
 
 same-length : tie.Need-same-length
 same-length c = search needs

@@ -312,7 +312,10 @@ returns-10 c =
 
 returns-11 : tie.Need-returns-11
 unfolding printed styleOf
-returns-11 c = put-same _ _ _ _ _ _ (ap (λ (k : Class). printed (styleOf k) (c .before .before .before .before .args .contents .now)) (sym (c .enum-told11 .given .1))) (put-none _ _)
+returns-11 c =
+    put-same _ _ _ _ _ _
+    (ap (λ (k : Class). printed (styleOf k) (c .before .before .before .before .args .contents .now))
+    (sym (c .enum-told11 .given .1))) (put-none _ _)
 
 same-length-11 : tie.Need-same-length-11
 same-length-11 c = search needs
@@ -364,7 +367,10 @@ returns-15 c =
 
 returns-16 : tie.Need-returns-16
 unfolding printed styleOf
-returns-16 c = put-same _ _ _ _ _ _ (ap (λ (k : Class). printed (styleOf k) (c .before .before .before .before .args .contents .now)) (sym (c .enum-told16 .given .1))) (put-none _ _)
+returns-16 c =
+    put-same _ _ _ _ _ _
+    (ap (λ (k : Class). printed (styleOf k) (c .before .before .before .before .args .contents .now))
+    (sym (c .enum-told16 .given .1))) (put-none _ _)
 
 pub put-value-spec : {M : Type 1} → statement M
 put-value-spec =

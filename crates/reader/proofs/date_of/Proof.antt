@@ -21,7 +21,9 @@ pair-at-requires-4 c κs = search needs
 
 returns : tie.Need-returns
 unfolding valueAt meant
-returns c = λ i. Date (c .before .before .before .pair-at .ensures i) (c .before .before .pair-at2 .ensures i) (c .before .pair-at3 .ensures i) (c .pair-at4 .ensures i)
+returns c =
+    λ i. Date (c .before .before .before .pair-at .ensures i) (c .before .before .pair-at2 .ensures i)
+    (c .before .pair-at3 .ensures i) (c .pair-at4 .ensures i)
 
 pub date-of-spec : {M : Type 1} → statement M
 date-of-spec =

@@ -12,7 +12,8 @@ use Rattle.reader.proofs.draft_of.Statement.{statement}
 use Rattle.reader.proofs.draft_of.Tie as tie
 
 abbrev Inv-loop : tie.InvT-loop
-Inv-loop book octets entries₀ kind at₀ used₀ count₀ entries at used count = TakenEntries (rulesOf book) octets count at used entries
+Inv-loop book octets entries₀ kind at₀ used₀ count₀ entries at used count =
+    TakenEntries (rulesOf book) octets count at used entries
 
 abbrev μ-loop : tie.MeasureT-loop
 μ-loop book octets entries₀ kind at₀ used₀ count₀ entries at used count = most - count

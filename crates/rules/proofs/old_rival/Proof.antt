@@ -17,7 +17,9 @@ returns-2 c = paired-old _ (c .before .before .args .t) (omega arith) (search te
 
 returns-3 : tie.Need-returns-3
 unfolding old-rivals
-returns-3 c = paired-old _ (c .before .before .args .t) (omega arith) (pick-f _ _ _ _ (no-eq _ _ (c .before .if1 .left)) (pick-f _ _ _ _ (no-eq _ _ (c .if2 .left)) refl))
+returns-3 c =
+    paired-old _ (c .before .before .args .t) (omega arith)
+    (pick-f _ _ _ _ (no-eq _ _ (c .before .if1 .left)) (pick-f _ _ _ _ (no-eq _ _ (c .if2 .left)) refl))
 
 pub old-rival-spec : {M : Type 1} → statement M
 old-rival-spec = tie.close (tie.spec returns returns-2 returns-3)

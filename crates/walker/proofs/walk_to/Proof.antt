@@ -1,4 +1,5 @@
--- `walker::walk_to` meets its contract. The loop's invariant: the walk from here on, with the turns left, gives what the whole walk gives. The measure is the turns left.
+-- `walker::walk_to` meets its contract. The loop's invariant: the walk from here on, with the turns left, gives what
+-- the whole walk gives. The measure is the turns left.
 -- Assumes nothing.
 use mathlib.Core.Path.{_≡_, refl, sym, _∙_}
 use native.Mathlib.Omega.{arith}
@@ -29,7 +30,8 @@ cast-next : tie.Need-cast-next Inv-loop μ-loop
 cast-next c = search needs
 
 add-next : tie.Need-add-next Inv-loop μ-loop
-add-next c = omega (arith, found-inside _ _ _ _ _ _ (c .before .before .before .parameter .ensures) (c .before .found .given .1))
+add-next c =
+    omega (arith, found-inside _ _ _ _ _ _ (c .before .before .before .parameter .ensures) (c .before .found .given .1))
 
 returns : tie.Need-returns Inv-loop μ-loop
 returns c =
@@ -56,7 +58,10 @@ enum-told : tie.Need-enum-told Inv-loop μ-loop
 enum-told c = search needs
 
 returns-2 : tie.Need-returns-2 Inv-loop μ-loop
-returns-2 c = sym (none-here _ _ _ _ (c .before .before .before .loop-test .taken) (sym (c .before .before .parameter .ensures) ∙ c .enum-told .given .1)) ∙ c .before .before .before .before .loop .inv
+returns-2 c =
+    sym (none-here _ _ _ _ (c .before .before .before .loop-test .taken)
+    (sym (c .before .before .parameter .ensures) ∙ c .enum-told .given .1))
+    ∙ c .before .before .before .before .loop .inv
 
 returns-3 : tie.Need-returns-3 Inv-loop μ-loop
 returns-3 c = sym (no-turns _ _ _ _ (c .loop-test .left)) ∙ c .before .loop .inv

@@ -26,7 +26,12 @@ places-in-requires c κs = search needs
 
 returns : tie.Need-returns
 unfolding deskIn
-returns c = λ i. record { waiting = c .before .before .before .waiting-of .ensures i; lamp = c .before .lamp-of .ensures i; places = c .places-in .ensures i }
+returns c =
+    λ i. record {
+      waiting = c .before .before .before .waiting-of .ensures i;
+      lamp = c .before .lamp-of .ensures i;
+      places = c .places-in .ensures i;
+    }
 
 pub decode-spec : {M : Type 1} → statement M
 decode-spec =

@@ -1,4 +1,5 @@
--- `firmware::lay_places` meets its contract. The loop's invariant: the places before i are laid behind the first four octets. The measure is the places left.
+-- `firmware::lay_places` meets its contract. The loop's invariant: the places before i are laid behind the first four
+-- octets. The measure is the places left.
 -- Assumes nothing.
 use mathlib.Core.Path.{_≡_, refl}
 use Prim.Native.Nat.{_+_, _*_, _-_}
@@ -42,7 +43,8 @@ part-lay-place-end : tie.Need-part-lay-place-end Inv-loop μ-loop
 part-lay-place-end c = search needs
 
 lay-place-requires : tie.Need-lay-place-requires Inv-loop μ-loop
-lay-place-requires c κs = simp (length-take, length-drop) (omega (arith, c .before .before .loop .inv .long, c .before .loop-test .taken))
+lay-place-requires c κs =
+    simp (length-take, length-drop) (omega (arith, c .before .before .loop .inv .long, c .before .loop-test .taken))
 
 add-i : tie.Need-add-i Inv-loop μ-loop
 add-i c = search needs

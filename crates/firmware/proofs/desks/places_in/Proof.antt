@@ -1,4 +1,5 @@
--- `firmware::places_in` meets its contract. The loop's invariant: the places before i are read. The measure is the places left.
+-- `firmware::places_in` meets its contract. The loop's invariant: the places before i are read. The measure is the
+-- places left.
 -- Assumes nothing.
 use mathlib.Core.Path.{refl}
 use Prim.Native.Nat.{_-_}
@@ -49,7 +50,9 @@ loop-less : tie.Need-loop-less Inv-loop μ-loop
 loop-less c = search needs
 
 loop-again : tie.Need-loop-again Inv-loop μ-loop
-loop-again c = taken-more _ _ _ (c .before .before .before .loop .inv) (c .before .before .loop-test .taken) _ (c .place-in .ensures)
+loop-again c =
+    taken-more _ _ _ (c .before .before .before .loop .inv) (c .before .before .loop-test .taken) _
+    (c .place-in .ensures)
 
 returns : tie.Need-returns Inv-loop μ-loop
 returns c = taken-end _ _ _ (c .before .loop .inv) (c .loop-test .left)

@@ -41,7 +41,9 @@ same-length c = search needs
 returns : tie.Need-returns
 returns c =
     let start = c .before .before .before .before .before .before .before .before .before .before .before in
-    headed (draftOf (rulesOf PresentLenient) (messageIn (start .args .octets .now))) _ _ _ (c .octet .ensures ∙ draft-kind (start .args .octets .now)) (c .before .before .before .lay-entries .ensures .0) (c .before .before .before .lay-entries .ensures .1)
+    headed (draftOf (rulesOf PresentLenient) (messageIn (start .args .octets .now))) _ _ _
+    (c .octet .ensures ∙ draft-kind (start .args .octets .now))
+    (c .before .before .before .lay-entries .ensures .0) (c .before .before .before .lay-entries .ensures .1)
 
 pub lay-draft-spec : {M : Type 1} → statement M
 lay-draft-spec =

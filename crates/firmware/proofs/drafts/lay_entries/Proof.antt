@@ -1,4 +1,5 @@
--- `firmware::lay_entries` meets its contract. The loop's invariant: the record is that of the entries taken so far. The measure is the turns left.
+-- `firmware::lay_entries` meets its contract. The loop's invariant: the record is that of the entries taken so far.
+-- The measure is the turns left.
 -- Assumes nothing.
 use Prim.Native.Nat.{ℕ, _+_, _*_, _-_}
 use mathlib.Core.Path.{sym, _∙_, ap}
@@ -85,10 +86,15 @@ same-length c =
     recorded-long _ _ _ _ _ (turn .loop .inv) ∙ sym (ap length (start .pre) ∙ length-replicate {A = ℕ} 688 0)
 
 returns : tie.Need-returns Inv-loop μ-loop
-returns c = recorded-end _ _ _ _ _ (c .before .before .before .before .loop .inv) (left-ended (rulesOf PresentLenient) _ _ _ _ (c .before .before .before .loop-test .taken) (sym (c .enum-told .given .1) ∙ c .before .before .entry .ensures))
+returns c =
+    recorded-end _ _ _ _ _ (c .before .before .before .before .loop .inv)
+    (left-ended (rulesOf PresentLenient) _ _ _ _ (c .before .before .before .loop-test .taken)
+    (sym (c .enum-told .given .1) ∙ c .before .before .entry .ensures))
 
 same-length-2 : tie.Need-same-length-2 Inv-loop μ-loop
-same-length-2 c = recorded-long _ _ _ _ _ (c .before .loop .inv) ∙ sym (ap length (c .before .before .before .before .pre) ∙ length-replicate {A = ℕ} 688 0)
+same-length-2 c =
+    recorded-long _ _ _ _ _ (c .before .loop .inv)
+    ∙ sym (ap length (c .before .before .before .before .pre) ∙ length-replicate {A = ℕ} 688 0)
 
 returns-2 : tie.Need-returns-2 Inv-loop μ-loop
 returns-2 c = recorded-end _ _ _ _ _ (c .before .loop .inv) (left-full _ _ _ (c .loop-test .left))

@@ -43,7 +43,11 @@ same-length c = simp length-set
 
 returns : tie.Need-returns
 unfolding entryCells
-returns c = stored-front (cellsOf (c .before .before .args .e .kind) (c .numbers-of .result)) (c .before .before .args .cells .now) (c .before .before .pre) ∙ ap (λ (f : Numbers). laid (cellsOf (c .before .before .args .e .kind) f) (c .before .before .args .cells .now)) (c .numbers-of .ensures)
+returns c =
+    stored-front (cellsOf (c .before .before .args .e .kind) (c .numbers-of .result))
+    (c .before .before .args .cells .now) (c .before .before .pre)
+    ∙ ap (λ (f : Numbers). laid (cellsOf (c .before .before .args .e .kind) f)
+    (c .before .before .args .cells .now)) (c .numbers-of .ensures)
 
 pub lay-entry-spec : {M : Type 1} → statement M
 lay-entry-spec =

@@ -1,4 +1,5 @@
--- `firmware::lay_number` meets its contract: the first eight octets are stored, each by the quotient of the one before it.
+-- `firmware::lay_number` meets its contract: the first eight octets are stored, each by the quotient of the one
+-- before it.
 -- Assumes nothing.
 use native.Mathlib.Omega.{arith}
 use lib.ListN.{length-set}
