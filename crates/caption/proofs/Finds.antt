@@ -3,7 +3,7 @@
 -- Assumes nothing.
 use Prim.Native.Nat.{ℕ, _≤_}
 use mathlib.Core.Path.{_≡_, refl, sym, _∙_, ap, subst}
-use mathlib.Core.Logic.{_⊎_, inl, inr, _↔_}
+use mathlib.Core.Logic.{_⊎_, inl, inr, _↔_, Iff·trans, Iff·symm}
 use mathlib.Core.List.{List, []}
 use mathlib.Core.Option.{none, some}
 use native.Mathlib.Omega.{arith}
@@ -17,6 +17,7 @@ use Rattle.rules.specs.Message.{Message, octets, LegalMessage, Accepts}
 use Rattle.rules.specs.Counting.{counted, Counts}
 use Rattle.rules.proofs.Counting.{counted-iff}
 use Rattle.rules.specs.declared.Fault.{Fault}
+use Rattle.rules.specs.Refusals.{noted}
 use Rattle.rules.specs.Language.{languageOf}
 use Rattle.rules.proofs.Grammar.{spoken-of}
 use Rattle.message.specs.declared.Verdict.{Verdict}
@@ -26,13 +27,16 @@ use Rattle.message.specs.declared.Part.the-variants.{At, Nowhere}
 use Rattle.message.specs.Verdict.{verdictOf}
 use Rattle.message.specs.Judges.{Judges, verdictNumber}
 use Rattle.message.proofs.Judges.{judges-of, told-small}
+use Rattle.message.proofs.Told.{told-declined, accepted-iff, some-number, number-of}
 use Rattle.message.specs.Walking.{countedAt, partOf}
 use Rattle.message.proofs.Searching.{counted-part}
 use Rattle.caption.specs.declared.Entry.{Entry}
 use Rattle.caption.specs.declared.Entry.the-variants.{Text, Missing}
 use Rattle.caption.specs.declared.Shown.{Shown}
 use Rattle.caption.specs.declared.Shown.the-variants.{InMessage, InDirectory, Refused}
-use Rattle.caption.specs.Caption.{lookup, byEntry, byCaller, byName, findUnder, findOf, Told, told, sliceOf, partText}
+use Rattle.caption.specs.Told.{told}
+use Rattle.caption.proofs.Told.{told-refused, clear-of}
+use Rattle.caption.specs.Caption.{lookup, byEntry, byCaller, byName, findUnder, findOf, sliceOf, partText}
 use Rattle.caption.proofs.Inside.{part-inside}
 use Rattle.caption.specs.Directory.{textPlace}
 use Rattle.caption.proofs.Directory.{none-found, first-found, text-stands}
@@ -160,14 +164,6 @@ module _ (book : Book) where
     numbers-of (Accepted n) h = inl (by-name-part (countedAt (rulesOf book) o 0x07) .0)
     numbers-of (Declined f) h = inr (h f refl)
 
-  refused-empty : (r : Shown) (f : Fault) → r ≡ Refused f →
-      (told r .side ≡ 0) × (told r .start ≡ 0) × (told r .size ≡ 0)
-  unfolding told
-  refused-empty r f e = (ap (λ (t : Told). t .side) z, ap (λ (t : Told). t .start) z, ap (λ (t : Told). t .size) z)
-    where
-      z : told r ≡ told (Refused f)
-      z = ap told e
-
   module _ (o d : List ℕ) (q : Octets o) where
     abbrev v : Verdict
     v = verdictOf (rulesOf book) o
@@ -178,7 +174,7 @@ module _ (book : Book) where
     accepted : Accepts (rulesOf book) o →
         findOf (rulesOf book) o d ≡ byName (rulesOf book) (countedAt (rulesOf book) o 0x07) o d
     unfolding findOf
-    accepted a = accepted-is o d v (length o) (J .accepted (length o) .1 (refl, a))
+    accepted a = accepted-is o d v (length o) (accepted-iff J (length o) .1 (refl, a))
 
     captions-of : (m : Message) → LegalMessage (rulesOf book) m → octets m ≡ o →
         Captions (rulesOf book) m d (findOf (rulesOf book) o d)
@@ -191,17 +187,19 @@ module _ (book : Book) where
     pub finds : Finds (rulesOf book) o d (findOf (rulesOf book) o d)
     unfolding findOf
     finds = record {
+      clear = clear-of _ (λ f e. some-number J f (refused-of o d v f .0 e));
       done = (
         λ e. let a =
-            accepted-of o d v (λ f k. told-small (spoken-of book) _ (J .numbers f k) .0) e in
-            J .accepted (a .0) .0 (a .1) .1,
+            accepted-of o d v (λ f k. told-small (spoken-of book) _ (number-of J f k) .0) e in
+            accepted-iff J (a .0) .0 (a .1) .1,
         λ a. ap (λ (x : Shown). told x .number) (accepted a) ∙ by-name-part o d (countedAt (rulesOf book) o 0x07) .0,
       );
       verdict = v;
       judged = J;
-      refused = refused-of o d v;
-      refused-part = refused-empty _;
-      numbers = numbers-of o d v (J .numbers);
+      refused =
+          λ k p l. Iff·trans (told-refused _ k p l)
+          (Iff·trans (refused-of o d v (noted k p)) (Iff·symm (told-declined v k p l)));
+      numbers = numbers-of o d v (number-of J);
       inside = part-inside o d (rulesOf book);
       caption = captions-of;
     }

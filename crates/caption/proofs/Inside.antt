@@ -22,7 +22,8 @@ use Rattle.caption.specs.declared.Shown.{Shown}
 use Rattle.caption.specs.declared.Shown.the-variants.{InMessage, InDirectory, Refused}
 use Rattle.caption.specs.Lines.{onFirst, linesOf, indexOf, behind, names}
 use Rattle.caption.specs.Directory.{span}
-use Rattle.caption.specs.Caption.{lookupFrom, byEntry, byCaller, byName, findUnder, findOf, told, sliceOf, partText, captionOf}
+use Rattle.caption.specs.Told.{told}
+use Rattle.caption.specs.Caption.{lookupFrom, byEntry, byCaller, byName, findUnder, findOf, sliceOf, partText, captionOf}
 
 -- ---- lines, each with its end
 on-first-span : (x : ℕ) (ls : List (List ℕ)) (n : ℕ) → span ls ≤ suc n → span (onFirst x ls) ≤ suc (suc n)

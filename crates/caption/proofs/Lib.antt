@@ -1,4 +1,5 @@
 -- The root of the proofs.
+pub mod Told
 pub mod Settled
 pub mod Promised
 pub mod One

@@ -17,7 +17,8 @@ use Rattle.message.proofs.One.{judges-one}
 use Rattle.caption.specs.declared.Shown.{Shown}
 use Rattle.caption.specs.declared.Shown.the-variants.{InMessage, InDirectory, Refused}
 use Rattle.caption.specs.Lines.{linesOf}
-use Rattle.caption.specs.Caption.{told}
+use Rattle.caption.specs.Told.{told}
+use Rattle.caption.proofs.Told.{some-number, refused-iff, declined-so}
 use Rattle.caption.specs.Directory.{NoneFor, FirstFor}
 use Rattle.caption.specs.Finds.{Shows, Captions, Finds}
 use Rattle.caption.proofs.Directory.{first-or-none}
@@ -53,7 +54,8 @@ module _ (R : Rules) (o d : List ℕ) where
   -- what the one refuses, the other refuses with the same number and place
   refused-too : (r s : Shown) → Finds R o d r → Finds R o d s → (f : Fault) → r ≡ Refused f → s ≡ Refused f
   refused-too r s A B f e =
-      B .refused f .1 (sym (judges-one (calls R) o _ _ (A .judged) (B .judged)) ∙ A .refused f .0 e)
+      refused-iff B f (some-number A f e) .1
+      (sym (judges-one (calls R) o _ _ (A .judged) (B .judged)) ∙ declined-so A f e)
 
   -- where the one gives a part, that is the message's caption, and the other names the same
   shown-too : (r s : Shown) → Finds R o d r → Finds R o d s → told r .number ≡ 0 → Same r s

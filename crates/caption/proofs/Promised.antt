@@ -14,7 +14,8 @@ use Rattle.rules.specs.declared.Book.{Book}
 use Rattle.rules.specs.declared.Fault.{Fault}
 use Rattle.caption.specs.declared.Shown.{Shown}
 use Rattle.caption.specs.declared.Shown.the-variants.{InMessage, InDirectory, Refused}
-use Rattle.caption.specs.Caption.{told, sliceOf, partText, findOf, captionOf, codeOf}
+use Rattle.caption.specs.Told.{told}
+use Rattle.caption.specs.Caption.{sliceOf, partText, findOf, captionOf, codeOf}
 use Rattle.caption.specs.Finds.{Captions, Finds}
 use Rattle.caption.proofs.Finds as finds
 use Rattle.caption.proofs.find.Reads as find

@@ -13,6 +13,7 @@ use Rattle.message.specs.declared.Part.{Part}
 use Rattle.message.specs.declared.Part.the-variants.{At, Nowhere}
 use Rattle.message.specs.Verdict.{verdictOf}
 use Rattle.message.specs.Walking.{countedAt}
+use Rattle.caption.specs.Told.{told}
 use Rattle.caption.specs.Lines.{indexOf, behind, names, linesOf}
 use Rattle.caption.specs.declared.Line.{Line}
 use Rattle.caption.specs.declared.Entry.{Entry}
@@ -55,23 +56,6 @@ findUnder R (Declined f) o d = Refused f
 -- what is found for the octets o of a message and the directory d, by the whole read's verdict on o
 unfoldable pub findOf : Rules → List ℕ → List ℕ → Shown
 findOf R o d = findUnder R (verdictOf R o) o d
-
--- ---- what an answer tells (document 01, The forms we expect: a definition provides number and values for each case)
--- the number and place of a refusal, 0 where there is none; the part that is found, with a refusal the empty part at
--- the message's start
-pub record Told : Type 0 where
-  pub number : ℕ
-  pub place : ℕ
-  -- which of the two the part lies in: 0 the message, 1 the directory
-  pub side : ℕ
-  -- where the part starts there, and how long it is
-  pub start : ℕ
-  pub size : ℕ
-
-unfoldable pub told : Shown → Told
-told (InMessage start n) = record { number = 0; place = 0; side = 0; start = start; size = n }
-told (InDirectory start n) = record { number = 0; place = 0; side = 1; start = start; size = n }
-told (Refused f) = record { number = f .number; place = f .place; side = 0; start = 0; size = 0 }
 
 -- the slice that the part lies in, of the message o and the directory d
 unfoldable pub sliceOf : Shown → List ℕ → List ℕ → List ℕ

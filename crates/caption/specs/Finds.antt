@@ -11,15 +11,14 @@ use lib.Dec.{T}
 use Rattle.rules.specs.Table.{Rules}
 use Rattle.rules.specs.Message.{Message, octets, LegalMessage, Accepts}
 use Rattle.rules.specs.Counting.{counted, Counts}
-use Rattle.rules.specs.declared.Fault.{Fault}
 use Rattle.rules.specs.Language.{calls}
 use Rattle.message.specs.declared.Verdict.{Verdict}
-use Rattle.message.specs.declared.Verdict.the-variants.{Declined}
+use Rattle.message.specs.Told as message
 use Rattle.message.specs.Judges.{Judges, verdictNumber}
 use Rattle.caption.specs.declared.Shown.{Shown}
-use Rattle.caption.specs.declared.Shown.the-variants.{Refused}
 use Rattle.caption.specs.Lines.{linesOf}
-use Rattle.caption.specs.Caption.{told, sliceOf, partText}
+use Rattle.caption.specs.Told.{told, refusal, Clear}
+use Rattle.caption.specs.Caption.{sliceOf, partText}
 use Rattle.caption.specs.Directory.{NoneFor, FirstFor, textPlace}
 use Rattle.message.specs.Places.{contentsAt}
 
@@ -48,14 +47,15 @@ pub record Captions (R : Rules) (m : Message) (d : List ℕ) (r : Shown) : Type 
 
 -- the message's octets o and the directory d went in, and r came back
 pub record Finds (R : Rules) (o d : List ℕ) (r : Shown) : Type 0 where
+  -- number, place and part tell it
+  pub clear : Clear r
   -- number 0 exactly when the octets are a message
   pub done : (told r .number ≡ 0) ↔ Accepts R o
   -- refused exactly as the whole read declines the octets, with its number and place, and with the empty part at the
   -- message's start
   pub verdict : Verdict
   pub judged : Judges (calls R) o verdict
-  pub refused : (f : Fault) → (r ≡ Refused f) ↔ (verdict ≡ Declined f)
-  pub refused-part : (f : Fault) → r ≡ Refused f → (told r .side ≡ 0) × (told r .start ≡ 0) × (told r .size ≡ 0)
+  pub refused : (k p : ℕ) → 1 ≤ k → (told r ≡ refusal k p) ↔ (message.told verdict ≡ message.refusal k p)
   -- no number but 1 to 8, and 10
   pub numbers : (told r .number ≡ 0) ⊎ T (verdictNumber (calls R) (told r .number))
   -- the part lies inside the slice that it names

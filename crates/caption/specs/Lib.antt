@@ -1,4 +1,5 @@
 -- The root of what the caption finder promises.
+pub mod Told
 pub mod Lines
 pub mod Caption
 pub mod Directory

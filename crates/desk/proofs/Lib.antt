@@ -3,6 +3,7 @@ pub mod Holding
 pub mod Changes
 pub mod Counted
 pub mod Notice
+pub mod Told
 pub mod Settles
 pub mod History
 pub mod Words

@@ -2,7 +2,7 @@
 -- counts in a notice, whose contents have a sentence each in every book, tells the number, the lamp and the places
 -- after it.
 -- Assumes nothing.
-use Prim.Native.Nat.{ℕ, _<_}
+use Prim.Native.Nat.{ℕ, _≤_, _<_}
 use mathlib.Core.Path.{_≡_, refl, sym, _∙_, ap}
 use mathlib.Core.Logic.{_⊎_, inl, inr}
 use mathlib.Core.List.{List, [], _∷_}
@@ -29,6 +29,8 @@ use Rattle.desk.specs.References.{absent, held}
 use Rattle.desk.specs.Holding.{Lowest, Added, Removed}
 use Rattle.desk.specs.Settles.{Notices, Settles}
 use Rattle.desk.proofs.Holding.{closed-of, open-of}
+use Rattle.desk.proofs.Told.{told-done, unfit-iff, refused-iff, full-iff, done-iff, some-number, number-of}
+use Rattle.desk.proofs.Told.{refusal-leaves}
 use Rattle.desk.proofs.Counted.{waiting-octet, lamp-octet, identity-octets}
 
 -- ---- the places
@@ -100,18 +102,21 @@ module _ (b : Book) (m : Message) (l : LegalMessage (rulesOf b) m) (d e f : Desk
 -- ---- the answer
 module _ (R : Rules) (d : Desk) (o : List ℕ) (r s : Outcome) (A : Settles R d o r) (B : Settles R d o s) where
   answer-too : (a : Answer) → r .answer ≡ a → s .answer ≡ a
-  answer-too Done e = B .done .1 (A .done .0 e)
-  answer-too (Refused f) e = go (A .numbers f e)
+  answer-too Done e = done-iff B .1 (done-iff A .0 e)
+  answer-too (Refused f) e = go (number-of A f e)
     where
+      l : 1 ≤ f .number
+      l = some-number A f e
+
       at : (k : ℕ) → f .number ≡ k → Refused f ≡ Refused (noted k (f .place))
       at k z = ap (λ (n : ℕ). Refused (noted n (f .place))) z
 
       go : T (verdictNumber (calls R) (f .number)) ⊎ ((f .number ≡ 17) ⊎ (f .number ≡ 21)) → s .answer ≡ Refused f
       go (inl t) =
-          let x = A .refused f t .0 e in
-          B .refused f t .1 (x .0, sym (judges-one (calls R) o _ _ (A .judged) (B .judged)) ∙ x .1)
-      go (inr (inl k)) = B .seventeen (f .place) .1 (A .seventeen (f .place) .0 (e ∙ at 17 k)) ∙ sym (at 17 k)
-      go (inr (inr k)) = B .full (f .place) .1 (A .full (f .place) .0 (e ∙ at 21 k)) ∙ sym (at 21 k)
+          let x = refused-iff A f l t .0 e in
+          refused-iff B f l t .1 (x .0, sym (judges-one (calls R) o _ _ (A .judged) (B .judged)) ∙ x .1)
+      go (inr (inl k)) = unfit-iff B (f .place) .1 (unfit-iff A (f .place) .0 (e ∙ at 17 k)) ∙ sym (at 17 k)
+      go (inr (inr k)) = full-iff B (f .place) .1 (full-iff A (f .place) .0 (e ∙ at 21 k)) ∙ sym (at 21 k)
 
 kinds : (x : ℕ) → T (messageKind x) → (x ≡ 0x80) ⊎ (x ≡ 0x82)
 unfolding messageKind
@@ -132,8 +137,10 @@ settles-one b d o r s A B = λ i. record { desk = desk (r .answer) refl i; answe
     by-kind : (m : Message) → LegalMessage (rulesOf b) m → octets m ≡ o → r .answer ≡ Done →
         (m .kind ≡ 0x80) ⊎ (m .kind ≡ 0x82) → r .desk ≡ s .desk
     by-kind m l q e (inl k) = A .call-stays m l q k ∙ sym (B .call-stays m l q k)
-    by-kind m l q e (inr k) = notices-one b m l d _ _ (A .notice m l q k e) (B .notice m l q k (answer Done e))
+    by-kind m l q e (inr k) =
+        notices-one b m l d _ _ (A .notice m l q k (told-done _ (A .clear) .1 e))
+        (B .notice m l q k (told-done _ (B .clear) .1 (answer Done e)))
 
     desk : (a : Answer) → r .answer ≡ a → r .desk ≡ s .desk
-    desk (Refused f) e = A .refusal-stays f e ∙ sym (B .refusal-stays f (answer (Refused f) e))
-    desk Done e = let x = A .done .0 e .1 in by-kind (x .0) (x .1) (x .2) e (kinds _ (x .1 .kind))
+    desk (Refused f) e = refusal-leaves A f e ∙ sym (refusal-leaves B f (answer (Refused f) e))
+    desk Done e = let x = done-iff A .0 e .1 in by-kind (x .0) (x .1) (x .2) e (kinds _ (x .1 .kind))

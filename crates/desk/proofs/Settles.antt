@@ -1,7 +1,7 @@
 -- Settling does what is promised: by the places of the desk, then by the verdict, then by the three ways of a
 -- message; and a second settling goes the same way and changes nothing.
 -- Assumes nothing.
-use Prim.Native.Nat.{ℕ}
+use Prim.Native.Nat.{ℕ, _≤_}
 use mathlib.Core.Path.{_≡_, refl, sym, _∙_, ap, subst}
 use mathlib.Core.Logic.{_⊎_, inl, inr}
 use mathlib.Core.List.{List}
@@ -14,8 +14,7 @@ use Rattle.rules.proofs.Tests.{clash, pick-yes, pick-not, decide, of-eq, eq-of}
 use Rattle.rules.specs.Octets.{Octets}
 use Rattle.rules.specs.Table.{rulesOf}
 use Rattle.rules.specs.declared.Book.{Book}
-use Rattle.rules.specs.Message as message
-use Rattle.rules.specs.Message.{octets, LegalMessage, Accepts}
+use Rattle.rules.specs.Message.{Message, octets, LegalMessage, Accepts}
 use Rattle.rules.specs.declared.Fault.{Fault}
 use Rattle.rules.specs.Refusals.{noted}
 use Rattle.rules.specs.Language.{languageOf}
@@ -23,17 +22,21 @@ use Rattle.rules.proofs.Grammar.{spoken-of}
 use Rattle.message.specs.declared.Verdict.{Verdict}
 use Rattle.message.specs.declared.Verdict.the-variants.{Accepted, Declined}
 use Rattle.message.specs.Verdict.{verdictOf}
+use Rattle.message.specs.Told as message
 use Rattle.message.specs.Judges.{Judges, verdictNumber}
 use Rattle.message.proofs.Judges.{judges-of, told-small}
+use Rattle.message.proofs.Told.{told-declined, accepted-iff, number-of}
 use Rattle.desk.specs.declared.Waiting.{Waiting}
 use Rattle.desk.specs.declared.Lamp.{Lamp}
 use Rattle.desk.specs.declared.Desk.{Desk}
-use Rattle.desk.specs.declared.Answer.the-variants.{Done, Refused}
+use Rattle.desk.specs.declared.Answer.the-variants.{Done}
 use Rattle.desk.specs.declared.Outcome.{Outcome}
 use Rattle.desk.specs.References.{placesFit, isFull}
 use Rattle.desk.specs.Holding.{Fit}
 use Rattle.desk.proofs.Holding.{fit-of, of-fit}
 use Rattle.desk.proofs.Changes.{fit-after, as-many-after, room-again, same-again}
+use Rattle.desk.specs.Told.{Told, told, success, refusal, Clear}
+use Rattle.desk.proofs.Told.{number-is, place-is}
 use Rattle.desk.specs.Settle as settle
 use Rattle.desk.specs.Settle.{refusedWith, waitingAfter, lampAfter, changeOf, noticed, countedIn, settledNotice, settledMessage, settledUnder, settleOf}
 use Rattle.desk.proofs.Counted.{small-change}
@@ -41,17 +44,18 @@ use Rattle.desk.specs.Settles.{Notices, Fills, Settles}
 use Rattle.desk.proofs.Notice.{kind-of, notices, fills-of, of-fills}
 
 -- ---- the ways that settling goes
-no-done : (f : Fault) → Done ≡ Refused f → ⊥
-no-done f e = clash cc
+-- what an outcome tells
+told-refusal : (f : Fault) (d : Desk) (r : Outcome) → r ≡ settle.refused f d →
+    told (r .answer) ≡ refusal (f .number) (f .place)
+unfolding told
+told-refusal f d r e = ap (λ (x : Outcome). told (x .answer)) e
 
-fault-is : (f g : Fault) → Refused f ≡ Refused g → f ≡ g
-fault-is f g e = cc
+told-success : (r : Outcome) → r .answer ≡ Done → told (r .answer) ≡ success
+unfolding told
+told-success r e = ap told e
 
-number-is : (f g : Fault) → Refused f ≡ Refused g → f .number ≡ g .number
-number-is f g e = ap (λ (x : Fault). x .number) (fault-is f g e)
-
-place-is : (f g : Fault) → Refused f ≡ Refused g → f .place ≡ g .place
-place-is f g e = ap (λ (x : Fault). x .place) (fault-is f g e)
+clear-refusal : (f : Fault) (d : Desk) (r : Outcome) → r ≡ settle.refused f d → 1 ≤ f .number → Clear (r .answer)
+clear-refusal f d r e l = subst (λ (x : Outcome). Clear (x .answer)) (sym e) l
 
 abbrev fault : ℕ → Fault
 fault n = noted n 0
@@ -123,24 +127,25 @@ module _ (book : Book) where
 
       unfit-settles : (r : Outcome) → r ≡ settle.refused (fault 17) d → Settles (rulesOf book) d o r
       unfit-settles r e =
-          let a : r .answer ≡ Refused (fault 17) = ap (λ (x : Outcome). x .answer) e in
+          let a = told-refusal (fault 17) d r e in
           let k : r .desk ≡ d = ap (λ (x : Outcome). x .desk) e in
           record {
+            clear = clear-refusal (fault 17) d r e (omega arith);
             seventeen =
-                λ p. (λ x. (place-is _ _ (sym x ∙ a), n), λ x. a ∙ ap (λ (i : ℕ). Refused (noted 17 i)) (sym (x .0)));
+                λ p. (λ x. (place-is (sym x ∙ a), n), λ x. a ∙ ap (λ (i : ℕ). refusal 17 i) (sym (x .0)));
             verdict = v;
             judged = J;
             refused =
-                λ f l. (
-                  λ x. absurd (omega (arith, told-small (spoken-of book) _ l .1, number-is _ _ (sym x ∙ a))),
+                λ i p l. (
+                  λ x. absurd (omega (arith, told-small (spoken-of book) _ l .1, number-is (sym x ∙ a))),
                   λ x. absurd (n (x .0)),
                 );
-            full = λ p. (λ x. absurd (omega (arith, number-is _ _ (sym x ∙ a))), λ x. absurd (n (x .1)));
-            done = (λ x. absurd (no-done _ (sym x ∙ a)), λ x. absurd (n (x .0)));
-            numbers = λ f x. inr (inl (number-is _ _ (sym x ∙ a)));
-            refusal-stays = λ f x. k;
+            full = λ p. (λ x. absurd (omega (arith, number-is (sym x ∙ a))), λ x. absurd (n (x .1)));
+            done = (λ x. absurd (omega (arith, number-is (sym x ∙ a))), λ x. absurd (n (x .0)));
+            numbers = λ _. inr (inl (number-is a));
+            refusal-stays = λ _. k;
             call-stays = λ m l x c. k;
-            notice = λ m l x c y. absurd (no-done _ (sym y ∙ a));
+            notice = λ m l x c y. absurd (omega (arith, number-is (sym y ∙ a)));
             fits = λ w. absurd (n w);
             as-many = ap (λ (x : Desk). length (x .places)) k;
           }
@@ -154,35 +159,34 @@ module _ (book : Book) where
       declined-settles : (r : Outcome) (f : Fault) → v ≡ Declined f → r ≡ settle.refused f d →
           Settles (rulesOf book) d o r
       declined-settles r f c e =
-          let a : r .answer ≡ Refused f = ap (λ (x : Outcome). x .answer) e in
+          let a = told-refusal f d r e in
           let k : r .desk ≡ d = ap (λ (x : Outcome). x .desk) e in
-          let t = J .numbers f c in
+          let t = number-of J f c in
           let b = told-small (spoken-of book) _ t in
           let none : (x : Accepts (rulesOf book) o) → ⊥ =
-          λ x. no-verdict _ _ (sym (J .accepted (length o) .1 (refl, x)) ∙ c) in
+          λ x. no-verdict _ _ (sym (accepted-iff J (length o) .1 (refl, x)) ∙ c) in
+          let g = told-declined v (f .number) (f .place) (b .0) .1 c in
           record {
-            seventeen = λ p. (λ x. absurd (omega (arith, b .1, number-is _ _ (sym x ∙ a))), λ x. absurd (x .1 w));
+            clear = clear-refusal f d r e (b .0);
+            seventeen = λ p. (λ x. absurd (omega (arith, b .1, number-is (sym x ∙ a))), λ x. absurd (x .1 w));
             verdict = v;
             judged = J;
             refused =
-                λ g l. (
-                  λ x. (w, c ∙ ap Declined (fault-is _ _ (sym a ∙ x))),
-                  λ x. a
-                      ∙ ap Refused (declined-is _ _ (sym c ∙ x .1)),
+                λ i p l. (
+                  λ x. (w, g ∙ ap (λ (z : Told). message.refusal (z .number) (z .place)) (sym a ∙ x)),
+                  λ x. a ∙ ap (λ (z : message.Told). refusal (z .number) (z .place)) (sym g ∙ x .1),
                 );
             full =
                 λ p. (
-                  λ x. absurd (omega (arith, b .1, number-is _ _ (sym x ∙ a))),
+                  λ x. absurd (omega (arith, b .1, number-is (sym x ∙ a))),
                   λ x. absurd
                       (none (x .2 .m, x .2 .legal, x .2 .is)),
                 );
-            done = (λ x. absurd (no-done _ (sym x ∙ a)), λ x. absurd (none (x .1)));
-            numbers =
-                λ g x. inl (subst (λ (k : ℕ). T (verdictNumber (languageOf book) k))
-                (sym (number-is _ _ (sym x ∙ a))) t);
-            refusal-stays = λ g x. k;
+            done = (λ x. absurd (omega (arith, b .0, number-is (sym x ∙ a))), λ x. absurd (none (x .1)));
+            numbers = λ _. inl (subst (λ (k : ℕ). T (verdictNumber (languageOf book) k)) (sym (number-is a)) t);
+            refusal-stays = λ _. k;
             call-stays = λ m l x y. k;
-            notice = λ m l x y z. absurd (no-done _ (sym z ∙ a));
+            notice = λ m l x y z. absurd (omega (arith, b .0, number-is (sym z ∙ a)));
             fits = λ u. subst (λ (x : Desk). Fit (x .places)) (sym k) w;
             as-many = ap (λ (x : Desk). length (x .places)) k;
           }
@@ -190,49 +194,47 @@ module _ (book : Book) where
           no-verdict : (n : ℕ) (f : Fault) → Accepted n ≡ Declined f → ⊥
           no-verdict n f e = clash cc
 
-          declined-is : (f g : Fault) → Declined f ≡ Declined g → f ≡ g
-          declined-is f g e = cc
-
       -- a message
       module _ (n : ℕ) (c : v ≡ Accepted n) where
         accepts : Accepts (rulesOf book) o
-        accepts = J .accepted n .0 c .1
+        accepts = accepted-iff J n .0 c .1
 
-        not-declined : (f : Fault) → v ≡ Declined f → ⊥
-        not-declined f x = let y : Accepted n ≡ Declined f = sym c ∙ x in clash cc
+        not-declined : (k p : ℕ) → T (verdictNumber (languageOf book) k) → message.told v ≡ message.refusal k p → ⊥
+        not-declined k p l x =
+            let y : Accepted n ≡ Declined (noted k p) =
+            sym c ∙ told-declined v k p (told-small (spoken-of book) _ l .0) .0 x in
+            clash cc
 
-        kind-here : (m : message.Message) → octets m ≡ o → getD o 0 0 ≡ m .kind
+        kind-here : (m : Message) → octets m ≡ o → getD o 0 0 ≡ m .kind
         kind-here m x = ap (λ (y : List ℕ). getD y 0 0) (sym x) ∙ kind-of m
 
         kept-settles : (r : Outcome) → Kept d o r → Settles (rulesOf book) d o r
         kept-settles r g =
-            let a : r .answer ≡ Refused (fault 21) = ap (λ (x : Outcome). x .answer) (g .is) in
+            let a = told-refusal (fault 21) d r (g .is) in
             let k : r .desk ≡ d = ap (λ (x : Outcome). x .desk) (g .is) in
             let y = accepts in
             let f : Fills (rulesOf book) (d .places) o =
             fills-of book o d (y .0) (y .1) (y .2) (sym (kind-here (y .0) (y .2)) ∙ g .notice) (g .full) in
             record {
-              seventeen = λ p. (λ x. absurd (omega (arith, number-is _ _ (sym x ∙ a))), λ x. absurd (x .1 w));
+              clear = clear-refusal (fault 21) d r (g .is) (omega arith);
+              seventeen = λ p. (λ x. absurd (omega (arith, number-is (sym x ∙ a))), λ x. absurd (x .1 w));
               verdict = v;
               judged = J;
               refused =
-                  λ h l. (
-                    λ x. absurd
-                        (omega (arith, told-small (spoken-of book) _ l .1, number-is _ _ (sym x ∙ a))),
-                    λ x. absurd
-                        (not-declined h (x .1)),
+                  λ i p l. (
+                    λ x. absurd (omega (arith, told-small (spoken-of book) _ l .1, number-is (sym x ∙ a))),
+                    λ x. absurd (not-declined i p l (x .1)),
                   );
               full =
                   λ p. (
-                    λ x. (place-is _ _ (sym x ∙ a), w, f),
-                    λ x. a
-                        ∙ ap (λ (i : ℕ). Refused (noted 21 i)) (sym (x .0)),
+                    λ x. (place-is (sym x ∙ a), w, f),
+                    λ x. a ∙ ap (λ (i : ℕ). refusal 21 i) (sym (x .0)),
                   );
-              done = (λ x. absurd (no-done _ (sym x ∙ a)), λ x. absurd (x .2 f));
-              numbers = λ h x. inr (inr (number-is _ _ (sym x ∙ a)));
-              refusal-stays = λ h x. k;
+              done = (λ x. absurd (omega (arith, number-is (sym x ∙ a))), λ x. absurd (x .2 f));
+              numbers = λ _. inr (inr (number-is a));
+              refusal-stays = λ _. k;
               call-stays = λ m l x z. k;
-              notice = λ m l x z u. absurd (no-done _ (sym u ∙ a));
+              notice = λ m l x z u. absurd (omega (arith, number-is (sym u ∙ a)));
               fits = λ u. subst (λ (x : Desk). Fit (x .places)) (sym k) w;
               as-many = ap (λ (x : Desk). length (x .places)) k;
             }
@@ -240,23 +242,30 @@ module _ (book : Book) where
         -- done: which desk, that no reference wanted a place, and what that desk is
         done-settles : (r : Outcome) → r .answer ≡ Done → (Fills (rulesOf book) (d .places) o → ⊥) →
             (getD o 0 0 ≡ 0x80 → r .desk ≡ d) →
-            ((m : message.Message) → LegalMessage (rulesOf book) m → octets m ≡ o → m .kind ≡ 0x82 →
+            ((m : Message) → LegalMessage (rulesOf book) m → octets m ≡ o → m .kind ≡ 0x82 →
             Notices (rulesOf book) m d (r .desk)) → Fit (r .desk .places) →
             length (r .desk .places) ≡ length (d .places) → Settles (rulesOf book) d o r
-        done-settles r a f k g u z = record {
-          seventeen = λ p. (λ x. absurd (no-done _ (sym a ∙ x)), λ x. absurd (x .1 w));
-          verdict = v;
-          judged = J;
-          refused = λ h l. (λ x. absurd (no-done _ (sym a ∙ x)), λ x. absurd (not-declined h (x .1)));
-          full = λ p. (λ x. absurd (no-done _ (sym a ∙ x)), λ x. absurd (f (x .2)));
-          done = (λ x. (w, accepts, f), λ x. a);
-          numbers = λ h x. absurd (no-done _ (sym a ∙ x));
-          refusal-stays = λ h x. absurd (no-done _ (sym a ∙ x));
-          call-stays = λ m l x b. k (kind-here m x ∙ b);
-          notice = λ m l x b y. g m l x b;
-          fits = λ y. u;
-          as-many = z;
-        }
+        done-settles r e f k g u z =
+            let a = told-success r e in
+            record {
+              clear = subst Clear (sym e) tt;
+              seventeen = λ p. (λ x. absurd (omega (arith, number-is (sym a ∙ x))), λ x. absurd (x .1 w));
+              verdict = v;
+              judged = J;
+              refused =
+                  λ i p l. (
+                    λ x. absurd (omega (arith, told-small (spoken-of book) _ l .0, number-is (sym a ∙ x))),
+                    λ x. absurd (not-declined i p l (x .1)),
+                  );
+              full = λ p. (λ x. absurd (omega (arith, number-is (sym a ∙ x))), λ x. absurd (f (x .2)));
+              done = (λ x. (w, accepts, f), λ x. a);
+              numbers = λ l. absurd (omega (arith, l, number-is a));
+              refusal-stays = λ l. absurd (omega (arith, l, number-is a));
+              call-stays = λ m l x b. k (kind-here m x ∙ b);
+              notice = λ m l x b y. g m l x b;
+              fits = λ y. u;
+              as-many = z;
+            }
 
         message-settles : (r : Outcome) → Ways d o r → Settles (rulesOf book) d o r
         message-settles r (inl g) = kept-settles r g

@@ -22,6 +22,7 @@ use Rattle.desk.specs.declared.Answer.the-variants.{Done, Refused}
 use Rattle.desk.specs.Settle.{changeOf, settleOf}
 use Rattle.desk.specs.Settles.{Settles}
 use Rattle.desk.specs.History.{saidBy, Call, saidUnder, said, Names, Says}
+use Rattle.desk.proofs.Told.{done-iff}
 use Rattle.desk.proofs.Counted.{identity-octets}
 use Rattle.desk.proofs.Notice.{kind-of, counts, adds-is, removes-is, unset-is, stays-is}
 use Rattle.desk.proofs.Settles as settles
@@ -134,7 +135,7 @@ module _ (r : ℕ) (c : Call) where
         let g = is-done (c .outcome .answer) refl in
         let s : Settles (rulesOf book) d (c .octets) (c .outcome) =
         subst (Settles (rulesOf book) d (c .octets)) (sym p) (settles.settles book d (c .octets) q) in
-        let a = s .done .0 (g .0) .1 in
+        let a = done-iff s .0 (g .0) .1 in
         by-counted (a .0) (a .1) (a .2) (sym (kind-of (a .0)) ∙ ap (λ (v : List ℕ). getD v 0 0) (a .2) ∙ g .1)
         (g .0) _ refl
 

@@ -1,4 +1,5 @@
 -- The root of what the desk promises.
+pub mod Told
 pub mod References
 pub mod Settle
 pub mod Holding

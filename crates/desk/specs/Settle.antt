@@ -86,13 +86,3 @@ settledUnder R (Declined f) o d = refused f d
 -- whole read's verdict on the octets
 unfoldable pub settleOf : Rules → Desk → List ℕ → Outcome
 settleOf R d o = pick (placesFit (d .places)) (settledUnder R (verdictOf R o) o d) (refusedWith 17 d)
-
--- ---- what an answer tells (document 01, The forms we expect: a definition provides number and values for each case)
--- the number and place of a refusal; 0 where there is none
-pub record Told : Type 0 where
-  pub number : ℕ
-  pub place : ℕ
-
-unfoldable pub told : Answer → Told
-told Done = record { number = 0; place = 0 }
-told (Refused f) = record { number = f .number; place = f .place }

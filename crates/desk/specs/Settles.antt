@@ -1,7 +1,7 @@
 -- What settling means over the written rules (document 01, The desk; document 02, Q-6): which answer, and what a
 -- notice, a call message and a refusal do to the desk.
 -- Assumes nothing.
-use Prim.Native.Nat.{ℕ, _+_, _*_}
+use Prim.Native.Nat.{ℕ, _≤_}
 use mathlib.Core.Path.{_≡_}
 use mathlib.Core.Logic.{_⊎_, _↔_}
 use mathlib.Core.List.{List, [], _∷_}
@@ -9,25 +9,22 @@ use mathlib.Core.Option.{none, some}
 use lib.ListN.{length}
 use lib.Dec.{T}
 use Rattle.rules.specs.Table.{Rules}
-use Rattle.rules.specs.Message as message
-use Rattle.rules.specs.Message.{octets, LegalMessage, Accepts}
+use Rattle.rules.specs.Message.{Message, octets, LegalMessage, Accepts}
 use Rattle.rules.specs.Counting.{counted}
 use Rattle.desk.specs.declared.Waiting.the-variants.{Number}
 use Rattle.desk.specs.declared.Lamp.the-variants.{Off, On}
 use Rattle.desk.specs.declared.Desk.{Desk}
 use Rattle.desk.specs.Holding.{Fit, Full, Added, Removed}
-use Rattle.rules.specs.declared.Fault.{Fault}
-use Rattle.rules.specs.Refusals.{noted}
 use Rattle.rules.specs.Language.{calls}
 use Rattle.message.specs.declared.Verdict.{Verdict}
-use Rattle.message.specs.declared.Verdict.the-variants.{Declined}
+use Rattle.message.specs.Told as message
 use Rattle.message.specs.Judges.{Judges, verdictNumber}
-use Rattle.desk.specs.declared.Answer.the-variants.{Done, Refused}
 use Rattle.desk.specs.declared.Outcome.{Outcome}
+use Rattle.desk.specs.Told.{told, success, refusal, Clear}
 use Rattle.rules.specs.Octets.{referenceOf}
 
 -- the notice m makes the desk e of the desk d
-pub record Notices (R : Rules) (m : message.Message) (d e : Desk) : Type 0 where
+pub record Notices (R : Rules) (m : Message) (d e : Desk) : Type 0 where
   -- the number is set where 13H counts, whatever stood there, and stays where it does not
   pub number : (k : ℕ) → counted R m 0x13 ≡ some (k ∷ []) → e .waiting ≡ Number k
   pub number-stays : counted R m 0x13 ≡ none → e .waiting ≡ d .waiting
@@ -45,7 +42,7 @@ pub record Notices (R : Rules) (m : message.Message) (d e : Desk) : Type 0 where
 
 -- the octets are those of a notice that adds a reference where all places hold others
 pub record Fills (R : Rules) (ps o : List ℕ) : Type 0 where
-  pub m : message.Message
+  pub m : Message
   pub legal : LegalMessage R m
   pub is : octets m ≡ o
   pub notice : m .kind ≡ 0x82
@@ -56,25 +53,28 @@ pub record Fills (R : Rules) (ps o : List ℕ) : Type 0 where
 
 -- the desk d and the octets o went in, and r came back
 pub record Settles (R : Rules) (d : Desk) (o : List ℕ) (r : Outcome) : Type 0 where
+  -- number and place tell the answer
+  pub clear : Clear (r .answer)
   -- 17 exactly for a desk with a place out of range or a reference twice
-  pub seventeen : (p : ℕ) → (r .answer ≡ Refused (noted 17 p)) ↔ ((p ≡ 0) × (Fit (d .places) → ⊥))
+  pub seventeen : (p : ℕ) → (told (r .answer) ≡ refusal 17 p) ↔ ((p ≡ 0) × (Fit (d .places) → ⊥))
   -- else 1 to 8 and 10 exactly as the whole read declines the octets, with its number and place
   pub verdict : Verdict
   pub judged : Judges (calls R) o verdict
-  pub refused : (f : Fault) → T (verdictNumber (calls R) (f .number)) →
-      (r .answer ≡ Refused f) ↔ (Fit (d .places) × (verdict ≡ Declined f))
+  pub refused : (k p : ℕ) → T (verdictNumber (calls R) k) →
+      (told (r .answer) ≡ refusal k p) ↔ (Fit (d .places) × (message.told verdict ≡ message.refusal k p))
   -- else 21 exactly where a reference to be added has no place
-  pub full : (p : ℕ) → (r .answer ≡ Refused (noted 21 p)) ↔ ((p ≡ 0) × Fit (d .places) × Fills R (d .places) o)
+  pub full : (p : ℕ) → (told (r .answer) ≡ refusal 21 p) ↔ ((p ≡ 0) × Fit (d .places) × Fills R (d .places) o)
   -- else done
-  pub done : (r .answer ≡ Done) ↔ (Fit (d .places) × Accepts R o × (Fills R (d .places) o → ⊥))
+  pub done : (told (r .answer) ≡ success) ↔ (Fit (d .places) × Accepts R o × (Fills R (d .places) o → ⊥))
   -- no other number
-  pub numbers : (f : Fault) → r .answer ≡ Refused f →
-      T (verdictNumber (calls R) (f .number)) ⊎ ((f .number ≡ 17) ⊎ (f .number ≡ 21))
+  pub numbers :
+      let k = told (r .answer) .number in
+      1 ≤ k → T (verdictNumber (calls R) k) ⊎ ((k ≡ 17) ⊎ (k ≡ 21))
   -- a refusal and a call message leave the desk as it was
-  pub refusal-stays : (f : Fault) → r .answer ≡ Refused f → r .desk ≡ d
-  pub call-stays : (m : message.Message) → LegalMessage R m → octets m ≡ o → m .kind ≡ 0x80 → r .desk ≡ d
+  pub refusal-stays : 1 ≤ told (r .answer) .number → r .desk ≡ d
+  pub call-stays : (m : Message) → LegalMessage R m → octets m ≡ o → m .kind ≡ 0x80 → r .desk ≡ d
   -- a notice that is done settles what counts
-  pub notice : (m : message.Message) → LegalMessage R m → octets m ≡ o → m .kind ≡ 0x82 → r .answer ≡ Done →
+  pub notice : (m : Message) → LegalMessage R m → octets m ≡ o → m .kind ≡ 0x82 → told (r .answer) ≡ success →
       Notices R m d (r .desk)
   -- a desk that fits is left as one that fits, with as many places
   pub fits : Fit (d .places) → Fit (r .desk .places)

@@ -20,7 +20,8 @@ use Rattle.rules.specs.declared.Stage.{Stage}
 use Rattle.rules.specs.declared.Stage.the-variants.{Kind, Size, Header, Length, Content}
 use Rattle.rules.specs.declared.State.{State}
 use Rattle.rules.specs.declared.State.the-variants.{Waiting, Message, Refused}
-use Rattle.listener.specs.Heard.{told, answerOf}
+use Rattle.listener.specs.Told.{told}
+use Rattle.listener.specs.Heard.{answerOf}
 
 abbrev pub CodedAt : Stage → Type 0
 CodedAt Kind = Unit {0}

@@ -12,7 +12,8 @@ use Rattle.rules.specs.declared.State.{State}
 use Rattle.listener.specs.declared.Listener.{Listener}
 use Rattle.listener.specs.declared.Heard.{Heard}
 use Rattle.firmware.specs.declared.Outcome.{Outcome}
-use Rattle.listener.specs.Heard.{told, heardOf}
+use Rattle.listener.specs.Told.{told}
+use Rattle.listener.specs.Heard.{heardOf}
 use Rattle.firmware.specs.declared.Decoded.{Decoded}
 use Rattle.firmware.specs.declared.Decoded.the-variants.{Known, Unknown}
 use Rattle.firmware.specs.Record.{known, decodeOf, recordOf}

@@ -2,7 +2,7 @@
 -- (hears-one and its like), and the word and the records are told by it.
 -- Assumes nothing.
 use Prim.Native.Nat.{ℕ, suc, _≤_}
-use mathlib.Core.Path.{_≡_, refl, sym, _∙_, ap}
+use mathlib.Core.Path.{_≡_, refl, sym, _∙_, ap, subst}
 use mathlib.Core.Logic.{_⊎_, inl, inr}
 use mathlib.Core.List.{List}
 use mathlib.Core.Option.{Option, none, some}
@@ -13,26 +13,24 @@ use Rattle.rules.specs.Tests.{_=?_}
 use Rattle.rules.proofs.Tests.{decide, eq-of, of-eq}
 use Rattle.rules.specs.Table.{rulesOf}
 use Rattle.rules.specs.declared.Book.the-variants.{PresentLenient}
-use Rattle.rules.specs.declared.Fault.{Fault}
 use Rattle.rules.specs.Message.{Accepts}
 use Rattle.rules.specs.Counting.{counted}
 use Rattle.rules.proofs.Counting.{counted-iff}
 use Rattle.rules.specs.Language.{Language, languageOf}
 use Rattle.message.specs.declared.Verdict.{Verdict}
 use Rattle.message.specs.declared.Verdict.the-variants.{Accepted, Declined}
+use Rattle.message.specs.Told as message
+use Rattle.message.proofs.Told.{accepted-iff, some-number}
 use Rattle.message.proofs.One.{judges-one}
-use Rattle.reader.specs.declared.Packed.{Packed}
-use Rattle.reader.specs.declared.Packed.the-variants.{Texts, Refused}
 use Rattle.reader.specs.declared.Reading.{Reading}
-use Rattle.reader.specs.Reads as reads
+use Rattle.reader.specs.Told as reader
 use Rattle.reader.proofs.One.{reads-one}
 use Rattle.desk.specs.declared.Desk.{Desk}
 use Rattle.desk.specs.declared.Outcome.{Outcome}
-use Rattle.desk.specs.Settle as desk
+use Rattle.desk.specs.Told as desk
 use Rattle.desk.proofs.One.{settles-one}
 use Rattle.caption.specs.declared.Shown.{Shown}
-use Rattle.caption.specs.declared.Shown.the-variants as found
-use Rattle.caption.specs.Caption as caption
+use Rattle.caption.specs.Told as caption
 use Rattle.caption.proofs.One.{finds-one}
 use Rattle.firmware.specs.Word.{packed, wordNumber, wordPlace, wordSize, wordTaken, Unpacked, Seventeen}
 use Rattle.firmware.specs.DraftRecord.{draftRecord}
@@ -42,6 +40,10 @@ use Rattle.firmware.specs.RecordHears.{RecordHears}
 use Rattle.firmware.specs.RecordReads.{RecordReads}
 use Rattle.firmware.specs.RecordSettles.{RecordSettles}
 use Rattle.firmware.specs.RecordParts.{RecordCounts, RecordFinds}
+
+-- a number that is not 0
+positive : (k : ℕ) → (T (k =? 0) → ⊥) → 1 ≤ k
+positive k n = let z : k ≡ 0 → ⊥ = λ e. n (of-eq _ _ e) in omega arith
 
 -- words of the same fields are one
 words-one : (k p n t w v : ℕ) → Unpacked k p n t w → Unpacked k p n t v → w ≡ v
@@ -66,8 +68,8 @@ record-hears-one L h o w v A B = go (decide (wordNumber w =? 0)) (decide (wordSi
         same (a ∙ sym (x .0)) (A .no-place a ∙ sym (B .no-place (x .0))) (b ∙ sym (x .1))
         (A .taken-waiting a b ∙ sym (B .taken-waiting (x .0) (x .1)))
 
-    message : wordNumber w ≡ 0 → 1 ≤ wordSize w → w ≡ v
-    message a b =
+    heard : wordNumber w ≡ 0 → 1 ≤ wordSize w → w ≡ v
+    heard a b =
         let x : wordSize v ≡ wordSize w = B .has-message (wordSize w) b .1 (A .has-message (wordSize w) b .0 refl) in
         let y : wordNumber v ≡ 0 = no-number (decide (wordNumber v =? 0)) x in
         same (a ∙ sym y) (A .no-place a ∙ sym (B .no-place y)) (sym x)
@@ -76,22 +78,20 @@ record-hears-one L h o w v A B = go (decide (wordNumber w =? 0)) (decide (wordSi
         no-number : T (wordNumber v =? 0) ⊎ (T (wordNumber v =? 0) → ⊥) → wordSize v ≡ wordSize w → wordNumber v ≡ 0
         no-number (inl t) x = eq-of _ _ t
         no-number (inr n) x = absurd (omega (arith, x, B .no-size (positive (wordNumber v) n)))
-          where
-            positive : (k : ℕ) → (T (k =? 0) → ⊥) → 1 ≤ k
-            positive k m = let z : k ≡ 0 → ⊥ = λ e. m (of-eq _ _ e) in omega arith
 
     refused : 1 ≤ wordNumber w → w ≡ v
     refused a =
-        let f : Fault = record { number = wordNumber w; place = wordPlace w } in
-        let x = B .refuses f a .1 (A .refuses f a .0 (refl, refl)) in
+        let k = wordNumber w in
+        let p = wordPlace w in
+        let x = B .refuses k p a .1 (A .refuses k p a .0 (refl, refl)) in
         let b : 1 ≤ wordNumber v = omega (arith, x .0) in
         same (sym (x .0)) (sym (x .1)) (A .no-size a ∙ sym (B .no-size b))
         (omega (arith, A .taken-refused a, B .taken-refused b, x .1))
 
     go : T (wordNumber w =? 0) ⊎ (T (wordNumber w =? 0) → ⊥) → T (wordSize w =? 0) ⊎ (T (wordSize w =? 0) → ⊥) → w ≡ v
     go (inl a) (inl b) = waiting (eq-of _ _ a) (eq-of _ _ b)
-    go (inl a) (inr b) = let z : wordSize w ≡ 0 → ⊥ = λ e. b (of-eq _ _ e) in message (eq-of _ _ a) (omega arith)
-    go (inr a) b = let z : wordNumber w ≡ 0 → ⊥ = λ e. a (of-eq _ _ e) in refused (omega arith)
+    go (inl a) (inr b) = heard (eq-of _ _ a) (positive (wordSize w) b)
+    go (inr a) b = refused (positive (wordNumber w) a)
 
 -- reading
 pub record-reads-one : (o c t : List ℕ) (w : ℕ) (c' t' : List ℕ) (v : ℕ) (d u : List ℕ) →
@@ -99,17 +99,22 @@ pub record-reads-one : (o c t : List ℕ) (w : ℕ) (c' t' : List ℕ) (v : ℕ)
 record-reads-one o c t w c' t' v d u A B =
     let e = reads-one (rulesOf PresentLenient) o t (A .reading) t' (B .reading) u (A .reads) (B .reads) in
     let a = ap (λ (r : Reading). r .answer) (e .0) in (
-      A .word .whole ∙ (λ i. packed (reads.told (a i) .number) (reads.told (a i) .place) (reads.told (a i) .size) 0)
+      A .word .whole ∙ (λ i. packed (reader.told (a i) .number) (reader.told (a i) .place) (reader.told (a i) .size) 0)
           ∙ sym (B .word .whole),
-      cells (e .0) (A .reading .answer) refl,
+      cells (e .0) (decide (reader.told (A .reading .answer) .number =? 0)),
       e .1,
     )
   where
-    cells : A .reading ≡ B .reading → (x : Packed) → A .reading .answer ≡ x → c' ≡ d
-    cells e (Texts n) z =
-        A .drafted n z ∙ ap (λ (r : Reading). draftRecord (r .draft)) e
-        ∙ sym (B .drafted n (sym (ap (λ (r : Reading). r .answer) e) ∙ z))
-    cells e (Refused f) z = A .refused f z ∙ sym (B .refused f (sym (ap (λ (r : Reading). r .answer) e) ∙ z))
+    cells : A .reading ≡ B .reading →
+        T (reader.told (A .reading .answer) .number =? 0) ⊎ (T (reader.told (A .reading .answer) .number =? 0) → ⊥) →
+        c' ≡ d
+    cells e (inl t) =
+        let z = eq-of _ _ t in
+        A .drafted z ∙ ap (λ (r : Reading). draftRecord (r .draft)) e
+        ∙ sym (B .drafted (sym (ap (λ (r : Reading). reader.told (r .answer) .number) e) ∙ z))
+    cells e (inr n) =
+        let l = positive _ n in
+        A .refused l ∙ sym (B .refused (subst (λ (r : Reading). 1 ≤ reader.told (r .answer) .number) e l))
 
 -- settling
 pub record-settles-one : (d : Desk) (o : List ℕ) (w : ℕ) (c : List ℕ) (v : ℕ) (e : List ℕ) →
@@ -123,6 +128,7 @@ record-settles-one d o w c v e A B =
 
 -- what counts
 pub record-counts-one : (o : List ℕ) (t w v : ℕ) → RecordCounts o t w → RecordCounts o t v → w ≡ v
+unfolding message.told
 record-counts-one o t w v A B = go (A .verdict) refl
   where
     of-message : (a : Accepts (rulesOf PresentLenient) o) (x : Option (List ℕ)) →
@@ -133,19 +139,22 @@ record-counts-one o t w v A B = go (A .verdict) refl
         words-one _ _ _ _ w v (A .counts m l e y c) (B .counts m l e y c)
 
     go : (x : Verdict) → A .verdict ≡ x → w ≡ v
-    go (Accepted n) e = of-message (A .judged .accepted n .0 e .1) _ refl
+    go (Accepted n) e = of-message (accepted-iff (A .judged) n .0 e .1) _ refl
     go (Declined f) e =
-        words-one _ _ _ _ w v (A .refused f e)
-        (B .refused f (sym (judges-one (languageOf PresentLenient) o _ _ (A .judged) (B .judged)) ∙ e))
+        let k = judges-one (languageOf PresentLenient) o _ _ (A .judged) (B .judged) in
+        let l : 1 ≤ message.told (A .verdict) .number =
+        subst (λ (x : Verdict). 1 ≤ message.told x .number) (sym e) (some-number (A .judged) f e) in
+        words-one _ _ _ _ w v (A .refused l)
+        (subst (λ (x : Verdict). Unpacked (message.told x .number) (message.told x .place) 0 0 v) (sym k)
+        (B .refused (subst (λ (x : Verdict). 1 ≤ message.told x .number) k l)))
 
 -- the caption
 pub record-finds-one : (o d c : List ℕ) (w : ℕ) (c' : List ℕ) (v : ℕ) (e : List ℕ) → RecordFinds o d c w c' →
     RecordFinds o d c v e → (w ≡ v) × (c' ≡ e)
-unfolding caption.told
 record-finds-one o d c w c' v e A B = (
   A .word .whole ∙ (λ i. packed (caption.told (x i) .number) (caption.told (x i) .place) 0 0)
       ∙ sym (B .word .whole),
-  cells (A .found) refl,
+  cells (decide (caption.told (A .found) .number =? 0)),
 )
   where
     x : A .found ≡ B .found
@@ -157,7 +166,8 @@ record-finds-one o d c w c' v e A B = (
         ∙ ap (λ (r : Shown). partRecord (caption.told r .side) (caption.told r .start) (caption.told r .size)) x
         ∙ sym (B .part (sym (ap (λ (x : Shown). caption.told x .number) x) ∙ z))
 
-    cells : (r : Shown) → A .found ≡ r → c' ≡ e
-    cells (found.InMessage start n) z = shown (ap (λ (x : Shown). caption.told x .number) z)
-    cells (found.InDirectory start n) z = shown (ap (λ (x : Shown). caption.told x .number) z)
-    cells (found.Refused f) z = A .refused f z ∙ sym (B .refused f (sym x ∙ z))
+    cells : T (caption.told (A .found) .number =? 0) ⊎ (T (caption.told (A .found) .number =? 0) → ⊥) → c' ≡ e
+    cells (inl t) = shown (eq-of _ _ t)
+    cells (inr n) =
+        let l = positive _ n in
+        A .refused l ∙ sym (B .refused (subst (λ (r : Shown). 1 ≤ caption.told r .number) x l))

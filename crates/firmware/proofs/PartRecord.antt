@@ -13,6 +13,7 @@ use Rattle.rules.proofs.Grammar.{accepted-size}
 use Rattle.rules.specs.declared.Book.the-variants.{PresentLenient}
 use Rattle.message.specs.declared.Verdict.the-variants.{Accepted}
 use Rattle.message.specs.Verdict.{verdictOf}
+use Rattle.message.proofs.Told.{accepted-iff}
 use Rattle.message.proofs.Judges.{judges-of}
 use Rattle.firmware.specs.PartRecord.{lowFirst, numberIn, sideCells, partRecord, partSide, partStart, partLength}
 use Rattle.firmware.specs.Sizes.{partSize}
@@ -20,7 +21,8 @@ use Rattle.firmware.specs.Sizes.{partSize}
 -- an accepted message has at most 258 octets
 pub accepted-small : (o : List ℕ) → Octets o → (n : ℕ) → verdictOf (rulesOf PresentLenient) o ≡ Accepted n →
     length o ≤ 258
-accepted-small o q n e = accepted-size (rulesOf PresentLenient) o (judges-of PresentLenient o q .accepted n .0 e .1) .1
+accepted-small o q n e =
+    accepted-size (rulesOf PresentLenient) o (accepted-iff (judges-of PresentLenient o q) n .0 e .1) .1
 
 -- octets laid over as many are all that stands there
 laid-whole : (v old : List ℕ) → length old ≡ length v → laid v old ≡ v

@@ -18,7 +18,7 @@ use Rattle.firmware.specs.Record.{recordOf}
 use Rattle.firmware.specs.DeskRecord.{isRecord, deskIn}
 use Rattle.firmware.specs.Word.{packed, wordNumber, wordPlace, wordSize, wordTaken, Unpacked, Seventeen}
 use Rattle.firmware.specs.Exports.{resetAnswer, resetRecord, wordOf, listenAnswer, listenRecord, readAnswer, readRecord, readTexts, newDeskAnswer, newDeskRecord, settleAnswer, settleRecord, countedAnswer, captionAnswer, captionRecord}
-use Rattle.firmware.specs.RecordHears.{SameEnd, RecordHears, RecordStands, Sound}
+use Rattle.firmware.specs.RecordHears.{SameEnd, RecordHears, Sound}
 use Rattle.firmware.specs.RecordReads.{RecordReads}
 use Rattle.firmware.specs.RecordSettles.{RecordSettles, IsDesk, RecordCall, lastSaidIn, SaysIn}
 use Rattle.firmware.specs.RecordParts.{RecordCounts, RecordFinds}
@@ -120,27 +120,27 @@ pub data RecordHasHeard : List ℕ → List ℕ → Type 0 where
   more : (c h o : List ℕ) (w : ℕ) (c' : List ℕ) → RecordHasHeard c h → Octets o → listen-gives c o w c' →
       RecordHasHeard c' (h ++ take (wordTaken w) o)
 
-pub stands : (c h : List ℕ) → RecordHasHeard c h → RecordStands c h
-stands c h (new b w d n k) = hears.reset-stands b d n (reset-cells b w d k)
-stands c h (more b g o w d k q x) =
-    hears.record-stands-on b g (stands b g k) o q w (listen-word b o w d x) d (listen-cells b o w d x)
+pub led-by : (c h : List ℕ) → RecordHasHeard c h → hears.RecordLedBy c h
+led-by c h (new b w d n k) = hears.reset-led b d n (reset-cells b w d k)
+led-by c h (more b g o w d k q x) =
+    hears.record-led-on b g (led-by b g k) o q w (listen-word b o w d x) d (listen-cells b o w d x)
 
 module _ (c h : List ℕ) (d : RecordHasHeard c h) (o : List ℕ) (q : Octets o) (w : ℕ) (c' : List ℕ)
     (k : listen-gives c o w c') where
   -- demand 3 in all its sentences, the octets taken too, read off the word
   pub demand3 : RecordHears (languageOf PresentLenient) h o w
-  demand3 = hears.record-hears c h (stands c h d) o q w (listen-word c o w c' k)
+  demand3 = hears.record-hears c h (led-by c h d) o q w (listen-word c o w c' k)
 
   -- a record from a reset and any octets is never 17: its numbers are 0 to 6
   pub never-17 : wordNumber w ≤ 6
-  never-17 = hears.sound-number c (hears.stands-sound c h (stands c h d)) o q w (listen-word c o w c' k)
+  never-17 = hears.sound-number c (hears.led-sound c h (led-by c h d)) o q w (listen-word c o w c' k)
 
   -- a message or a refusal, once given, is given again by each call after it, which takes none and leaves the record
   -- as it was
   pub answer-stays : (((wordNumber w ≡ 0) × (wordSize w ≡ 0)) → ⊥) → (o' : List ℕ) (w' : ℕ) (c'' : List ℕ) →
       listen-gives c' o' w' c'' → (w' ≡ packed (wordNumber w) (wordPlace w) (wordSize w) 0) × (c'' ≡ c')
   answer-stays n o' w' c'' x =
-      hears.answer-stays c h (stands c h d) o q w (listen-word c o w c' k) c' (listen-cells c o w c' k) n o' w' c''
+      hears.answer-stays c h (led-by c h d) o q w (listen-word c o w c' k) c' (listen-cells c o w c' k) n o' w' c''
       (listen-word c' o' w' c'' x) (listen-cells c' o' w' c'' x)
 
 -- any cutting ends as one run does, on any record

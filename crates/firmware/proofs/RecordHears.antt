@@ -25,9 +25,12 @@ use Rattle.listener.specs.declared.Listener.{Listener}
 use Rattle.listener.specs.declared.Answer.{Answer}
 use Rattle.listener.specs.declared.Answer.the-variants.{Waits, Message, Refused}
 use Rattle.listener.specs.declared.Heard.{Heard}
-use Rattle.listener.specs.Heard.{taken, answerOf, told, stepped, heardOf, newListener}
+use Rattle.listener.specs.Told.{told}
+use Rattle.listener.specs.Heard.{taken, answerOf, stepped, heardOf, newListener}
 use Rattle.listener.proofs.Hears as listening
-use Rattle.listener.proofs.Hears.{Ranged, ranged, waits-told, message-told, refused-told, taken-small, in-range-heard, out-of-range-heard, stands-in-range, stands-on, new-stands, hears}
+use Rattle.listener.proofs.Told.{told-waits, fields-waiting, fields-message, fields-refusal}
+use Rattle.listener.proofs.Hears.{LedBy, led-in-range, led-on, new-led, hears, Ranged, ranged, taken-small}
+use Rattle.listener.proofs.Hears.{in-range-heard, out-of-range-heard}
 use Rattle.firmware.specs.declared.Decoded.{Decoded}
 use Rattle.firmware.specs.declared.Decoded.the-variants.{Known, Unknown}
 use Rattle.firmware.specs.Record.{decodeOf, recordOf}
@@ -35,7 +38,7 @@ use Rattle.firmware.specs.Word.{packed, wordNumber, wordPlace, wordSize,
 use Rattle.firmware.specs.Exports.{badRecord, resetAnswer, resetRecord, wordOf, answered, recorded, listenAnswer, listenRecord}
 use Rattle.firmware.proofs.Coding.{Good, decode-encode, encode-decode, decoded-good}
 use Rattle.firmware.proofs.Classes.{Coded, run-coded, number-six}
-use Rattle.firmware.specs.RecordHears.{RecordHears, RecordStands, Sound, SameEnd}
+use Rattle.firmware.specs.RecordHears.{RecordHears, Sound, SameEnd}
 use Rattle.firmware.specs.Sizes.{listenerSize}
 
 -- the word of an answer is read back field by field
@@ -212,37 +215,46 @@ module _ (c a b : List ℕ) (w w₁ w₂ : ℕ) (d d₁ d₂ : List ℕ) (e : w 
       go (inr n) = cut-unsound n
 
 -- ---- a record that was reset, and any octets
-abbrev pub stands-sound : (c h : List ℕ) → RecordStands c h → Sound c
-stands-sound c h s =
-    record { listener = s .listener; known = s .known; in-range = stands-in-range (s .listener) h (s .stands) }
+-- a record stands for a listener that the octets h lead to
+pub record RecordLedBy (c h : List ℕ) : Type 0 where
+  pub listener : Listener
+  pub known : decodeOf c ≡ Known listener
+  pub led : LedBy listener h
 
-module _ (c h : List ℕ) (s : RecordStands c h) (o : List ℕ) (q : Octets o) (w : ℕ) (e : w ≡ listenAnswer c o) where
+abbrev pub led-sound : (c h : List ℕ) → RecordLedBy c h → Sound c
+led-sound c h s =
+    record { listener = s .listener; known = s .known; in-range = led-in-range (s .listener) h (s .led) }
+
+module _ (c h : List ℕ) (s : RecordLedBy c h) (o : List ℕ) (q : Octets o) (w : ℕ) (e : w ≡ listenAnswer c o) where
   abbrev heard : Heard
   heard = heardOf (s .listener) o
 
   fields :
       let a = told (heard .answer) in
       Unpacked (a .number) (a .place) (a .size) (heard .taken) w
-  fields = sound-fields c (stands-sound c h s) o q w e
+  fields = sound-fields c (led-sound c h s) o q w e
 
   record-hears-in : RecordHears (languageOf (s .listener .book)) h o w
   record-hears-in =
-      let said = hears (s .listener) h (s .stands) o q heard refl in
-      let g = sound-ranged c (stands-sound c h s) o q in
+      let said = hears (s .listener) h (s .led) o q heard refl in
+      let g = sound-ranged c (led-sound c h s) o q in
       record {
-        waits = rw (fields .number, fields .size) (Iff·trans (waits-told _ g) (said .waits));
-        has-message = λ n l. rw (fields .size) (Iff·trans (message-told _ n l) (said .has-message n));
-        refuses = λ f l. rw (fields .number, fields .place) (Iff·trans (refused-told _ f l) (said .refuses f));
+        waits = rw (fields .number, fields .size) (Iff·trans (fields-waiting _ (said .clear)) (said .waits));
+        has-message = λ n l. rw (fields .size) (Iff·trans (fields-message _ n l) (said .has-message n l));
+        refuses =
+            λ k p l. rw (fields .number, fields .place) (Iff·trans (fields-refusal _ k p l) (said .refuses k p l));
         taken-waiting =
             λ a b. fields .taken ∙ said .taken-waiting
-            (waits-told _ g .0 (sym (fields .number) ∙ a, sym (fields .size) ∙ b));
+            (fields-waiting _ (said .clear) .0 (sym (fields .number) ∙ a, sym (fields .size) ∙ b));
         taken-message =
             λ n l a. ap (λ (t : ℕ). length h + t) (fields .taken)
-            ∙ said .taken-message n (message-told _ n l .0 (sym (fields .size) ∙ a));
+            ∙ said .taken-message n l (fields-message _ n l .0 (sym (fields .size) ∙ a));
         taken-refused = λ l.
-            let f : Fault = record { number = told (heard .answer) .number; place = told (heard .answer) .place } in
+            let k = told (heard .answer) .number in
+            let p = told (heard .answer) .place in
+            let m : 1 ≤ k = omega (arith, fields .number) in
             ap (λ (t : ℕ). length h + t) (fields .taken)
-            ∙ said .taken-refused f (refused-told _ f (omega (arith, fields .number)) .0 (refl, refl))
+            ∙ said .taken-refused k p m (fields-refusal _ k p m .0 (refl, refl))
             ∙ ap suc (sym (fields .place));
         no-place = λ a. fields .place ∙ no-place _ g (sym (fields .number) ∙ a);
         no-size = λ l. fields .size ∙ no-size _ (omega (arith, fields .number));
@@ -253,22 +265,23 @@ module _ (c h : List ℕ) (s : RecordStands c h) (o : List ℕ) (q : Octets o) (
             let y = sym (fields .taken) in
             fields .whole ∙ (λ i. packed (u i) (v i) (x i) (y i));
         answers-by-258 =
-            λ a b. said .answers-by-258 (waits-told _ g .0 (sym (fields .number) ∙ a, sym (fields .size) ∙ b));
+            λ a b. said .answers-by-258
+            (fields-waiting _ (said .clear) .0 (sym (fields .number) ∙ a, sym (fields .size) ∙ b));
       }
 
   pub record-hears : RecordHears (languageOf PresentLenient) h o w
   record-hears = subst (λ (b : Book). RecordHears (languageOf b) h o w)
       (decoded-good c (s .listener) (s .known) .0) record-hears-in
 
-  pub record-stands-on : (d : List ℕ) → d ≡ listenRecord c o → RecordStands d (h ++ take (wordTaken w) o)
-  record-stands-on d f = record {
+  pub record-led-on : (d : List ℕ) → d ≡ listenRecord c o → RecordLedBy d (h ++ take (wordTaken w) o)
+  record-led-on d f = record {
     listener = heard .listener;
-    known = sound-stays c (stands-sound c h s) o q d f .known;
-    stands = rw (fields .taken) (stands-on (s .listener) h (s .stands) o q heard refl);
+    known = sound-stays c (led-sound c h s) o q d f .known;
+    led = rw (fields .taken) (led-on (s .listener) h (s .led) o q heard refl);
   }
 
 -- an answer that a call gave, the next call on the record gives again, takes none and leaves the record as it was
-module _ (c h : List ℕ) (s : RecordStands c h) (o : List ℕ) (q : Octets o) (w : ℕ) (e : w ≡ listenAnswer c o)
+module _ (c h : List ℕ) (s : RecordLedBy c h) (o : List ℕ) (q : Octets o) (w : ℕ) (e : w ≡ listenAnswer c o)
     (d : List ℕ) (f : d ≡ listenRecord c o) where
   pub answer-stays : (((wordNumber w ≡ 0) × (wordSize w ≡ 0)) → ⊥) → (o' : List ℕ) (w' : ℕ) (d' : List ℕ) →
       w' ≡ listenAnswer d o' → d' ≡ listenRecord d o' → (w' ≡ packed (wordNumber w) (wordPlace w) (wordSize w) 0) × (d' ≡ d)
@@ -276,28 +289,29 @@ module _ (c h : List ℕ) (s : RecordStands c h) (o : List ℕ) (q : Octets o) (
   answer-stays n o' w' d' e' f' =
       let l = s .listener in
       let r = heardOf l o in
-      let g = sound-ranged c (stands-sound c h s) o q in
       let u = fields c h s o q w e in
-      let t = sound-stays c (stands-sound c h s) o q d f in
-      let k = listening.answer-stays l h (s .stands) o q r refl
-      (λ z. let y = waits-told _ g .1 z in n (u .number ∙ y .0, u .size ∙ y .1)) o' (heardOf (r .listener) o') refl in
+      let y = hears l h (s .led) o q r refl .clear in
+      let t = sound-stays c (led-sound c h s) o q d f in
+      let k = listening.answer-stays l h (s .led) o q r refl
+      (λ z. let x = fields-waiting _ y .1 (told-waits _ y .1 z) in n (u .number ∙ x .0, u .size ∙ x .1)) o'
+      (heardOf (r .listener) o') refl in
       let x = sym (u .number) in
       let y = sym (u .place) in
       let z = sym (u .size) in (
         e' ∙ sound-word d t o' ∙ ap wordOf k ∙ (λ i. packed (x i) (y i) (z i) 0),
         f' ∙ sound-record d t o' ∙ ap (λ (v : Heard). recordOf (v .listener)) k
-            ∙ sym (f ∙ sound-record c (stands-sound c h s) o),
+            ∙ sym (f ∙ sound-record c (led-sound c h s) o),
       )
 
 -- ---- reset
-pub reset-stands : (c d : List ℕ) → length c ≡ listenerSize → d ≡ resetRecord c → RecordStands d []
+pub reset-led : (c d : List ℕ) → length c ≡ listenerSize → d ≡ resetRecord c → RecordLedBy d []
 unfolding resetRecord newListener machine
-reset-stands c d n e =
+reset-led c d n e =
     let k : d ≡ recordOf (newListener PresentLenient) = e ∙ pick-yes _ _ _ (of-eq _ _ n) in
     record {
       listener = newListener PresentLenient;
       known = ap decodeOf k ∙ decode-encode (newListener PresentLenient) refl tt;
-      stands = new-stands PresentLenient;
+      led = new-led PresentLenient;
     }
 
 pub reset-new : (c : List ℕ) (w : ℕ) (d : List ℕ) → w ≡ resetAnswer c → d ≡ resetRecord c →

@@ -18,19 +18,23 @@ use Rattle.rules.specs.Message.{Message, octets, LegalMessage}
 use Rattle.rules.specs.Counting.{counted, Counts}
 use Rattle.rules.proofs.Grammar.{spoken-of, accepted-size}
 use Rattle.message.specs.declared.Verdict.{Verdict}
-use Rattle.message.specs.declared.Verdict.the-variants.{Declined}
+use Rattle.message.specs.declared.Verdict.the-variants.{Accepted, Declined}
+use Rattle.message.specs.Told as message
 use Rattle.message.specs.declared.Part.{Part}
 use Rattle.message.specs.declared.Part.the-variants.{At, Nowhere}
 use Rattle.message.specs.Verdict.{verdictOf}
 use Rattle.message.proofs.Judges.{judges-of, told-small, near-declined}
+use Rattle.message.proofs.Told.{accepted-iff, number-of}
 use Rattle.message.specs.Walking.{countedAt, partOf}
 use Rattle.message.proofs.Searching.{counted-part}
 use Rattle.message.specs.Places.{contentsAt}
 use Rattle.message.proofs.Places.{counted-at, counted-inside}
 use Rattle.caption.specs.declared.Shown.{Shown}
 use Rattle.caption.specs.declared.Shown.the-variants as found
-use Rattle.caption.specs.Caption.{findOf, told, sliceOf}
+use Rattle.caption.specs.Told.{told}
+use Rattle.caption.specs.Caption.{findOf, sliceOf}
 use Rattle.caption.proofs.Finds.{finds}
+use Rattle.caption.proofs.Told.{some-number, declined-so}
 use Rattle.firmware.specs.Word.{packed, Unpacked, unpacked, Seventeen, seventeen}
 use Rattle.firmware.specs.PartRecord.{partRecord, partSide, partStart, partLength}
 use Rattle.firmware.proofs.PartRecord.{part-back}
@@ -44,7 +48,7 @@ refusal-word : (o : List ℕ) → Octets o → (f : Fault) → verdictOf (rulesO
 refusal-word o q f e =
     let j = judges-of PresentLenient o q in
     unpacked (f .number) (f .place) 0 0
-    (omega (arith, told-small (spoken-of PresentLenient) _ (j .numbers f e) .1))
+    (omega (arith, told-small (spoken-of PresentLenient) _ (number-of j f e) .1))
     (omega (arith, near-declined j f e)) (omega arith) (omega arith)
 
 module _ (o : List ℕ) (t w : ℕ) (a : w ≡ countedAnswer o t) (q : Octets o) where
@@ -55,12 +59,19 @@ module _ (o : List ℕ) (t w : ℕ) (a : w ≡ countedAnswer o t) (q : Octets o)
   unfolding countedAnswer countedUnder
   refused-is f e = a ∙ ap (λ (x : Verdict). countedUnder x o t) e
 
+  refused-word : (x : Verdict) → v ≡ x → 1 ≤ message.told x .number →
+      Unpacked (message.told x .number) (message.told x .place) 0 0 w
+  unfolding message.told
+  refused-word (Accepted n) e l = absurd (omega arith)
+  refused-word (Declined f) e l =
+      subst (Unpacked (f .number) (f .place) 0 0) (sym (refused-is f e)) (refusal-word o q f e)
+
   part-is : (m : Message) → LegalMessage (rulesOf PresentLenient) m → octets m ≡ o →
       w ≡ partWord (countedAt (rulesOf PresentLenient) o t)
   unfolding countedAnswer countedUnder
   part-is m l e =
       a ∙ ap (λ (x : Verdict). countedUnder x o t)
-      (judges-of PresentLenient o q .accepted (length o) .1 (refl, (m, l, e)))
+      (accepted-iff (judges-of PresentLenient o q) (length o) .1 (refl, (m, l, e)))
 
   counts-word : (m : Message) → LegalMessage (rulesOf PresentLenient) m → octets m ≡ o →
       (x : List ℕ) (c : Counts (rulesOf PresentLenient) m t x) → Unpacked 0 0 (length x) (contentsAt (c .first)) w
@@ -91,7 +102,7 @@ module _ (o : List ℕ) (t w : ℕ) (a : w ≡ countedAnswer o t) (q : Octets o)
   record-counts = record {
     verdict = v;
     judged = judges-of PresentLenient o q;
-    refused = λ f e. subst (Unpacked (f .number) (f .place) 0 0) (sym (refused-is f e)) (refusal-word o q f e);
+    refused = refused-word v refl;
     counts = counts-word;
     none-counts = none-word;
   }
@@ -119,8 +130,8 @@ module _ (o d c : List ℕ) (w : ℕ) (c' : List ℕ) (a : w ≡ captionAnswer o
     unfolding captionAnswer foundWord
     word-is =
         let x = finds PresentLenient o d q in
-        let k = found-small r (λ f e. let y = x .refused f .0 e in (
-          omega (arith, told-small (spoken-of PresentLenient) _ (x .judged .numbers f y) .1),
+        let k = found-small r (λ f e. let y = declined-so x f e in (
+          omega (arith, told-small (spoken-of PresentLenient) _ (number-of (x .judged) f y) .1),
           near-declined
               (x .judged) f y,
         )) in
@@ -131,6 +142,12 @@ module _ (o d c : List ℕ) (w : ℕ) (c' : List ℕ) (a : w ≡ captionAnswer o
     cells-are : c' ≡ partFrom c r
     unfolding captionRecord
     cells-are = b ∙ pick-yes (length c =? partSize) _ c (of-eq _ _ n)
+
+    kept : (x : Shown) → 1 ≤ told x .number → partFrom c x ≡ c
+    unfolding partFrom told
+    kept (found.InMessage start k) l = absurd (omega arith)
+    kept (found.InDirectory start k) l = absurd (omega arith)
+    kept (found.Refused f) l = refl
 
     part-from : (x : Shown) → ((f : Fault) → x ≡ found.Refused f → 1 ≤ f .number) → told x .number ≡ 0 →
         partFrom c x ≡ partRecord (told x .side) (told x .start) (told x .size)
@@ -150,7 +167,7 @@ module _ (o d c : List ℕ) (w : ℕ) (c' : List ℕ) (a : w ≡ captionAnswer o
     part-is-found e =
         let x = finds PresentLenient o d q in
         cells-are
-        ∙ part-from r (λ f k. told-small (spoken-of PresentLenient) _ (x .judged .numbers f (x .refused f .0 k)) .0) e
+        ∙ part-from r (some-number x) e
 
     back : length d < 256 ^ 8 → told r .number ≡ 0 →
         (partSide c' ≡ told r .side) × (partStart c' ≡ told r .start) × (partLength c' ≡ told r .size)
@@ -172,5 +189,5 @@ module _ (o d c : List ℕ) (w : ℕ) (c' : List ℕ) (a : w ≡ captionAnswer o
           word = word-is;
           part = part-is-found;
           read-back = back;
-          refused = λ f e. cells-are ∙ ap (partFrom c) e;
+          refused = λ l. cells-are ∙ kept r l;
         }

@@ -1,6 +1,6 @@
 -- A read through the exports is the read, its answer packed into a word that is read back.
 -- Assumes nothing.
-use Prim.Native.Nat.{ℕ}
+use Prim.Native.Nat.{ℕ, _≤_}
 use mathlib.Core.Path.{_≡_, refl, sym, _∙_, ap, subst}
 use mathlib.Core.Logic.{_⊎_, inl, inr}
 use mathlib.Core.List.{List}
@@ -14,15 +14,18 @@ use Rattle.rules.specs.Table.{rulesOf}
 use Rattle.rules.specs.declared.Book.the-variants.{PresentLenient}
 use Rattle.rules.proofs.ContentLaw.{sound-rules}
 use Rattle.rules.specs.Message.{Accepts}
+use Rattle.rules.specs.declared.Fault.{Fault}
 use Rattle.draft.specs.declared.Draft.{Draft}
 use Rattle.draft.specs.Draft.{noEntry}
 use Rattle.draft.specs.Packing.{draftOf}
-use Rattle.reader.specs.declared.Packed.the-variants.{Texts}
+use Rattle.reader.specs.declared.Packed.the-variants.{Texts, Refused}
 use Rattle.reader.specs.declared.Reading.{Reading}
 use Rattle.reader.specs.declared.Packed.{Packed}
 use Rattle.reader.specs.Read.{packOf, readOf, draftFrom, areaAfter}
-use Rattle.reader.specs.Reads.{Reads, texts, told}
+use Rattle.reader.specs.Told.{told}
+use Rattle.reader.specs.Reads.{Reads, texts}
 use Rattle.reader.proofs.Answered.{reads-of, near, area-enough}
+use Rattle.reader.proofs.Told.{short-iff, drafted-as, texts-accepted, some-number}
 use Rattle.firmware.specs.Word.{Unpacked, unpacked, Seventeen, seventeen}
 use Rattle.firmware.specs.DraftRecord.{draftRecord, entryIn}
 use Rattle.firmware.proofs.DraftRecord.{entry-back, draft-inside}
@@ -70,6 +73,16 @@ module _ (o c t : List ℕ) (w : ℕ) (c' t' : List ℕ) (a : w ≡ readAnswer o
         subst (Reads (rulesOf PresentLenient) o t r) (sym texts-are)
         (reads-of (rulesOf PresentLenient) (sound-rules PresentLenient) o t q)
 
+    texts-answer : (x : Packed) → r .answer ≡ x → told x .number ≡ 0 → (k : ℕ) × (r .answer ≡ Texts k)
+    unfolding told
+    texts-answer (Texts k) e z = (k, e)
+    texts-answer (Refused f) e z = absurd (omega (arith, z, some-number reads-is f e))
+
+    refused-answer : (x : Packed) → r .answer ≡ x → 1 ≤ told x .number → (f : Fault) × (r .answer ≡ Refused f)
+    unfolding told
+    refused-answer (Texts k) e l = absurd (omega arith)
+    refused-answer (Refused f) e l = (f, e)
+
     record-of : (k : ℕ) → r .answer ≡ Texts k → c' ≡ draftRecord (r .draft)
     unfolding readOf draftFrom recordFrom
     record-of k e = cells-are ∙ ap (recordFrom o c) e
@@ -81,7 +94,8 @@ module _ (o c t : List ℕ) (w : ℕ) (c' t' : List ℕ) (a : w ≡ readAnswer o
         × ((i : ℕ) → entryIn c' i ≡ getD (r .draft .entries) i noEntry)
     unfolding draftRecord
     back k e =
-        go (reads-is .only k e) (decide (length (texts (rulesOf PresentLenient) (reads-is .only k e .0)) ≤? length t))
+        go (texts-accepted reads-is k e)
+        (decide (length (texts (rulesOf PresentLenient) (texts-accepted reads-is k e .0)) ≤? length t))
       where
         of-draft : (x : Draft) → r .draft ≡ x →
             ((i : ℕ) → entryIn (draftRecord x) i ≡ getD (x .entries) i noEntry) →
@@ -103,12 +117,13 @@ module _ (o c t : List ℕ) (w : ℕ) (c' t' : List ℕ) (a : w ≡ readAnswer o
             (getD c' 0 0 ≡ r .draft .kind) × (getD c' 1 0 ≡ r .draft .count)
             × ((i : ℕ) → entryIn c' i ≡ getD (r .draft .entries) i noEntry)
         go (m, l, z) (inl h) =
-            let x = reads-is .drafted m l z (le-of _ _ h) in
+            let x = drafted-as reads-is m l z (le-of _ _ h) in
             of-draft (draftOf (rulesOf PresentLenient) m) (ap (λ (y : Reading). y .draft) (x .0))
             (λ i. entry-back (draftOf (rulesOf PresentLenient) m) i (texts (rulesOf PresentLenient) m)
             (omega (arith, area-enough (rulesOf PresentLenient) m l)) (draft-inside (rulesOf PresentLenient) m i))
         go (m, l, z) (inr h) =
-            clash (cc (e, reads-is .short (length (texts (rulesOf PresentLenient) m)) .1 (m, l, z, refl, not-le _ _ h)))
+            let x = short-iff reads-is (length (texts (rulesOf PresentLenient) m)) .1 (m, l, z, refl, not-le _ _ h) in
+            clash (cc (e, x))
 
     pub record-reads : RecordReads o c t w c' t'
     unfolding readOf draftFrom recordFrom
@@ -116,7 +131,7 @@ module _ (o c t : List ℕ) (w : ℕ) (c' t' : List ℕ) (a : w ≡ readAnswer o
       reading = r;
       reads = reads-is;
       word = word-is;
-      drafted = record-of;
-      refused = λ f e. cells-are ∙ ap (recordFrom o c) e;
-      read-back = back;
+      drafted = λ z. let e = texts-answer _ refl z in record-of (e .0) (e .1);
+      refused = λ l. cells-are ∙ ap (recordFrom o c) (refused-answer _ refl l .1);
+      read-back = λ z. let e = texts-answer _ refl z in back (e .0) (e .1);
     }

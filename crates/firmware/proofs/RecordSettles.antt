@@ -27,11 +27,13 @@ use Rattle.desk.specs.declared.Answer.{Answer}
 use Rattle.desk.specs.declared.Answer.the-variants.{Done, Refused}
 use Rattle.desk.specs.declared.Outcome.{Outcome}
 use Rattle.desk.proofs.Holding.{all-free}
-use Rattle.desk.specs.Settle.{newDesk, settleOf, told}
+use Rattle.desk.specs.Told.{told}
+use Rattle.desk.specs.Settle.{newDesk, settleOf}
 use Rattle.desk.specs.History.{saidUnder, said, later, lastSaid, Call, OpenBy, Names}
 use Rattle.desk.proofs.Words as words
 use Rattle.desk.proofs.History.{History, open-by-last}
 use Rattle.desk.proofs.Settles as settles
+use Rattle.desk.proofs.Told.{unfit-iff, refused-iff, full-iff, done-iff, some-number, number-of, refusal-leaves}
 use Rattle.desk.specs.Settles.{Settles}
 use Rattle.desk.specs.References.{placeCount}
 use Rattle.firmware.specs.DeskRecord.{isRecord, deskIn, deskRecord}
@@ -50,7 +52,7 @@ module _ (d : Desk) (o : List ℕ) (x : Outcome) (s : Settles (rulesOf PresentLe
   number-small : (a : Answer) → x .answer ≡ a → told a .number ≤ 21
   unfolding told
   number-small Done e = omega arith
-  number-small (Refused f) e = go (s .numbers f e)
+  number-small (Refused f) e = go (number-of s f e)
     where
       go : T (verdictNumber (languageOf PresentLenient) (f .number)) ⊎ ((f .number ≡ 17) ⊎ (f .number ≡ 21)) →
           f .number ≤ 21
@@ -61,13 +63,13 @@ module _ (d : Desk) (o : List ℕ) (x : Outcome) (s : Settles (rulesOf PresentLe
   near : (a : Answer) → x .answer ≡ a → told a .place ≤ 258
   unfolding told
   near Done e = omega arith
-  near (Refused f) e = go (s .numbers f e)
+  near (Refused f) e = go (number-of s f e)
     where
       go : T (verdictNumber (languageOf PresentLenient) (f .number)) ⊎ ((f .number ≡ 17) ⊎ (f .number ≡ 21)) →
           f .place ≤ 258
-      go (inl h) = near-declined (s .judged) f (s .refused f h .0 e .1)
-      go (inr (inl h)) = omega (arith, s .seventeen (f .place) .0 (e ∙ ap Refused (fault-of f 17 h)) .0)
-      go (inr (inr h)) = omega (arith, s .full (f .place) .0 (e ∙ ap Refused (fault-of f 21 h)) .0)
+      go (inl h) = near-declined (s .judged) f (refused-iff s f (some-number s f e) h .0 e .1)
+      go (inr (inl h)) = omega (arith, unfit-iff s (f .place) .0 (e ∙ ap Refused (fault-of f 17 h)) .0)
+      go (inr (inr h)) = omega (arith, full-iff s (f .place) .0 (e ∙ ap Refused (fault-of f 21 h)) .0)
 
 module _ (c o : List ℕ) (w : ℕ) (c' : List ℕ) (a : w ≡ settleAnswer c o) (b : c' ≡ settleRecord c o) where
   pub seventeen : (T (isRecord c) → ⊥) → Seventeen c w c'
@@ -97,9 +99,9 @@ module _ (c o : List ℕ) (w : ℕ) (c' : List ℕ) (a : w ≡ settleAnswer c o)
 
   module _ (q : Octets o) where
     -- what the word's number says of the answer
-    number-of : (t : T (isRecord c)) (y : RecordSettles (deskIn c) o w c') (k : Answer) → y .outcome .answer ≡ k →
+    word-number : (t : T (isRecord c)) (y : RecordSettles (deskIn c) o w c') (k : Answer) → y .outcome .answer ≡ k →
         wordNumber w ≡ told k .number
-    number-of t y k e = y .word .number ∙ ap (λ (x : Answer). told x .number) e
+    word-number t y k e = y .word .number ∙ ap (λ (x : Answer). told x .number) e
 
     -- 17 exactly for a record of another size, with a code or number out of range, or with a reference twice
     pub seventeen-iff : (wordNumber w ≡ 17) ↔ (IsDesk c → ⊥)
@@ -109,14 +111,14 @@ module _ (c o : List ℕ) (w : ℕ) (c' : List ℕ) (a : w ≡ settleAnswer c o)
         desk : (t : T (isRecord c)) (y : RecordSettles (deskIn c) o w c') (k : Answer) → y .outcome .answer ≡ k →
             (wordNumber w ≡ 17) ↔ (IsDesk c → ⊥)
         desk t y Done e = (
-          λ x. absurd (omega (arith, x, number-of t y Done e)),
-          λ n. absurd (n (record { codes = t; places = y .settles .done .0 e .0 })),
+          λ x. absurd (omega (arith, x, word-number t y Done e)),
+          λ n. absurd (n (record { codes = t; places = done-iff (y .settles) .0 e .0 })),
         )
         desk t y (Refused f) e = (
-          λ x i. y .settles .seventeen (f .place) .0
-              (e ∙ ap Refused (fault-of f 17 (sym (number-of t y (Refused f) e) ∙ x))) .1 (i .places),
-          λ n. number-of t y (Refused (noted 17 0))
-              (y .settles .seventeen 0 .1 (refl, λ i. n (record { codes = t; places = i }))),
+          λ x i. unfit-iff (y .settles) (f .place) .0
+              (e ∙ ap Refused (fault-of f 17 (sym (word-number t y (Refused f) e) ∙ x))) .1 (i .places),
+          λ n. word-number t y (Refused (noted 17 0))
+              (unfit-iff (y .settles) 0 .1 (refl, λ i. n (record { codes = t; places = i }))),
         )
 
         go : T (isRecord c) ⊎ (T (isRecord c) → ⊥) → (wordNumber w ≡ 17) ↔ (IsDesk c → ⊥)
@@ -138,8 +140,8 @@ module _ (c o : List ℕ) (w : ℕ) (c' : List ℕ) (a : w ≡ settleAnswer c o)
 
         desk : (t : T (isRecord c)) (y : RecordSettles (deskIn c) o w c') (k : Answer) → y .outcome .answer ≡ k →
             (wordNumber w ≤ 8) ⊎ ((wordNumber w ≡ 17) ⊎ (wordNumber w ≡ 21))
-        desk t y Done e = inl (omega (arith, number-of t y Done e))
-        desk t y (Refused f) e = of-fault (wordNumber w) f (number-of t y (Refused f) e) (y .settles .numbers f e)
+        desk t y Done e = inl (omega (arith, word-number t y Done e))
+        desk t y (Refused f) e = of-fault (wordNumber w) f (word-number t y (Refused f) e) (number-of (y .settles) f e)
 
         go : T (isRecord c) ⊎ (T (isRecord c) → ⊥) → (wordNumber w ≤ 8) ⊎ ((wordNumber w ≡ 17) ⊎ (wordNumber w ≡ 21))
         go (inl t) = let y = record-settles q t in desk t y (y .outcome .answer) refl
@@ -152,8 +154,8 @@ module _ (c o : List ℕ) (w : ℕ) (c' : List ℕ) (a : w ≡ settleAnswer c o)
       where
         refused : (t : T (isRecord c)) (y : RecordSettles (deskIn c) o w c') (x : Answer) →
             y .outcome .answer ≡ x → c' ≡ c
-        refused t y Done e = absurd (omega (arith, number-of t y Done e))
-        refused t y (Refused f) e = y .cells ∙ ap deskRecord (y .settles .refusal-stays f e) ∙ encode-decode c k t
+        refused t y Done e = absurd (omega (arith, word-number t y Done e))
+        refused t y (Refused f) e = y .cells ∙ ap deskRecord (refusal-leaves (y .settles) f e) ∙ encode-decode c k t
 
         go : T (isRecord c) ⊎ (T (isRecord c) → ⊥) → c' ≡ c
         go (inl t) = let y = record-settles q t in refused t y (y .outcome .answer) refl
@@ -166,8 +168,10 @@ small-after : (d : Desk) (o : List ℕ) (x : Outcome) → Settles (rulesOf Prese
 small-after d o x s w = go (x .answer) refl
   where
     go : (a : Answer) → x .answer ≡ a → Small (x .desk .places)
-    go Done e = record { long = s .as-many ∙ w .long; below = λ i. omega (arith, s .fits (s .done .0 e .0) .range i) }
-    go (Refused f) e = subst (λ (y : Desk). Small (y .places)) (sym (s .refusal-stays f e)) w
+    go Done e =
+        let f = s .fits (done-iff s .0 e .0) in
+        record { long = s .as-many ∙ w .long; below = λ i. omega (arith, f .range i) }
+    go (Refused f) e = subst (λ (y : Desk). Small (y .places)) (sym (refusal-leaves s f e)) w
 
 pub again : (c o : List ℕ) → Octets c → Octets o → (w : ℕ) (c₁ : List ℕ) (w₂ : ℕ) (c₂ : List ℕ) →
     w ≡ settleAnswer c o → c₁ ≡ settleRecord c o → w₂ ≡ settleAnswer c₁ o → c₂ ≡ settleRecord c₁ o → (w₂ ≡ w) × (c₂ ≡ c₁)
@@ -249,7 +253,7 @@ module _ (c : List ℕ) (t : T (isRecord c)) (w : Small (deskIn c .places)) (x :
           pick-yes _ _ _ (of-eq _ _ (number-is ∙ ap (λ (x : Answer). told x .number) e))
           ∙ ap (saidUnder (rulesOf PresentLenient) r (x .octets)) (sym e)
       go (Refused f) e =
-          pick-not _ _ _ (λ z. no-number f (settles.settles PresentLenient (deskIn c) (x .octets) q .numbers f e)
+          pick-not _ _ _ (λ z. no-number f (number-of (settles.settles PresentLenient (deskIn c) (x .octets) q) f e)
           (sym (ap (λ (x : Answer). told x .number) e) ∙ sym number-is ∙ eq-of _ _ z))
           ∙ ap (saidUnder (rulesOf PresentLenient) r (x .octets)) (sym e)
 
@@ -268,9 +272,9 @@ module _ (c : List ℕ) (t : T (isRecord c)) (w : Small (deskIn c .places)) (x :
   after-record = subst (λ (y : List ℕ). T (isRecord y)) (sym after-is) (record-is (as-call .outcome .desk) after-small)
 
   -- number 0 exactly where the desk's own call is done
-  done-iff : (as-call .outcome .answer ≡ Done) ↔ (wordNumber (x .word) ≡ 0)
+  call-done : (as-call .outcome .answer ≡ Done) ↔ (wordNumber (x .word) ≡ 0)
   unfolding told
-  done-iff = (
+  call-done = (
     λ e. number-is ∙ ap (λ (x : Answer). told x .number) e,
     λ e. go (as-call .outcome .answer) refl (sym number-is ∙ e),
   )
@@ -279,7 +283,7 @@ module _ (c : List ℕ) (t : T (isRecord c)) (w : Small (deskIn c .places)) (x :
           as-call .outcome .answer ≡ Done
       go Done e z = e
       go (Refused f) e z =
-          absurd (no-number f (settles.settles PresentLenient (deskIn c) (x .octets) q .numbers f e)
+          absurd (no-number f (number-of (settles.settles PresentLenient (deskIn c) (x .octets) q) f e)
           (sym (ap (λ (x : Answer). told x .number) e) ∙ z))
 
   names-iff : (s r : ℕ) → Names as-call s r ↔ NamesIn x s r
@@ -289,7 +293,7 @@ module _ (c : List ℕ) (t : T (isRecord c)) (w : Small (deskIn c .places)) (x :
       legal = n .legal;
       is = n .is;
       notice = n .notice;
-      done = done-iff .0 (n .done);
+      done = call-done .0 (n .done);
       high = n .high;
       low = n .low;
       counts = n .counts;
@@ -300,7 +304,7 @@ module _ (c : List ℕ) (t : T (isRecord c)) (w : Small (deskIn c .places)) (x :
       legal = n .legal;
       is = n .is;
       notice = n .notice;
-      done = done-iff .1 (n .done);
+      done = call-done .1 (n .done);
       high = n .high;
       low = n .low;
       counts = n .counts;

@@ -9,7 +9,8 @@ use Rattle.rules.specs.Table.{rulesOf}
 use Rattle.rules.specs.declared.Book.the-variants.{PresentLenient}
 use Rattle.listener.specs.declared.Listener.{Listener}
 use Rattle.listener.specs.declared.Heard.{Heard}
-use Rattle.listener.specs.Heard.{told, heardOf, newListener}
+use Rattle.listener.specs.Told.{told}
+use Rattle.listener.specs.Heard.{heardOf, newListener}
 use Rattle.draft.specs.Packing.{draftOf}
 use Rattle.message.specs.Parameters.{messageIn}
 use Rattle.message.specs.declared.Verdict.{Verdict}
@@ -20,14 +21,14 @@ use Rattle.message.specs.Verdict.{verdictOf}
 use Rattle.message.specs.Walking.{countedAt}
 use Rattle.caption.specs.declared.Shown.{Shown}
 use Rattle.caption.specs.declared.Shown.the-variants as found
-use Rattle.caption.specs.Caption as caption
+use Rattle.caption.specs.Told as caption
 use Rattle.caption.specs.Caption.{findOf}
 use Rattle.reader.specs.declared.Packed.{Packed}
 use Rattle.reader.specs.declared.Packed.the-variants.{Texts, Refused}
 use Rattle.reader.specs.Read.{packOf, areaAfter}
-use Rattle.reader.specs.Reads as reads
+use Rattle.reader.specs.Told as reader
 use Rattle.desk.specs.declared.Answer as desk
-use Rattle.desk.specs.Settle as settle
+use Rattle.desk.specs.Told as settled
 use Rattle.desk.specs.Settle.{newDesk, settleOf}
 use Rattle.firmware.specs.DeskRecord.{isRecord, deskIn, deskRecord}
 use Rattle.firmware.specs.DraftRecord.{draftRecord}
@@ -73,7 +74,7 @@ listenRecord c o = recorded (decodeOf c) c o
 -- ---- the whole read: the record is only written, so its size alone is judged; the answer's size is the text octets
 -- laid down
 unfoldable pub packedWord : Packed → ℕ
-packedWord p = packed (reads.told p .number) (reads.told p .place) (reads.told p .size) 0
+packedWord p = packed (reader.told p .number) (reader.told p .place) (reader.told p .size) 0
 
 unfoldable pub readAnswer : List ℕ → List ℕ → List ℕ → ℕ
 readAnswer o c t = pick (length c =? draftSize) (packedWord (packOf (rulesOf PresentLenient) o (length t))) badRecord
@@ -98,7 +99,7 @@ newDeskRecord c = pick (length c =? deskSize) (deskRecord newDesk) c
 
 -- number and place of an answer as a word
 unfoldable pub deskWord : desk.Answer → ℕ
-deskWord a = packed (settle.told a .number) (settle.told a .place) 0 0
+deskWord a = packed (settled.told a .number) (settled.told a .place) 0 0
 
 -- a record that is a desk's: word and record of that desk's settling; any other is 17 and stays
 unfoldable pub settleAnswer : List ℕ → List ℕ → ℕ

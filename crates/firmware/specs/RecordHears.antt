@@ -8,9 +8,7 @@ use lib.ListN.{length, take}
 use lib.Dec.{T}
 use Rattle.rules.specs.Endings.{Ending, Spoilt, Numbered}
 use Rattle.rules.specs.Language.{Language, languageOf}
-use Rattle.rules.specs.declared.Fault.{Fault}
 use Rattle.listener.specs.declared.Listener.{Listener}
-use Rattle.listener.specs.Hears.{Stands}
 use Rattle.firmware.specs.declared.Decoded.the-variants.{Known}
 use Rattle.firmware.specs.Record.{decodeOf}
 use Rattle.firmware.specs.Word.{packed, wordNumber, wordPlace, wordSize, wordTaken}
@@ -22,9 +20,9 @@ pub record RecordHears (L : Language) (h o : List ℕ) (w : ℕ) : Type 0 where
   -- a size: exactly that of the first octets that are accepted
   pub has-message : (n : ℕ) → 1 ≤ n → (wordSize w ≡ n) ↔ ((n ≤ length (h ++ o)) × L .Accepts (take n (h ++ o)))
   -- a number: exactly at the octet that spoils the message, with the number of that octet's role
-  pub refuses : (f : Fault) → 1 ≤ f .number →
-      ((wordNumber w ≡ f .number) × (wordPlace w ≡ f .place)) ↔
-      (Spoilt (L .Accepts) (h ++ o) (f .place) × Numbered (L .Accepts) (L .roles) (h ++ o) (f .place) (f .number))
+  pub refuses : (k p : ℕ) → 1 ≤ k →
+      ((wordNumber w ≡ k) × (wordPlace w ≡ p)) ↔
+      (Spoilt (L .Accepts) (h ++ o) p × Numbered (L .Accepts) (L .roles) (h ++ o) p k)
   -- octets taken: the whole run while it waits, the message's octets and no more, the spoiling octet but none after it
   pub taken-waiting : wordNumber w ≡ 0 → wordSize w ≡ 0 → wordTaken w ≡ length o
   pub taken-message : (n : ℕ) → 1 ≤ n → wordSize w ≡ n → length h + wordTaken w ≡ n
@@ -35,12 +33,6 @@ pub record RecordHears (L : Language) (h o : List ℕ) (w : ℕ) : Type 0 where
   pub whole : w ≡ packed (wordNumber w) (wordPlace w) (wordSize w) (wordTaken w)
   -- it has its answer after 258 octets at the latest
   pub answers-by-258 : wordNumber w ≡ 0 → wordSize w ≡ 0 → length (h ++ o) < 258
-
--- a record stands for a listener that the octets h lead to
-pub record RecordStands (c h : List ℕ) : Type 0 where
-  pub listener : Listener
-  pub known : decodeOf c ≡ Known listener
-  pub stands : Stands listener h
 
 -- a record stands for a listener in range
 pub record Sound (c : List ℕ) : Type 0 where

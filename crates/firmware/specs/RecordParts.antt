@@ -1,24 +1,22 @@
 -- What counts, and the caption, through the exports, read off the answer's word and the part's record, over the
 -- written rules alone (document 01, What counts and The caption).
 -- Assumes nothing.
-use Prim.Native.Nat.{ℕ, _<_, _^_}
+use Prim.Native.Nat.{ℕ, _≤_, _<_, _^_}
 use mathlib.Core.Path.{_≡_}
 use mathlib.Core.List.{List}
 use mathlib.Core.Option.{none}
 use lib.ListN.{length}
 use Rattle.rules.specs.Table.{rulesOf}
 use Rattle.rules.specs.declared.Book.the-variants.{PresentLenient}
-use Rattle.rules.specs.declared.Fault.{Fault}
 use Rattle.rules.specs.Message.{Message, octets, LegalMessage}
 use Rattle.rules.specs.Counting.{counted, Counts}
 use Rattle.rules.specs.Language.{languageOf}
 use Rattle.message.specs.declared.Verdict.{Verdict}
-use Rattle.message.specs.declared.Verdict.the-variants.{Declined}
+use Rattle.message.specs.Told as message
 use Rattle.message.specs.Judges.{Judges}
 use Rattle.message.specs.Places.{contentsAt}
 use Rattle.caption.specs.declared.Shown.{Shown}
-use Rattle.caption.specs.declared.Shown.the-variants.{Refused}
-use Rattle.caption.specs.Caption.{told}
+use Rattle.caption.specs.Told.{told}
 use Rattle.caption.specs.Finds.{Finds}
 use Rattle.firmware.specs.Word.{Unpacked}
 use Rattle.firmware.specs.PartRecord.{partRecord, partSide, partStart, partLength}
@@ -28,7 +26,8 @@ pub record RecordCounts (o : List ℕ) (t w : ℕ) : Type 0 where
   -- octets that are no message: number and place are the whole read's, and the other fields 0
   pub verdict : Verdict
   pub judged : Judges (languageOf PresentLenient) o verdict
-  pub refused : (f : Fault) → verdict ≡ Declined f → Unpacked (f .number) (f .place) 0 0 w
+  pub refused : 1 ≤ message.told verdict .number →
+      Unpacked (message.told verdict .number) (message.told verdict .place) 0 0 w
   -- of a message: the length of the contents that count, and where they start
   pub counts : (m : Message) → LegalMessage (rulesOf PresentLenient) m → octets m ≡ o →
       (v : List ℕ) (c : Counts (rulesOf PresentLenient) m t v) → Unpacked 0 0 (length v) (contentsAt (c .first)) w
@@ -44,7 +43,7 @@ pub record RecordFinds (o d c : List ℕ) (w : ℕ) (c' : List ℕ) : Type 0 whe
   pub word : Unpacked (told found .number) (told found .place) 0 0 w
   -- side, start and length of the part; as it was with a refusal
   pub part : told found .number ≡ 0 → c' ≡ partRecord (told found .side) (told found .start) (told found .size)
-  pub refused : (f : Fault) → found ≡ Refused f → c' ≡ c
+  pub refused : 1 ≤ told found .number → c' ≡ c
   -- and the header's readers read them back; every slice has fewer than 2^64 octets
   pub read-back : length d < 256 ^ 8 → told found .number ≡ 0 →
       (partSide c' ≡ told found .side) × (partStart c' ≡ told found .start) × (partLength c' ≡ told found .size)

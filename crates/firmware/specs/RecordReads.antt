@@ -1,16 +1,15 @@
 -- What a whole read says and leaves through the exports, read off the answer's word and the records, over the written
 -- rules alone.
 -- Assumes nothing.
-use Prim.Native.Nat.{ℕ}
+use Prim.Native.Nat.{ℕ, _≤_}
 use mathlib.Core.Path.{_≡_}
 use mathlib.Core.List.{List}
 use lib.ListN.{getD}
 use Rattle.rules.specs.Table.{rulesOf}
 use Rattle.rules.specs.declared.Book.the-variants.{PresentLenient}
-use Rattle.rules.specs.declared.Fault.{Fault}
-use Rattle.reader.specs.declared.Packed.the-variants.{Texts, Refused}
 use Rattle.reader.specs.declared.Reading.{Reading}
-use Rattle.reader.specs.Reads.{Reads, told}
+use Rattle.reader.specs.Told.{told}
+use Rattle.reader.specs.Reads.{Reads}
 use Rattle.firmware.specs.Word.{Unpacked}
 use Rattle.draft.specs.Draft.{noEntry}
 use Rattle.firmware.specs.DraftRecord.{draftRecord, entryIn}
@@ -22,9 +21,9 @@ pub record RecordReads (o c t : List ℕ) (w : ℕ) (c' t' : List ℕ) : Type 0 
   pub reads : Reads (rulesOf PresentLenient) o t reading t'
   pub word :
       Unpacked (told (reading .answer) .number) (told (reading .answer) .place) (told (reading .answer) .size) 0 w
-  pub drafted : (n : ℕ) → reading .answer ≡ Texts n → c' ≡ draftRecord (reading .draft)
-  pub refused : (f : Fault) → reading .answer ≡ Refused f → c' ≡ c
+  pub drafted : told (reading .answer) .number ≡ 0 → c' ≡ draftRecord (reading .draft)
+  pub refused : 1 ≤ told (reading .answer) .number → c' ≡ c
   -- and the header's readers read the draft back, whatever the area: message type, number of entries, and each entry
-  pub read-back : (n : ℕ) → reading .answer ≡ Texts n →
+  pub read-back : told (reading .answer) .number ≡ 0 →
       (getD c' 0 0 ≡ reading .draft .kind) × (getD c' 1 0 ≡ reading .draft .count)
       × ((i : ℕ) → entryIn c' i ≡ getD (reading .draft .entries) i noEntry)

@@ -18,7 +18,7 @@ use Rattle.desk.specs.declared.Answer.the-variants.{Done}
 use Rattle.desk.specs.declared.Outcome.{Outcome}
 use Rattle.desk.specs.History.{saidUnder, later}
 use Rattle.desk.specs.Holding.{Fit}
-use Rattle.desk.specs.Settle.{told}
+use Rattle.desk.specs.Told.{told}
 use Rattle.desk.specs.Settles.{Settles}
 use Rattle.firmware.specs.DeskRecord.{isRecord, deskIn, deskRecord}
 use Rattle.firmware.specs.Word.{wordNumber, Unpacked}

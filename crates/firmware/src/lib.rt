@@ -21,7 +21,7 @@ ghost use Prim.Native.Nat.{_+_, _*_, _≤_};
 ghost use lib.ListN.{length};
 ghost use Rattle.rules.specs.Table.{rulesOf};
 ghost use Rattle.rules.specs.declared.Book.the-variants as book;
-ghost use Rattle.listener.specs.Heard.{told};
+ghost use Rattle.listener.specs.Told.{told};
 ghost use Rattle.message.specs.Walking.{countedAt};
 ghost use Rattle.caption.specs.Caption.{findOf};
 ghost use Rattle.reader.specs.Read.{packOf, areaAfter};

@@ -4,7 +4,7 @@
 use Prim.Native.Nat.{ℕ, _+_, _≤_}
 use mathlib.Core.Path.{_≡_, refl, sym, _∙_, ap, subst}
 use mathlib.Core.Bool.{true, false}
-use mathlib.Core.Logic.{_⊎_, inl, inr, _↔_}
+use mathlib.Core.Logic.{_⊎_, inl, inr, _↔_, Iff·trans}
 use mathlib.Core.List.{List, [], _++_}
 use native.Mathlib.Omega.{arith}
 use lib.ListN.{length, length-append, take}
@@ -28,9 +28,11 @@ use Rattle.listener.specs.declared.Listener.{Listener}
 use Rattle.listener.specs.declared.Answer.{Answer}
 use Rattle.listener.specs.declared.Answer.the-variants.{Waits, Message, Refused}
 use Rattle.listener.specs.declared.Heard.{Heard}
-use Rattle.listener.specs.Heard.{stopped, taken, answerOf, told, outOfRange, stepped, heardOf, heardIn, newListener}
+use Rattle.listener.specs.Told.{told, waiting, success, refusal, Clear}
+use Rattle.listener.specs.Heard.{stopped, taken, answerOf, outOfRange, stepped, heardOf, heardIn, newListener}
 use Rattle.listener.proofs.Runs.{run-stopped, taken-stopped, run-taken, place-taken, taken-all, taken-append, taken-most}
-use Rattle.listener.specs.Hears.{Hears, Stands}
+use Rattle.listener.specs.Hears.{Hears}
+use Rattle.listener.proofs.Told.{told-waits, told-message, told-refused}
 
 abbrev L : Listener → Language
 L l = languageOf (l .book)
@@ -40,6 +42,12 @@ S l = spoken-of (l .book)
 
 abbrev M : Listener → machine.Machine
 M l = languageOf (l .book) .machine
+
+-- a listener stands where the octets h lead, and has taken each of them
+pub record LedBy (l : Listener) (h : List ℕ) : Type 0 where
+  pub state : l .state ≡ answer (languageOf (l .book) .machine) h
+  pub octets : Octets h
+  pub counted : place (l .state) ≡ length h
 
 -- ---- a state and its answer
 is-waiting : (w : State) → answerOf w ≡ Waits → machine.Waits w
@@ -87,6 +95,26 @@ answered (state.Waiting s q) n = absurd (n refl)
 answered (state.Message k) n = refl
 answered (state.Refused f) n = refl
 
+-- ---- the range of an answer
+abbrev pub Ranged : Answer → Type 0
+Ranged Waits = Unit {0}
+Ranged (Message n) = (6 ≤ n) × (n ≤ 258)
+Ranged (Refused f) = (1 ≤ f .number) × (f .number ≤ 10) × (f .place ≤ 257)
+
+pub ranged : {K : Language} → Spoken K → (w : State) → T (K .inRange w) → Ranged (answerOf w)
+unfolding answerOf
+ranged H (state.Waiting s q) t = tt
+ranged H (state.Message n) t = H .sized n t
+ranged H (state.Refused f) t = let d = H .refused f t in let k = H .numbers _ (d .0) in (k .0, k .1, d .1)
+
+clear-of : {K : Language} → Spoken K → (w : State) → T (K .inRange w) → Clear (answerOf w)
+clear-of H w t = go (answerOf w) (ranged H w t)
+  where
+    go : (a : Answer) → Ranged a → Clear a
+    go Waits g = tt
+    go (Message n) g = omega (arith, g .0)
+    go (Refused f) g = g .0
+
 -- ---- a call in range
 module _ (l : Listener) (o : List ℕ) (t : T (L l .inRange (l .state))) where
   pub in-range-heard : heardOf l o ≡ stepped (L l) l o
@@ -97,28 +125,28 @@ pub out-of-range-heard : (l : Listener) (o : List ℕ) → (T (L l .inRange (l .
 unfolding heardIn
 out-of-range-heard l o n = pick-not _ _ _ n
 
-pub new-stands : (b : Book) → Stands (newListener b) []
+pub new-led : (b : Book) → LedBy (newListener b) []
 unfolding newListener machine.run
-new-stands b = record { state = refl; octets = tt; counted = refl }
+new-led b = record { state = refl; octets = tt; counted = refl }
 
-module _ (l : Listener) (h : List ℕ) (s : Stands l h) where
-  pub stands-in-range : T (L l .inRange (l .state))
-  stands-in-range = rw (s .state) (in-range-run (S l) (start (M l)) h (s .octets) (S l .in-range-start))
+module _ (l : Listener) (h : List ℕ) (s : LedBy l h) where
+  pub led-in-range : T (L l .inRange (l .state))
+  led-in-range = rw (s .state) (in-range-run (S l) (start (M l)) h (s .octets) (S l .in-range-start))
 
   module _ (o : List ℕ) (q : Octets o) (r : Heard) (e : r ≡ heardOf l o) where
     -- the outcome, in parts
     led : r .listener .state ≡ answer (M l) (h ++ o)
     led =
-        ap (λ (x : Heard). x .listener .state) (e ∙ in-range-heard l o stands-in-range)
+        ap (λ (x : Heard). x .listener .state) (e ∙ in-range-heard l o led-in-range)
         ∙ ap (λ (w : State). run (M l) w o) (s .state) ∙ run-append (M l) (start (M l)) h o
 
     said : r .answer ≡ answerOf (answer (M l) (h ++ o))
     said =
-        ap (λ (x : Heard). x .answer) (e ∙ in-range-heard l o stands-in-range)
+        ap (λ (x : Heard). x .answer) (e ∙ in-range-heard l o led-in-range)
         ∙ ap (λ (w : State). answerOf (run (M l) w o)) (s .state) ∙ ap answerOf (run-append (M l) (start (M l)) h o)
 
     took : r .taken ≡ taken (M l) (l .state) o
-    took = ap (λ (x : Heard). x .taken) (e ∙ in-range-heard l o stands-in-range)
+    took = ap (λ (x : Heard). x .taken) (e ∙ in-range-heard l o led-in-range)
 
     ran : run (M l) (l .state) o ≡ answer (M l) (h ++ o)
     ran = ap (λ (w : State). run (M l) w o) (s .state) ∙ run-append (M l) (start (M l)) h o
@@ -131,10 +159,10 @@ module _ (l : Listener) (h : List ℕ) (s : Stands l h) where
 
     -- the book stays
     pub same-book : r .listener .book ≡ l .book
-    same-book = ap (λ (x : Heard). x .listener .book) (e ∙ in-range-heard l o stands-in-range)
+    same-book = ap (λ (x : Heard). x .listener .book) (e ∙ in-range-heard l o led-in-range)
 
-    pub stands-on : Stands (r .listener) (h ++ take (r .taken) o)
-    stands-on =
+    pub led-on : LedBy (r .listener) (h ++ take (r .taken) o)
+    led-on =
         let n : length (take (r .taken) o) ≡ r .taken =
         length-take-le _ _ (omega (arith, taken-most (M l) (l .state) o, took)) in
         record {
@@ -148,29 +176,38 @@ module _ (l : Listener) (h : List ℕ) (s : Stands l h) where
           counted = omega (arith, ap place led, counts, n, length-append h (take (r .taken) o));
         }
 
+    clear : Clear (r .answer)
+    clear =
+        subst Clear (sym said) (clear-of (S l) _ (in-range-run (S l) (start (M l)) (h ++ o) all (S l .in-range-start)))
+
+    -- the same, case by case
+    waits : (told (r .answer) ≡ waiting) ↔ machine.Waits (answer (M l) (h ++ o))
+    waits =
+        Iff·trans (told-waits _ clear) (λ a. is-waiting _ (sym said ∙ a), λ a. said ∙ waiting-is _ a)
+
+    message : (n : ℕ) → 1 ≤ n → (told (r .answer) ≡ success n) ↔ (answer (M l) (h ++ o) ≡ state.Message n)
+    message n k =
+        Iff·trans (told-message _ n k) (λ a. is-message _ n (sym said ∙ a), λ a. said ∙ rw a (said-message n))
+
+    refused : (k p : ℕ) → 1 ≤ k →
+        (told (r .answer) ≡ refusal k p) ↔ (answer (M l) (h ++ o) ≡ state.Refused (noted k p))
+    refused k p m =
+        Iff·trans (told-refused _ k p m) (
+          λ a. is-refused _ (noted k p) (sym said ∙ a),
+          λ a. said ∙ rw a (said-refused (noted k p)),
+        )
+
     pub hears : Hears (L l) h o r
     hears = record {
-      waits =
-          let d = demand3-of (l .book) .waits (h ++ o) all in
-          (λ a. d .0 (is-waiting _ (sym said ∙ a)), λ a. said ∙ waiting-is _ (d .1 a));
-      has-message =
-          λ n. let d = demand3-of (l .book) .has-message (h ++ o) all n in
-          (λ a. d .0 (is-message _ n (sym said ∙ a)), λ a. said ∙ by-message n (d .1 a));
-      refuses =
-          λ f. let d = demand3-of (l .book) .refuses (h ++ o) all f in
-          (λ a. d .0 (is-refused _ f (sym said ∙ a)), λ a. said ∙ by-refused f (d .1 a));
-      taken-waiting = λ a. took ∙ taken-all (M l) (l .state) o (rw ran (not-stopped _ (is-waiting _ (sym said ∙ a))));
-      taken-message = λ n a. sym counts ∙ ap place (is-message _ n (sym said ∙ a));
-      taken-refused = λ f a. sym counts ∙ ap place (is-refused _ f (sym said ∙ a));
-      answers-by-258 = λ a. demand3-of (l .book) .answers-by-258 (h ++ o) all (is-waiting _ (sym said ∙ a));
+      clear = clear;
+      waits = Iff·trans waits (demand3-of (l .book) .waits (h ++ o) all);
+      has-message = λ n k. Iff·trans (message n k) (demand3-of (l .book) .has-message (h ++ o) all n);
+      refuses = λ k p m. Iff·trans (refused k p m) (demand3-of (l .book) .refuses (h ++ o) all (noted k p));
+      taken-waiting = λ a. took ∙ taken-all (M l) (l .state) o (rw ran (not-stopped _ (waits .0 a)));
+      taken-message = λ n k a. sym counts ∙ ap place (message n k .0 a);
+      taken-refused = λ k p m a. sym counts ∙ ap place (refused k p m .0 a);
+      answers-by-258 = λ a. demand3-of (l .book) .answers-by-258 (h ++ o) all (waits .0 a);
     }
-      where
-        by-message : (n : ℕ) → answer (M l) (h ++ o) ≡ state.Message n → answerOf (answer (M l) (h ++ o)) ≡ Message n
-        by-message n d = rw d (said-message n)
-
-        by-refused : (f : Fault) → answer (M l) (h ++ o) ≡ state.Refused f →
-            answerOf (answer (M l) (h ++ o)) ≡ Refused f
-        by-refused f d = rw d (said-refused f)
 
 -- ---- any listener, also one that no octets lead to
 -- two calls on a run cut in two end as one call on the whole
@@ -225,15 +262,15 @@ says-it-again l o r t s e =
     ap₃ a b = rw (a, b)
 
 -- an answer that a call gave, the next call gives again, takes none and leaves the listener as it was
-pub answer-stays : (l : Listener) (h : List ℕ) → Stands l h → (o : List ℕ) → Octets o → (r : Heard) →
+pub answer-stays : (l : Listener) (h : List ℕ) → LedBy l h → (o : List ℕ) → Octets o → (r : Heard) →
     r ≡ heardOf l o → (r .answer ≡ Waits → ⊥) →
     (o' : List ℕ) (r' : Heard) → r' ≡ heardOf (r .listener) o' →
     r' ≡ record { listener = r .listener; answer = r .answer; taken = 0 }
 answer-stays l h s o q r e n o' r' e' =
-    let z = e ∙ in-range-heard l o (stands-in-range l h s) in
+    let z = e ∙ in-range-heard l o (led-in-range l h s) in
     let a : r .answer ≡ answerOf (r .listener .state) =
     ap (λ (x : Heard). x .answer) z ∙ sym (ap (λ (x : Heard). answerOf (x .listener .state)) z) in
-    let t = stands-in-range (r .listener) _ (stands-on l h s o q r e) in
+    let t = led-in-range (r .listener) _ (led-on l h s o q r e) in
     says-it-again (r .listener) o' r' t (answered _ (λ w. n (a ∙ w))) e'
     ∙ ap (λ (x : Answer). record { listener = r .listener; answer = x; taken = 0 }) (sym a)
 
@@ -269,38 +306,3 @@ taken-small l o q = go (decide (L l .inRange (l .state)))
               l .within-258 _ (in-range-run (S l) (l .state) o q t),
         )
     go (inr n) = omega (arith, ap (λ (x : Heard). x .taken) (out-of-range-heard l o n))
-
--- ---- an answer is told by its number, place and size
-abbrev pub Ranged : Answer → Type 0
-Ranged Waits = Unit {0}
-Ranged (Message n) = (6 ≤ n) × (n ≤ 258)
-Ranged (Refused f) = (1 ≤ f .number) × (f .number ≤ 10) × (f .place ≤ 257)
-
-pub ranged : {K : Language} → Spoken K → (w : State) → T (K .inRange w) → Ranged (answerOf w)
-unfolding answerOf
-ranged H (state.Waiting s q) t = tt
-ranged H (state.Message n) t = H .sized n t
-ranged H (state.Refused f) t = let d = H .refused f t in let k = H .numbers _ (d .0) in (k .0, k .1, d .1)
-
-pub waits-told : (a : Answer) → Ranged a → ((told a .number ≡ 0) × (told a .size ≡ 0)) ↔ (a ≡ Waits)
-unfolding told
-waits-told Waits g = (λ _. refl, λ _. (refl, refl))
-waits-told (Message n) g = (λ e. absurd (omega (arith, e .1)), λ e. clash cc)
-waits-told (Refused f) g = (λ e. absurd (omega (arith, e .0)), λ e. clash cc)
-
-pub message-told : (a : Answer) (n : ℕ) → 1 ≤ n → (told a .size ≡ n) ↔ (a ≡ Message n)
-unfolding told
-message-told Waits n l = (λ e. absurd (omega arith), λ e. clash cc)
-message-told (Message m) n l = (λ e. ap Message e, λ e. cc)
-message-told (Refused f) n l = (λ e. absurd (omega arith), λ e. clash cc)
-
-pub refused-told : (a : Answer) (f : Fault) → 1 ≤ f .number →
-    ((told a .number ≡ f .number) × (told a .place ≡ f .place)) ↔ (a ≡ Refused f)
-unfolding told
-refused-told Waits f l = (λ e. absurd (omega (arith, e .0)), λ e. clash cc)
-refused-told (Message n) f l = (λ e. absurd (omega (arith, e .0)), λ e. clash cc)
-refused-told (Refused g) f l = (
-  λ e. (λ i. Refused (record { number = e .0 i; place = e .1 i })),
-  λ e. let d : g ≡ f = cc in
-      (ap (λ (x : Fault). x .number) d, ap (λ (x : Fault). x .place) d),
-)

@@ -5,5 +5,6 @@ pub mod Settled
 pub mod Promised
 pub mod One
 pub mod Runs
+pub mod Told
 pub mod Hears
 pub mod Going

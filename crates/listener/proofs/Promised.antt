@@ -1,10 +1,11 @@
 -- Demand 3 over the promises of `reset` and `listen`: whatever outcomes they allow, call after call (document 01,
 -- Listening).
 -- Assumes nothing.
-use Prim.Native.Nat.{ℕ, _+_}
-use mathlib.Core.Path.{_≡_, sym, _∙_, ap, subst}
+use Prim.Native.Nat.{ℕ, _+_, _≤_}
+use mathlib.Core.Path.{_≡_, refl, sym, _∙_, ap, subst}
 use mathlib.Core.Logic.{_⊎_}
 use mathlib.Core.List.{List, [], _++_}
+use native.Mathlib.Omega.{arith}
 use lib.ListN.{take}
 use lib.Dec.{T}
 use Rattle.rules.specs.Octets.{Octets}
@@ -14,11 +15,14 @@ use Rattle.rules.specs.declared.Book.{Book}
 use Rattle.rules.specs.declared.Fault.{Fault}
 use Rattle.listener.specs.declared.Listener.{Listener}
 use Rattle.listener.specs.declared.Heard as declared
-use Rattle.listener.specs.declared.Answer.the-variants.{Waits, Refused}
+use Rattle.listener.specs.declared.Answer.{Answer}
+use Rattle.listener.specs.declared.Answer.the-variants.{Waits, Message, Refused}
+use Rattle.listener.specs.Told.{told, waiting}
+use Rattle.listener.proofs.Told.{told-waits}
 use Rattle.listener.specs.Heard.{outOfRange, stepped, heardOf, newListener}
 use Rattle.listener.proofs.Hears as hears
-use Rattle.listener.specs.Hears.{Hears, Stands}
-use Rattle.listener.proofs.Hears.{new-stands, stands-in-range, stands-on, same-book, in-range-heard, out-of-range-heard}
+use Rattle.listener.specs.Hears.{Hears}
+use Rattle.listener.proofs.Hears.{LedBy, new-led, led-in-range, led-on, same-book, in-range-heard, out-of-range-heard}
 use Rattle.listener.proofs.reset.Reads as reset
 use Rattle.listener.proofs.listen.Reads as listen
 
@@ -44,15 +48,15 @@ pub data HasHeard : Book → Listener → List ℕ → Type 0 where
   more : (b : Book) (l : Listener) (h o : List ℕ) (r : declared.Heard) → HasHeard b l h → Octets o →
       listen-gives l o r → HasHeard b (r .listener) (h ++ take (r .taken) o)
 
-pub stands : (b : Book) (l : Listener) (h : List ℕ) → HasHeard b l h → Stands l h
-stands b l h (new c k p) = subst (λ (x : Listener). Stands x []) (sym (reset-is-new c k p)) (new-stands c)
-stands b l h (more c k g o r d q p) = stands-on k g (stands c k g d) o q r (listen-is k o r p)
+pub led-by : (b : Book) (l : Listener) (h : List ℕ) → HasHeard b l h → LedBy l h
+led-by b l h (new c k p) = subst (λ (x : Listener). LedBy x []) (sym (reset-is-new c k p)) (new-led c)
+led-by b l h (more c k g o r d q p) = led-on k g (led-by c k g d) o q r (listen-is k o r p)
 
 -- its book is that of its reset
 pub book-kept : (b : Book) (l : Listener) (h : List ℕ) → HasHeard b l h → l .book ≡ b
 unfolding newListener
 book-kept b l h (new c k p) = ap (λ (x : Listener). x .book) (reset-is-new c k p)
-book-kept b l h (more c k g o r d q p) = same-book k g (stands c k g d) o q r (listen-is k o r p) ∙ book-kept c k g d
+book-kept b l h (more c k g o r d q p) = same-book k g (led-by c k g d) o q r (listen-is k o r p) ∙ book-kept c k g d
 
 module _ (b : Book) (l : Listener) (h : List ℕ) (d : HasHeard b l h) (o : List ℕ) (q : Octets o)
     (r : declared.Heard) (p : listen-gives l o r) where
@@ -60,21 +64,30 @@ module _ (b : Book) (l : Listener) (h : List ℕ) (d : HasHeard b l h) (o : List
   pub demand3 : Hears (languageOf b) h o r
   demand3 =
       subst (λ (c : Book). Hears (languageOf c) h o r) (book-kept b l h d)
-      (hears.hears l h (stands b l h d) o q r (listen-is l o r p))
+      (hears.hears l h (led-by b l h d) o q r (listen-is l o r p))
 
   -- a message or a refusal, once given, is given again by each call after it, which takes none and leaves the
   -- listener as it was
-  pub answer-stays : (r .answer ≡ Waits → ⊥) → (o' : List ℕ) (r' : declared.Heard) →
+  pub answer-stays : (told (r .answer) ≡ waiting → ⊥) → (o' : List ℕ) (r' : declared.Heard) →
       listen-gives (r .listener) o' r' → r' ≡ record { listener = r .listener; answer = r .answer; taken = 0 }
   answer-stays n o' r' k =
-      hears.answer-stays l h (stands b l h d) o q r (listen-is l o r p) n o' r' (listen-is (r .listener) o' r' k)
+      let waits : r .answer ≡ Waits → ⊥ = λ e. n (told-waits _ (demand3 .clear) .1 e) in
+      hears.answer-stays l h (led-by b l h d) o q r (listen-is l o r p) waits o' r' (listen-is (r .listener) o' r' k)
 
   -- a listener from a reset and any octets never gets 17: its numbers are those of its language, 1 to 6, and 10 in
   -- the strict way
-  pub never-17 : (f : Fault) → r .answer ≡ Refused f → T (languageOf b .given (f .number))
-  never-17 f e =
-      subst (λ (c : Book). T (languageOf c .given (f .number))) (book-kept b l h d)
-      (hears.in-range-number l o q (stands-in-range l h (stands b l h d)) r (listen-is l o r p) f e)
+  pub never-17 :
+      let k = told (r .answer) .number in
+      1 ≤ k → T (languageOf b .given k)
+  unfolding told
+  never-17 n = go (r .answer) refl n
+    where
+      go : (x : Answer) → r .answer ≡ x → 1 ≤ told x .number → T (languageOf b .given (told x .number))
+      go Waits e n = absurd (omega arith)
+      go (Message m) e n = absurd (omega arith)
+      go (Refused f) e n =
+          subst (λ (c : Book). T (languageOf c .given (f .number))) (book-kept b l h d)
+          (hears.in-range-number l o q (led-in-range l h (led-by b l h d)) r (listen-is l o r p) f e)
 
 module _ (l : Listener) (o : List ℕ) (r : declared.Heard) (p : listen-gives l o r) where
   -- any listener at all gives a number of its language, or 17 at 0

@@ -43,18 +43,6 @@ answerOf (state.Waiting s q) = Waits
 answerOf (state.Message n) = Message n
 answerOf (state.Refused f) = Refused f
 
--- ---- what an answer tells (document 01, The forms we expect: a definition provides number and values for each case)
--- the number and place of a refusal, the size of a message; 0 where there is none
-pub record Told : Type 0 where
-  pub number : ℕ
-  pub place : ℕ
-  pub size : ℕ
-
-unfoldable pub told : Answer → Told
-told Waits = record { number = 0; place = 0; size = 0 }
-told (Message n) = record { number = 0; place = 0; size = n }
-told (Refused f) = record { number = f .number; place = f .place; size = 0 }
-
 unfoldable pub runOf : Machine → State → List ℕ → Ran
 runOf M w h = record { state = run M w h; taken = taken M w h }
 

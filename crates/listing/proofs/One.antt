@@ -11,6 +11,7 @@ use lib.Seq.{length-take-le}
 use Rattle.rules.specs.Table.{Rules}
 use Rattle.rules.specs.Message.{Message}
 use Rattle.rules.specs.Language.{calls}
+use Rattle.message.proofs.Told.{accepted-iff}
 use Rattle.message.specs.declared.Verdict.{Verdict}
 use Rattle.message.specs.declared.Verdict.the-variants.{Accepted, Declined}
 use Rattle.message.proofs.One.{judges-one}
@@ -60,7 +61,7 @@ module _ (R : Rules) where
   module _ (o : List ℕ) (r s : Text) (A : Lists R o r) (B : Lists R o s) where
     same-lines : (v : Verdict) → A .verdict ≡ v → A .lines ≡ B .lines
     same-lines (Accepted n) e =
-        let a = A .judged .accepted n .0 e .1 in
+        let a = accepted-iff (A .judged) n .0 e .1 in
         lines-one (a .0) _ _ (A .message (a .0) (a .1) (a .2)) (B .message (a .0) (a .1) (a .2))
     same-lines (Declined f) e =
         A .refused f e ∙ sym (B .refused f (sym (judges-one (calls R) o _ _ (A .judged) (B .judged)) ∙ e))

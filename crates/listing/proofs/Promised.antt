@@ -14,6 +14,7 @@ use Rattle.rules.proofs.Unique.{unique-in}
 use Rattle.rules.specs.Message as message
 use Rattle.rules.specs.Message.{octets, LegalMessage, Accepts}
 use Rattle.rules.specs.declared.Fault.{Fault}
+use Rattle.message.proofs.Told.{accepted-iff}
 use Rattle.message.specs.declared.Verdict.{Verdict}
 use Rattle.message.specs.declared.Verdict.the-variants.{Accepted, Declined}
 use Rattle.message.specs.Verdict.{verdictOf}
@@ -63,7 +64,7 @@ module _ (o : List ℕ) (r : Text) (h : listing-gives o r) where
   lists-message m l e =
       let w : Accepts (rulesOf PresentLenient) o = (m, l, e) in
       let v : verdictOf (rulesOf PresentLenient) o ≡ Accepted (length o) =
-      judges-of PresentLenient o (unique-in PresentLenient .octets o w) .accepted (length o) .1 (refl, w) in
+      accepted-iff (judges-of PresentLenient o (unique-in PresentLenient .octets o w)) (length o) .1 (refl, w) in
       lists
       ∙ ap (λ (x : Verdict). written (verdictLines (rulesOf PresentLenient) o x)) v
       ∙ ap (λ (x : message.Message). written (messageLines (rulesOf PresentLenient) x))
@@ -89,7 +90,7 @@ module _ (o : List ℕ) (q : Octets o) where
       Lines R m (verdictLines R o (verdictOf R o))
   unfolding verdictLines
   message-lines m l e =
-      let v = judges-of PresentLenient o q .accepted (length o) .1 (refl, (m, l, e)) in
+      let v = accepted-iff (judges-of PresentLenient o q) (length o) .1 (refl, (m, l, e)) in
       let k : messageIn o ≡ m = ap messageIn (sym e) ∙ message-in R (sound-rules PresentLenient) m l in
       subst (Lines R m) (sym (ap (verdictLines R o) v ∙ ap (messageLines R) k)) (lines-of PresentLenient m)
 

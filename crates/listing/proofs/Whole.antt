@@ -21,6 +21,7 @@ use Rattle.message.specs.declared.Verdict.{Verdict}
 use Rattle.message.specs.declared.Verdict.the-variants.{Accepted, Declined}
 use Rattle.message.specs.Verdict.{verdictOf}
 use Rattle.message.proofs.Judges.{judges-of, told-small, near-declined}
+use Rattle.message.proofs.Told.{accepted-iff, number-of}
 use Rattle.message.specs.Walking.{countedAt, partOf}
 use Rattle.message.proofs.Searching.{counted-part}
 use Rattle.message.specs.Parameters.{parametersIn, messageIn}
@@ -58,7 +59,7 @@ pub record Fitting (o v : List ℕ) : Type 0 where
 module _ (o : List ℕ) (q : Octets o) (v : Verdict) (e : v ≡ verdictOf (rulesOf PresentLenient) o) where
   pub lists-message : (n : ℕ) → v ≡ Accepted n → Fitting o (written (linesAt (rulesOf PresentLenient) o))
   unfolding listingOf verdictLines
-  lists-message n d = go (judges-of PresentLenient o q .accepted n .0 (sym e ∙ d) .1)
+  lists-message n d = go (accepted-iff (judges-of PresentLenient o q) n .0 (sym e ∙ d) .1)
     where
       go : Accepts (rulesOf PresentLenient) o → Fitting o (written (linesAt (rulesOf PresentLenient) o))
       go a =
@@ -87,7 +88,7 @@ module _ (o : List ℕ) (q : Octets o) (v : Verdict) (e : v ≡ verdictOf (rules
       record {
         is = ap (λ (x : Verdict). written (verdictLines (rulesOf PresentLenient) o x)) (sym d ∙ e);
         short =
-            refusal-short f (omega (arith, told-small (spoken-of PresentLenient) _ (j .numbers f (sym e ∙ d)) .1))
+            refusal-short f (omega (arith, told-small (spoken-of PresentLenient) _ (number-of j f (sym e ∙ d)) .1))
             (omega (arith, near-declined j f (sym e ∙ d)));
       }
 

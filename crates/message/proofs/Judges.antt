@@ -31,7 +31,9 @@ use Rattle.rules.specs.declared.State.the-variants.{Waiting, Message, Refused}
 use Rattle.message.specs.declared.Verdict.{Verdict}
 use Rattle.message.specs.declared.Verdict.the-variants.{Accepted, Declined}
 use Rattle.message.specs.Judges.{Judges, verdictNumber}
-use Rattle.message.specs.Verdict.{told, judged, verdictOf}
+use Rattle.message.proofs.Told.{told-accepted, told-declined}
+use Rattle.message.specs.Told.{told, Clear}
+use Rattle.message.specs.Verdict.{judged, verdictOf}
 
 -- one by one
 pub verdict-number : (L : Language) (k : ℕ) → T (verdictNumber L k) → T (L .given k) ⊎ ((k ≡ 7) ⊎ (k ≡ 8))
@@ -211,19 +213,37 @@ module _ {L : Language} (S : Spoken L) (o : List ℕ) (q : Octets o) where
     λ x. clash (cc (a (length o) .1 (refl, x))),
   )
 
+  clear-of : (v : Verdict) → ((f : Fault) → v ≡ Declined f → T (verdictNumber L (f .number))) → Clear v
+  clear-of (Accepted n) d = tt
+  clear-of (Declined f) d = told-small S _ (d f refl) .0
+
+  number-of : (v : Verdict) → ((f : Fault) → v ≡ Declined f → T (verdictNumber L (f .number))) →
+      1 ≤ told v .number → T (verdictNumber L (told v .number))
+  unfolding told
+  number-of (Accepted n) d l = absurd (omega arith)
+  number-of (Declined f) d l = d f refl
+
   pub judges : Judges L o (judged o (answer (L .machine) o))
   judges = record {
+    clear = clear;
     done = done-of (judged o w) accepted-is (λ f e. numbers-state w f ranged e);
-    accepted = accepted-is;
-    spoilt = λ f l. Iff·trans (refused-state w f l) (demand3 S .refuses o q f);
+    accepted = λ n. Iff·trans (told-accepted _ n clear) (accepted-is n);
+    spoilt =
+        λ k p l. Iff·trans (told-declined _ k p (S .numbers k l .0)) (Iff·trans (refused-state w (noted k p) l)
+        (demand3 S .refuses o q (noted k p)));
     early =
-        λ p. let d = early-state w p ranged in let u = demand3 S .waits o q in
+        λ p. let d = Iff·trans (told-declined _ 8 p (omega arith)) (early-state w p ranged) in
+        let u = demand3 S .waits o q in
         (λ e. let a = d .0 e in (a .0, u .0 (a .1)), λ e. d .1 (e .0, u .1 (e .1)));
-    followed = λ p. Iff·trans (followed-state w p ranged) (behind-of p);
-    numbers = λ f e. numbers-state w f ranged e;
+    followed =
+        λ p. Iff·trans (told-declined _ 7 p (omega arith)) (Iff·trans (followed-state w p ranged) (behind-of p));
+    numbers = number-of (judged o w) (λ f e. numbers-state w f ranged e);
     near = near-state w ranged (demand3 S .answers-by-258 o q);
   }
     where
+      clear : Clear (judged o w)
+      clear = clear-of (judged o w) (λ f e. numbers-state w f ranged e)
+
       accepted-is : (n : ℕ) → (judged o w ≡ Accepted n) ↔ ((length o ≡ n) × L .Accepts o)
       accepted-is n = Iff·trans (accepted-state w n) (whole-of n)
 

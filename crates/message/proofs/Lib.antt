@@ -2,6 +2,7 @@
 pub mod Searching
 pub mod Parameters
 pub mod Places
+pub mod Told
 pub mod Judges
 pub mod Calls
 pub mod Settled

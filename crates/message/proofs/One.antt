@@ -22,37 +22,41 @@ use Rattle.message.specs.declared.Verdict.{Verdict}
 use Rattle.message.specs.declared.Verdict.the-variants.{Accepted, Declined}
 use Rattle.message.specs.Judges.{Judges}
 use Rattle.message.proofs.Judges.{verdict-number}
+use Rattle.message.proofs.Told.{accepted-iff, spoilt-iff, early-iff, followed-iff, some-number, number-of}
 
 module _ (L : Language) (o : List ℕ) where
   -- octets that the one declines, the other declines with the same number and place
   declined-too : (v w : Verdict) → Judges L o v → Judges L o w → (f : Fault) → v ≡ Declined f → w ≡ Declined f
-  declined-too v w A B f e = go (verdict-number L _ (A .numbers f e))
+  declined-too v w A B f e = go (verdict-number L _ (number-of A f e))
     where
+      l : 1 ≤ f .number
+      l = some-number A f e
+
       at : (k : ℕ) → f .number ≡ k → Declined f ≡ Declined (noted k (f .place))
       at k z = ap (λ (n : ℕ). Declined (noted n (f .place))) z
 
       go : T (L .given (f .number)) ⊎ ((f .number ≡ 7) ⊎ (f .number ≡ 8)) → w ≡ Declined f
-      go (inl t) = B .spoilt f t .1 (A .spoilt f t .0 e)
-      go (inr (inl k)) = B .followed (f .place) .1 (A .followed (f .place) .0 (e ∙ at 7 k)) ∙ sym (at 7 k)
-      go (inr (inr k)) = B .early (f .place) .1 (A .early (f .place) .0 (e ∙ at 8 k)) ∙ sym (at 8 k)
+      go (inl t) = spoilt-iff B f l t .1 (spoilt-iff A f l t .0 e)
+      go (inr (inl k)) = followed-iff B (f .place) .1 (followed-iff A (f .place) .0 (e ∙ at 7 k)) ∙ sym (at 7 k)
+      go (inr (inr k)) = early-iff B (f .place) .1 (early-iff A (f .place) .0 (e ∙ at 8 k)) ∙ sym (at 8 k)
 
   -- any octets have one verdict
   pub judges-one : (v w : Verdict) → Judges L o v → Judges L o w → v ≡ w
-  judges-one (Accepted n) w A B = sym (B .accepted n .1 (A .accepted n .0 refl))
+  judges-one (Accepted n) w A B = sym (accepted-iff B n .1 (accepted-iff A n .0 refl))
   judges-one (Declined f) w A B = sym (declined-too _ w A B f refl)
 
 -- the place of a refusal is one of the octets, or, where they end early, their number
 pub placed : (L : Language) (o : List ℕ) (v : Verdict) → Judges L o v → (f : Fault) → v ≡ Declined f →
     f .place ≤ length o
-placed L o v A f e = go (verdict-number L _ (A .numbers f e))
+placed L o v A f e = go (verdict-number L _ (number-of A f e))
   where
     at : (k : ℕ) → f .number ≡ k → Declined f ≡ Declined (noted k (f .place))
     at k z = ap (λ (n : ℕ). Declined (noted n (f .place))) z
 
     go : T (L .given (f .number)) ⊎ ((f .number ≡ 7) ⊎ (f .number ≡ 8)) → f .place ≤ length o
-    go (inl t) = omega (arith, A .spoilt f t .0 e .0 .place)
-    go (inr (inl k)) = omega (arith, A .followed (f .place) .0 (e ∙ at 7 k) .0)
-    go (inr (inr k)) = omega (arith, A .early (f .place) .0 (e ∙ at 8 k) .0)
+    go (inl t) = omega (arith, spoilt-iff A f (some-number A f e) t .0 e .0 .place)
+    go (inr (inl k)) = omega (arith, followed-iff A (f .place) .0 (e ∙ at 7 k) .0)
+    go (inr (inr k)) = omega (arith, early-iff A (f .place) .0 (e ∙ at 8 k) .0)
 
 -- of a message and a type there is one part that counts
 pub counts-at-one : (R : Rules) (m : Message) (t : ℕ) (p q : Part) → CountsAt R m t p → CountsAt R m t q → p ≡ q

@@ -10,13 +10,10 @@ use lib.ListN.{length, take}
 use lib.Dec.{T}
 use Rattle.rules.specs.Tests.{_or_}
 use Rattle.rules.specs.Contents.{within}
-use Rattle.rules.specs.Refusals.{noted}
 use Rattle.rules.specs.Endings.{Ending, Spoilt, Numbered}
 use Rattle.rules.specs.Language.{Language}
-use Rattle.rules.specs.declared.Fault.{Fault}
 use Rattle.message.specs.declared.Verdict.{Verdict}
-use Rattle.message.specs.declared.Verdict.the-variants.{Accepted, Declined}
-use Rattle.message.specs.Verdict.{told}
+use Rattle.message.specs.Told.{told, success, refusal, Clear}
 
 -- the numbers of a verdict: those of the language, and 7 and 8
 unfoldable pub verdictNumber : Language → ℕ → Bool
@@ -24,18 +21,20 @@ verdictNumber L k = L .given k or within (7, 8) k
 
 -- v is the verdict on the octets o
 pub record Judges (L : Language) (o : List ℕ) (v : Verdict) : Type 0 where
+  -- number, place and size tell it
+  pub clear : Clear v
   -- number 0 exactly when they are a message
   pub done : (told v .number ≡ 0) ↔ L .Accepts o
   -- then accepted, with their number
-  pub accepted : (n : ℕ) → (v ≡ Accepted n) ↔ ((length o ≡ n) × L .Accepts o)
+  pub accepted : (n : ℕ) → (told v ≡ success n) ↔ ((length o ≡ n) × L .Accepts o)
   -- 1 to 6 and 10 exactly at the octet that spoils the message, with the number of its role
-  pub spoilt : (f : Fault) → T (L .given (f .number)) →
-      (v ≡ Declined f) ↔ (Spoilt (L .Accepts) o (f .place) × Numbered (L .Accepts) (L .roles) o (f .place) (f .number))
+  pub spoilt : (k p : ℕ) → T (L .given k) →
+      (told v ≡ refusal k p) ↔ (Spoilt (L .Accepts) o p × Numbered (L .Accepts) (L .roles) o p k)
   -- 8 at the number of octets exactly when they can still be completed
-  pub early : (p : ℕ) → (v ≡ Declined (noted 8 p)) ↔ ((p ≡ length o) × Ending (L .Accepts) o)
+  pub early : (p : ℕ) → (told v ≡ refusal 8 p) ↔ ((p ≡ length o) × Ending (L .Accepts) o)
   -- 7 at the first octet behind an accepted message
-  pub followed : (p : ℕ) → (v ≡ Declined (noted 7 p)) ↔ ((p < length o) × L .Accepts (take p o))
+  pub followed : (p : ℕ) → (told v ≡ refusal 7 p) ↔ ((p < length o) × L .Accepts (take p o))
   -- and no other number
-  pub numbers : (f : Fault) → v ≡ Declined f → T (verdictNumber L (f .number))
+  pub numbers : 1 ≤ told v .number → T (verdictNumber L (told v .number))
   -- no place lies beyond 258
   pub near : told v .place ≤ 258

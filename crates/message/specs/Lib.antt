@@ -1,4 +1,5 @@
 -- The root of what is promised of whole messages.
+pub mod Told
 pub mod Verdict
 pub mod Walking
 pub mod Judges

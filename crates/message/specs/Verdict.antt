@@ -23,17 +23,6 @@ use Rattle.message.specs.declared.Head.the-variants as head
 use Rattle.message.specs.declared.Body.{Body}
 use Rattle.message.specs.declared.Body.the-variants as body
 
--- ---- what an answer tells (document 01, The forms we expect: a definition provides number and values for each case)
--- the number and place of a refusal, the size of a message; 0 where there is none
-pub record Told : Type 0 where
-  pub number : ℕ
-  pub place : ℕ
-  pub size : ℕ
-
-unfoldable pub told : Verdict → Told
-told (Accepted n) = record { number = 0; place = 0; size = n }
-told (Declined f) = record { number = f .number; place = f .place; size = 0 }
-
 -- ---- the verdict
 -- 8 at the number of octets while a message can still be completed; a message, or 7 at its size where octets follow;
 -- 1 to 6 and 10 as the machine gives them

@@ -48,7 +48,8 @@ use Rattle.draft.specs.Draft.{emptyOf}
 use Rattle.reader.specs.declared.Packed.{Packed}
 use Rattle.reader.specs.declared.Packed.the-variants as packed
 use Rattle.reader.specs.declared.Reading.{Reading}
-use Rattle.reader.specs.Reads.{told, readNumber, Reads}
+use Rattle.reader.specs.Told.{told}
+use Rattle.reader.specs.Reads.{readNumber, Reads}
 use Rattle.reader.proofs.Promised as reader
 use Rattle.writer.specs.declared.Written.{Written}
 use Rattle.writer.specs.declared.Written.the-variants.{Declined}
@@ -63,6 +64,13 @@ use Rattle.desk.proofs.Promised as desk
 use Rattle.caption.specs.declared.Shown.{Shown}
 use Rattle.caption.specs.declared.Shown.the-variants as found
 use Rattle.caption.specs.Caption as caption-of
+use Rattle.caption.specs.Told as shown
+use Rattle.caption.proofs.Told as finding
+use Rattle.walker.proofs.Told as walking
+use Rattle.message.specs.Told as verdict
+use Rattle.message.proofs.Told as judging
+use Rattle.desk.proofs.Told as settling
+use Rattle.reader.proofs.Told.{spoilt-iff, early-iff, followed-iff, short-iff, some-number, refused-so}
 use Rattle.caption.proofs.Promised as caption
 use Rattle.walker.specs.declared.Walker.{Walker}
 use Rattle.walker.specs.declared.Step.{Step}
@@ -126,11 +134,11 @@ read-so : (b : Book) (o old : List ℕ) (r : Reading) (area : List ℕ) → Read
     (f : Fault) → r .answer ≡ packed.Refused f → Unread b o old f area
 unfolding readNumber
 read-so b o old r area x f e =
-    let y = x .refused f e in
+    let y = refused-so x f e in
     record {
       number = y .2;
       place = λ n. in-octets n (either _ _ (y .2));
-      needed = λ k. x .short (f .place) .0 (e ∙ at 9 k) .4;
+      needed = λ k. short-iff x (f .place) .0 (e ∙ at 9 k) .4;
       stays = y .0;
     }
   where
@@ -138,9 +146,9 @@ read-so b o old r area x f e =
     at k z = λ i. packed.Refused (noted (z i) (f .place))
 
     by-number : T (languageOf b .given (f .number)) ⊎ ((f .number ≡ 7) ⊎ (f .number ≡ 8)) → f .place ≤ length o
-    by-number (inl t) = omega (arith, x .spoilt f t .0 e .0 .place)
-    by-number (inr (inl k)) = omega (arith, x .followed (f .place) .0 (e ∙ at 7 k) .0)
-    by-number (inr (inr k)) = omega (arith, x .early (f .place) .0 (e ∙ at 8 k) .0)
+    by-number (inl t) = omega (arith, spoilt-iff x f (some-number x f e) t .0 e .0 .place)
+    by-number (inr (inl k)) = omega (arith, followed-iff x (f .place) .0 (e ∙ at 7 k) .0)
+    by-number (inr (inr k)) = omega (arith, early-iff x (f .place) .0 (e ∙ at 8 k) .0)
 
     in-octets : (f .number ≡ 9 → ⊥) → T (verdictNumber (languageOf b) (f .number)) ⊎ T (f .number =? 9) →
         f .place ≤ length o
@@ -152,7 +160,7 @@ pub read-refuses : (b : Book) (o old : List ℕ) (r : Reading) (area : List ℕ)
     Unread b o old f area × (r .draft ≡ emptyOf 0)
 read-refuses b o old r area h q f e =
     let x = reader.reads b o old r area h q in
-    (read-so b o old r area x f e, x .refused f e .1)
+    (read-so b o old r area x f e, refused-so x f e .1)
 
 pub pack-refuses : (b : Book) (o old : List ℕ) (w : Packed) (area : List ℕ) → reader.pack-gives b o old w area →
     Octets o → (f : Fault) → w ≡ packed.Refused f → Unread b o old f area
@@ -185,7 +193,7 @@ write-refuses b d t old w out h f e = (
 pub settle-refuses : (b : Book) (d : Desk) (o : List ℕ) (r : Outcome) → desk.settle-gives b d o r → Octets o →
     (f : Fault) → r .answer ≡ settled.Refused f →
     (Verdict-like b o f ⊎ ((f ≡ noted 17 0) ⊎ (f ≡ noted 21 0))) × (r .desk ≡ d)
-settle-refuses b d o r h q f e = (go (x .numbers f e), x .refusal-stays f e)
+settle-refuses b d o r h q f e = (go (settling.number-of x f e), settling.refusal-leaves x f e)
   where
     x : Settles (rulesOf b) d o r
     x = desk.settling b d o r h q
@@ -195,22 +203,27 @@ settle-refuses b d o r h q f e = (go (x .numbers f e), x .refusal-stays f e)
 
     go : T (verdictNumber (languageOf b) (f .number)) ⊎ ((f .number ≡ 17) ⊎ (f .number ≡ 21)) →
         Verdict-like b o f ⊎ ((f ≡ noted 17 0) ⊎ (f ≡ noted 21 0))
-    go (inl t) = inl (t, placed (languageOf b) o _ (x .judged) f (x .refused f t .0 e .1))
+    go (inl t) =
+        let l = settling.some-number x f e in
+        inl (t, placed (languageOf b) o _ (x .judged) f (settling.refused-iff x f l t .0 e .1))
     go (inr (inl k)) =
-        inr (inl (at 17 k ∙ ap (noted 17) (x .seventeen (f .place) .0 (e ∙ ap settled.Refused (at 17 k)) .0)))
-    go (inr (inr k)) = inr (inr (at 21 k ∙ ap (noted 21) (x .full (f .place) .0 (e ∙ ap settled.Refused (at 21 k)) .0)))
+        inr (inl (at 17 k ∙ ap (noted 17) (settling.unfit-iff x (f .place) .0 (e ∙ ap settled.Refused (at 17 k)) .0)))
+    go (inr (inr k)) =
+        inr (inr (at 21 k ∙ ap (noted 21) (settling.full-iff x (f .place) .0 (e ∙ ap settled.Refused (at 21 k)) .0)))
 
 -- the verdict, the caption and the walker; nothing is lent for writing but the caption's code, which stays
 pub judge-refuses : (b : Book) (o : List ℕ) (v : Verdict) → message.judge-gives b o v → Octets o → (f : Fault) →
     v ≡ Judged f → Verdict-like b o f
-judge-refuses b o v h q f e = let x = message.verdicts b o v h q in (x .numbers f e, placed (languageOf b) o v x f e)
+judge-refuses b o v h q f e =
+    let x = message.verdicts b o v h q in
+    (judging.number-of x f e, placed (languageOf b) o v x f e)
 
 pub find-refuses : (b : Book) (o d : List ℕ) (r : Shown) → caption.find-gives b o d r → Octets o → (f : Fault) →
     r ≡ found.Refused f → Verdict-like b o f
 find-refuses b o d r h q f e =
     let x = caption.finding b o d r h q in
-    let y = x .refused f .0 e in
-    (x .judged .numbers f y, placed (languageOf b) o _ (x .judged) f y)
+    let y = finding.declined-so x f e in
+    (judging.number-of (x .judged) f y, placed (languageOf b) o _ (x .judged) f y)
 
 pub caption-refuses : (b : Book) (o d : List ℕ) (r : Shown) → caption.find-gives b o d r →
     (x : ℕ) (p : List ℕ) (y : ℕ) → caption.caption-gives b o d x p y → (f : Fault) → r ≡ found.Refused f → y ≡ x
@@ -221,8 +234,8 @@ caption-refuses b o d r h x p y k f e =
 step-so : (b : Book) (o : List ℕ) (at : ℕ) (r : Step) → Walks (rulesOf b) o at r → (f : Fault) →
     r ≡ step.Refused f → Verdict-like b o f
 step-so b o at r x f e =
-    let y = x .refused f .0 e in
-    (x .judged .numbers f y, placed (languageOf b) o _ (x .judged) f y)
+    let y = walking.declined-so x f e in
+    (judging.number-of (x .judged) f y, placed (languageOf b) o _ (x .judged) f y)
 
 pub step-refuses : (b : Book) (o : List ℕ) (at : ℕ) (r : Step) → walker.step-gives b o at r → Octets o →
     (f : Fault) → r ≡ step.Refused f → Verdict-like b o f
@@ -303,8 +316,10 @@ anthercup-read-refuses o c t w c' t' h q = (
         (omega (arith, z), λ k. absurd (omega (arith, z)))
     so y (packed.Refused f) e =
         let z = y .word .number ∙ ap (λ (x : Packed). told x .number) e in
-        let k = y .reads .refused f e in
-        (omega (arith, z, nine-lenient _ .0 (k .2) .1), λ _. (y .refused f e, k .0))
+        let k = refused-so (y .reads) f e in
+        let m = ap (λ (x : Packed). told x .number) e in
+        let l = some-number (y .reads) f e in
+        (omega (arith, z, nine-lenient _ .0 (k .2) .1), λ _. (y .refused (omega (arith, m, l)), k .0))
 
 -- settling: 17 exactly for a record that is no desk's, else 0, 1 to 8 or 21; with a number the record stays
 pub anthercup-settle-refuses : (c o : List ℕ) (w : ℕ) (c' : List ℕ) → firmware.settle-gives c o w c' → Octets c →
@@ -316,6 +331,7 @@ anthercup-settle-refuses c o w c' h k q =
 
 -- what counts: 0 or 1 to 8; nothing is lent for writing
 pub anthercup-counted-refuses : (o : List ℕ) (t w : ℕ) → firmware.counted-gives o t w → Octets o → wordNumber w ≤ 8
+unfolding verdict.told
 anthercup-counted-refuses o t w h q = go (x .verdict) refl
   where
     x : RecordCounts o t w
@@ -328,14 +344,22 @@ anthercup-counted-refuses o t w h q = go (x .verdict) refl
         omega (arith, x .counts (d .0) (d .1) (d .2) v (counted-iff (rulesOf PresentLenient) (d .0) t v .0 e) .number)
 
     go : (v : Verdict) → x .verdict ≡ v → wordNumber w ≤ 8
-    go (Accepted n) e = of-message (x .judged .accepted n .0 e .1) _ refl
-    go (Judged f) e = omega (arith, x .refused f e .number, eight-lenient _ .0 (x .judged .numbers f e) .1)
+    go (Accepted n) e = of-message (judging.accepted-iff (x .judged) n .0 e .1) _ refl
+    go (Judged f) e =
+        let z = ap (λ (y : Verdict). verdict.told y .number) e in
+        let l = judging.some-number (x .judged) f e in
+        omega (
+          arith,
+          z,
+          x .refused (omega (arith, z, l)) .number,
+          eight-lenient _ .0 (judging.number-of (x .judged) f e) .1,
+        )
 
 -- the caption: 17 for a record of another size than 24, else 0 or 1 to 8; with a number the record stays
 pub anthercup-caption-refuses : (o d c : List ℕ) (w : ℕ) (c' : List ℕ) → firmware.caption-gives o d c w c' → Octets o →
     (length c ≡ partSize → (wordNumber w ≤ 8) × (1 ≤ wordNumber w → c' ≡ c))
     × ((length c ≡ partSize → ⊥) → Seventeen c w c')
-unfolding caption-of.told
+unfolding shown.told
 anthercup-caption-refuses o d c w c' h q = (
   λ n. let y = firmware.record-caption o d c w c' h q n in
       so y (y .found) refl,
@@ -344,13 +368,17 @@ anthercup-caption-refuses o d c w c' h q = (
   where
     so : (y : RecordFinds o d c w c') (x : Shown) → y .found ≡ x → (wordNumber w ≤ 8) × (1 ≤ wordNumber w → c' ≡ c)
     so y (found.InMessage start n) e =
-        let z = y .word .number ∙ ap (λ (x : Shown). caption-of.told x .number) e in
+        let z = y .word .number ∙ ap (λ (x : Shown). shown.told x .number) e in
         (omega (arith, z), λ k. absurd (omega (arith, z)))
     so y (found.InDirectory start n) e =
-        let z = y .word .number ∙ ap (λ (x : Shown). caption-of.told x .number) e in
+        let z = y .word .number ∙ ap (λ (x : Shown). shown.told x .number) e in
         (omega (arith, z), λ k. absurd (omega (arith, z)))
     so y (found.Refused f) e =
-        let z = y .word .number ∙ ap (λ (x : Shown). caption-of.told x .number) e in (
-          omega (arith, z, eight-lenient _ .0 (y .finds .judged .numbers f (y .finds .refused f .0 e)) .1),
-          λ _. y .refused f e,
+        let z = y .word .number ∙ ap (λ (x : Shown). shown.told x .number) e in (
+          omega (
+            arith,
+            z,
+            eight-lenient _ .0 (judging.number-of (y .finds .judged) f (finding.declined-so (y .finds) f e)) .1,
+          ),
+          λ l. y .refused (omega (arith, y .word .number, l)),
         )

@@ -30,6 +30,7 @@ use Rattle.reader.specs.declared.Packed.the-variants as packed
 use Rattle.reader.specs.declared.Reading.{Reading}
 use Rattle.reader.specs.Reads.{texts, Reads}
 use Rattle.reader.proofs.Promised as reader
+use Rattle.reader.proofs.Told.{drafted-as}
 use Rattle.writer.specs.declared.Written.{Written}
 use Rattle.writer.specs.declared.Written.the-variants as written
 use Rattle.writer.specs.Reasons.{Writes}
@@ -152,7 +153,7 @@ pub read-written : (b : Book) (o old : List ℕ) (r : Reading) (area : List ℕ)
     length o ≤ length to → (w ≡ written.Message (length o)) × (out ≡ laid o to)
 read-written b o old r area h to w out k m l e n p =
     let R = rulesOf b in
-    let g = reader.reads b o old r area h (unique-in b .octets o (m, l, e)) .drafted m l e n in
+    let g = drafted-as (reader.reads b o old r area h (unique-in b .octets o (m, l, e))) m l e n in
     let rest = drop (length (texts R m)) old in
     let y : area ≡ texts R m ++ rest = g .1 ∙ laid-area (texts R m) old in
     let z = writer.writes-back b (r .draft) area to w out k m l rest (ap (λ (x : Reading). x .draft) (g .0)) y
@@ -172,7 +173,8 @@ written-read b d t old n out h before r area k p =
     let c = g .accepted in
     let same : c .0 ≡ m = unique-in b .message (c .0) m (c .2 ∙ g .begins) in
     let l : LegalMessage R m = subst (LegalMessage R) same (c .1) in
-    let z = reader.reads b (take n out) before r area k (unique-in b .octets _ c) .drafted m l (sym (g .begins)) p in
+    let x = reader.reads b (take n out) before r area k (unique-in b .octets _ c) in
+    let z = drafted-as x m l (sym (g .begins)) p in
     let rest = drop (length (texts R m)) before in
     let v = writer.reads-back b d t old (written.Message n) out h n refl rest in
     let a : texts R m ++ rest ≡ area = sym (z .1 ∙ laid-area (texts R m) before) in

@@ -2,7 +2,7 @@
 -- `reset` and `listen` and of the exports, call after call, whatever outcomes they allow; and a whole read of the
 -- same octets says the same.
 -- Assumes nothing.
-use Prim.Native.Nat.{ℕ, _+_}
+use Prim.Native.Nat.{ℕ, _+_, _≤_}
 use mathlib.Core.Path.{_≡_, refl}
 use mathlib.Core.Logic.{_↔_, Iff·trans, Iff·symm}
 use mathlib.Core.List.{List, _++_}
@@ -12,17 +12,16 @@ use Rattle.rules.specs.Octets.{Octets}
 use Rattle.rules.specs.Language.{languageOf}
 use Rattle.rules.specs.declared.Book.{Book}
 use Rattle.rules.specs.declared.Book.the-variants.{PresentLenient}
-use Rattle.rules.specs.Refusals.{noted}
-use Rattle.rules.specs.declared.Fault.{Fault}
+use Rattle.rules.proofs.Grammar.{spoken-of}
 use Rattle.listener.specs.Heard.{newListener, stepped, outOfRange}
 use Rattle.listener.specs.Hears.{Hears}
 use Rattle.listener.specs.declared.Listener.{Listener}
 use Rattle.listener.specs.declared.Heard.{Heard}
 use Rattle.listener.specs.declared.Answer.{Answer}
-use Rattle.listener.specs.declared.Answer.the-variants as answer
+use Rattle.listener.specs.Told as heard
 use Rattle.listener.proofs.Promised as listener
 use Rattle.reader.specs.declared.Packed.{Packed}
-use Rattle.reader.specs.declared.Packed.the-variants as packed
+use Rattle.reader.specs.Told as read
 use Rattle.reader.specs.declared.Reading.{Reading}
 use Rattle.reader.proofs.Promised as reader
 use Rattle.firmware.specs.Word.{packed as word-of, wordNumber, wordPlace, wordSize}
@@ -39,13 +38,15 @@ module _ (b : Book) (l : Listener) (h : List ℕ) (d : listener.HasHeard b l h) 
 
   -- an answer, once given, stays the same with the same place: the next call, with any run, takes nothing, says it
   -- again and leaves the listener
-  pub answer-stays : (r .answer ≡ answer.Waits → ⊥) → (o' : List ℕ) (r' : Heard) →
+  pub answer-stays : (heard.told (r .answer) ≡ heard.waiting → ⊥) → (o' : List ℕ) (r' : Heard) →
       listener.listen-gives (r .listener) o' r' → r' ≡ record { listener = r .listener; answer = r .answer; taken = 0 }
   answer-stays n o' r' k = listener.answer-stays b l h d o q r p n o' r' k
 
   -- it never gets 17
-  pub never-17 : (f : Fault) → r .answer ≡ answer.Refused f → T (languageOf b .given (f .number))
-  never-17 f e = listener.never-17 b l h d o q r p f e
+  pub never-17 :
+      let k = heard.told (r .answer) .number in
+      1 ≤ k → T (languageOf b .given k)
+  never-17 n = listener.never-17 b l h d o q r p n
 
 module _ (l : Listener) (o : List ℕ) (r : Heard) (p : listener.listen-gives l o r) where
   -- a listener in range that no octets lead to is stepped by the written rule: listener, answer and octets taken
@@ -88,8 +89,9 @@ anthercup-cut-anywhere c x y w w₁ w₂ d d₁ d₂ h h₁ h₂ q a b = firmwar
 -- ---- a listener heard h since its reset, and then a run: what it says is what a whole read of all these octets by
 -- the book of the reset says
 pub record AsListened (b : Book) (o : List ℕ) (w : Answer) (x : Packed) : Type 0 where
-  pub refuses : (f : Fault) → T (languageOf b .given (f .number)) → (x ≡ packed.Refused f) ↔ (w ≡ answer.Refused f)
-  pub waits : (x ≡ packed.Refused (noted 8 (length o))) ↔ (w ≡ answer.Waits)
+  pub refuses : (k p : ℕ) → T (languageOf b .given k) →
+      (read.told x ≡ read.refusal k p) ↔ (heard.told w ≡ heard.refusal k p)
+  pub waits : (read.told x ≡ read.refusal 8 (length o)) ↔ (heard.told w ≡ heard.waiting)
 
 pub as-listened : (b : Book) (l : Listener) (h : List ℕ) → listener.HasHeard b l h → (o : List ℕ) → Octets o →
     (r : Heard) → listener.listen-gives l o r →
@@ -100,6 +102,6 @@ as-listened b l h d o q r p old x area k q' =
     let y = listener.demand3 b l h d o q r p in
     let v = g .early (length (h ++ o)) in
     record {
-      refuses = λ f t. Iff·trans (g .spoilt f t) (Iff·symm (y .refuses f));
+      refuses = λ k p t. Iff·trans (g .spoilt k p t) (Iff·symm (y .refuses k p (spoken-of b .numbers k t .0)));
       waits = (λ e. y .waits .1 (v .0 e .1), λ e. v .1 (refl, y .waits .0 e));
     }

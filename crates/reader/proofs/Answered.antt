@@ -3,13 +3,13 @@
 -- Assumes nothing.
 use Prim.Native.Nat.{ℕ, _≤_, _<_}
 use mathlib.Core.Path.{_≡_, refl, sym, _∙_, ap, subst}
-use mathlib.Core.Logic.{_↔_, Iff·trans}
+use mathlib.Core.Logic.{_⊎_, inl, inr, _↔_, Iff·trans}
 use mathlib.Core.List.{List}
 use native.Mathlib.Omega.{arith}
 use lib.ListN.{length, drop}
 use lib.Dec.{T}
-use Rattle.rules.specs.Tests.{_≤?_}
-use Rattle.rules.proofs.Tests.{left, right, of-eq, pick-case, pick-yes, pick-not, picked-by, le-of, of-le, not-le, clash}
+use Rattle.rules.specs.Tests.{_≤?_, _=?_}
+use Rattle.rules.proofs.Tests.{left, right, either, of-eq, eq-of, pick-case, pick-yes, pick-not, picked-by, le-of, of-le, not-le, clash}
 use Rattle.rules.specs.Octets.{Octets}
 use Rattle.rules.specs.Table.{Rules}
 use Rattle.rules.proofs.ContentLaw.{SoundRules}
@@ -24,16 +24,21 @@ use Rattle.message.specs.declared.Verdict.the-variants.{Accepted, Declined}
 use Rattle.message.specs.Verdict.{verdictOf}
 use Rattle.message.specs.Judges.{Judges, verdictNumber}
 use Rattle.message.proofs.Judges.{judges-calls, given-apart, told-small, near-declined}
+use Rattle.message.proofs.Told.{accepted-iff, spoilt-iff, early-iff, followed-iff, number-of}
 use Rattle.message.specs.Parameters.{parametersIn, messageIn}
 use Rattle.message.proofs.Parameters.{message-in}
 use Rattle.draft.specs.Draft.{emptyOf, messageOf}
 use Rattle.rules.specs.Laying.{laid}
 use Rattle.draft.specs.Packing.{textsOf, draftOf}
 use Rattle.draft.proofs.Packing.{draft-stands}
+use Rattle.reader.specs.declared.Packed.{Packed}
 use Rattle.reader.specs.declared.Packed.the-variants.{Texts, Refused}
+use Rattle.reader.specs.declared.Reading.{Reading}
 use Rattle.reader.proofs.Turns.{texts-in-body, size-within}
 use Rattle.reader.specs.Read.{textSize, packFrom, packOf, areaFrom, areaAfter, draftFrom, readOf}
-use Rattle.reader.specs.Reads.{told, Near, texts, readNumber, Reads}
+use Rattle.reader.specs.Told.{told, Clear}
+use Rattle.reader.proofs.Told.{told-texts, told-refused}
+use Rattle.reader.specs.Reads.{Near, texts, readNumber, Reads}
 
 -- 253 octets are always enough for them
 pub area-enough : (R : Rules) (m : Message) → LegalMessage R m → length (texts R m) ≤ 253
@@ -103,7 +108,7 @@ module _ (R : Rules) (S : SoundRules R) where
     j = judges-calls R S o q
 
     accepted : (m : Message) → LegalMessage R m → octets m ≡ o → v ≡ Accepted (length o)
-    accepted m l e = j .accepted (length o) .1 (refl, (m, l, e))
+    accepted m l e = accepted-iff j (length o) .1 (refl, (m, l, e))
 
     declined : (f : Fault) → (f .number ≡ 9 → ⊥) → (packOf R o room ≡ Refused f) ↔ (v ≡ Declined f)
     unfolding packOf
@@ -114,9 +119,9 @@ module _ (R : Rules) (S : SoundRules R) where
         ((m : Message) × LegalMessage R m × (octets m ≡ o) × (p ≡ length (texts R m)) × (room < p))
     unfolding packOf
     short-message p =
-        let d = short-iff o room v p (λ f e. told-small (spoken R S) _ (j .numbers f e) .2) in (
+        let d = short-iff o room v p (λ f e. told-small (spoken R S) _ (number-of j f e) .2) in (
           λ e. let x = d .0 e in
-              let a = j .accepted (x .0) .0 (x .1) .1 in
+              let a = accepted-iff j (x .0) .0 (x .1) .1 in
               (a .0, a .1, a .2, x .2 ∙ size-of (a .0) o (a .1) (a .2), x .3),
           λ e. d .1 (length o, accepted (e .0) (e .1) (e .2), e .3 ∙ sym (size-of (e .0) o (e .1) (e .2)), e .4),
         )
@@ -159,7 +164,7 @@ module _ (R : Rules) (S : SoundRules R) where
 
     refused-number : (f : Fault) → packOf R o room ≡ Refused f → T (readNumber R (f .number))
     unfolding packOf
-    refused-number f e = numbers-of v f (j .numbers) e
+    refused-number f e = numbers-of v f (number-of j) e
 
     -- numbers, places and sizes are small: a word has room for them
     near-of : (w : Verdict) → ((g : Fault) → w ≡ Declined g → (g .number ≤ 10) × (g .place ≤ 258)) →
@@ -178,27 +183,60 @@ module _ (R : Rules) (S : SoundRules R) where
     pub near : Near (packOf R o room)
     unfolding packOf
     near =
-        near-of v (λ g e. (told-small (spoken R S) _ (j .numbers g e) .1, near-declined j g e))
-        (λ n e. accepted-size R o (j .accepted n .0 e .1) .1)
+        near-of v (λ g e. (told-small (spoken R S) _ (number-of j g e) .1, near-declined j g e))
+        (λ n e. accepted-size R o (accepted-iff j n .0 e .1) .1)
 
     only-message : (n : ℕ) → packOf R o room ≡ Texts n → Accepts R o
     unfolding packOf
-    only-message n e = let x = texts-verdict o room v n e in j .accepted (x .0) .0 (x .1) .1
+    only-message n e = let x = texts-verdict o room v n e in accepted-iff j (x .0) .0 (x .1) .1
+
+    clear-of : (p : Packed) → ((f : Fault) → p ≡ Refused f → 1 ≤ f .number) → Clear p
+    clear-of (Texts n) b = tt
+    clear-of (Refused f) b = b f refl
+
+    clear : Clear (packOf R o room)
+    unfolding readNumber
+    clear = clear-of (packOf R o room) (λ f e. some f (either _ _ (refused-number f e)))
+      where
+        some : (f : Fault) → T (verdictNumber (calls R) (f .number)) ⊎ T (f .number =? 9) → 1 ≤ f .number
+        some f (inl t) = told-small (spoken R S) _ t .0
+        some f (inr t) = omega (arith, eq-of _ _ t)
+
+    -- the same of what is told
+    told-only : (p : Packed) → packOf R o room ≡ p → told p .number ≡ 0 → Accepts R o
+    unfolding told
+    told-only (Texts n) e z = only-message n e
+    told-only (Refused f) e z = absurd (omega (arith, z, subst Clear e clear))
+
+    told-all : (p : Packed) → packOf R o room ≡ p → 1 ≤ told p .number →
+        (areaAfter R o old ≡ old) × (readOf R o room .draft ≡ emptyOf 0) × T (readNumber R (told p .number))
+    unfolding told
+    told-all (Texts n) e l = absurd (omega arith)
+    told-all (Refused f) e l = (refused-all f e .0, refused-all f e .1, refused-number f e)
 
     pub reads-of : Reads R o old (readOf R o room) (areaAfter R o old)
     unfolding readOf
     reads-of = record {
-      spoilt = λ f l. Iff·trans (declined f (given-apart (spoken R S) _ l .2)) (j .spoilt f l);
-      early = λ p. Iff·trans (declined (noted 8 p) (λ x. omega arith)) (j .early p);
-      followed = λ p. Iff·trans (declined (noted 7 p) (λ x. omega arith)) (j .followed p);
-      short = short-message;
+      clear = clear;
+      spoilt =
+          λ k p l. Iff·trans (told-refused _ k p (spoken R S .numbers k l .0))
+          (Iff·trans (declined (noted k p) (given-apart (spoken R S) _ l .2))
+          (spoilt-iff j (noted k p) (spoken R S .numbers k l .0) l));
+      early =
+          λ p. Iff·trans (told-refused _ 8 p (omega arith))
+          (Iff·trans (declined (noted 8 p) (λ x. omega arith)) (early-iff j p));
+      followed =
+          λ p. Iff·trans (told-refused _ 7 p (omega arith))
+          (Iff·trans (declined (noted 7 p) (λ x. omega arith)) (followed-iff j p));
+      short = λ p. Iff·trans (told-refused _ 9 p (omega arith)) (short-message p);
       drafted =
           λ m l e h. (
-            reads m l e h,
+            told-texts _ _ clear .1 (packs m l e h),
+            ap (λ (x : Reading). x .draft) (reads m l e h),
             area-is m l e h,
             (λ i. messageOf (reads m l e h i .draft) (area-is m l e h i))
                 ∙ stands m l e h,
           );
-      only = only-message;
-      refused = λ f e. (refused-all f e .0, refused-all f e .1, refused-number f e);
+      only = told-only _ refl;
+      refused = told-all _ refl;
     }

@@ -5,4 +5,5 @@ pub mod Promised
 pub mod One
 pub mod Laying
 pub mod Turns
+pub mod Told
 pub mod Answered

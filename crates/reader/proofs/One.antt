@@ -1,7 +1,7 @@
 -- The sentences on reading leave one reading and one area: a refusal's number and place are told by the octets and
 -- the room, and a draft by its message.
 -- Assumes nothing.
-use Prim.Native.Nat.{ℕ}
+use Prim.Native.Nat.{ℕ, _≤_}
 use mathlib.Core.Path.{_≡_, refl, sym, _∙_, ap}
 use mathlib.Core.Logic.{_⊎_, inl, inr}
 use mathlib.Core.List.{List}
@@ -21,34 +21,40 @@ use Rattle.reader.specs.declared.Packed.{Packed}
 use Rattle.reader.specs.declared.Packed.the-variants.{Texts, Refused}
 use Rattle.reader.specs.declared.Reading.{Reading}
 use Rattle.reader.specs.Reads.{Reads, texts, readNumber}
+use Rattle.reader.proofs.Told.{spoilt-iff, early-iff, followed-iff, short-iff, drafted-as, texts-accepted}
+use Rattle.reader.proofs.Told.{some-number, refused-so}
 
 module _ (R : Rules) (o old : List ℕ) (r : Reading) (area : List ℕ) (s : Reading) (after : List ℕ)
     (A : Reads R o old r area) (B : Reads R o old s after) where
   -- what the one refuses, the other refuses with the same number and place
   refused-too : (f : Fault) → r .answer ≡ Refused f → s .answer ≡ Refused f
   unfolding readNumber
-  refused-too f e = go (either _ _ (A .refused f e .2))
+  refused-too f e = go (either _ _ (refused-so A f e .2))
     where
+      l : 1 ≤ f .number
+      l = some-number A f e
+
       at : (k : ℕ) → f .number ≡ k → Refused f ≡ Refused (noted k (f .place))
       at k z = ap (λ (n : ℕ). Refused (noted n (f .place))) z
 
       judged : T (given R (f .number)) ⊎ ((f .number ≡ 7) ⊎ (f .number ≡ 8)) → s .answer ≡ Refused f
-      judged (inl t) = B .spoilt f t .1 (A .spoilt f t .0 e)
-      judged (inr (inl k)) = B .followed (f .place) .1 (A .followed (f .place) .0 (e ∙ at 7 k)) ∙ sym (at 7 k)
-      judged (inr (inr k)) = B .early (f .place) .1 (A .early (f .place) .0 (e ∙ at 8 k)) ∙ sym (at 8 k)
+      judged (inl t) = spoilt-iff B f l t .1 (spoilt-iff A f l t .0 e)
+      judged (inr (inl k)) = followed-iff B (f .place) .1 (followed-iff A (f .place) .0 (e ∙ at 7 k)) ∙ sym (at 7 k)
+      judged (inr (inr k)) = early-iff B (f .place) .1 (early-iff A (f .place) .0 (e ∙ at 8 k)) ∙ sym (at 8 k)
 
       go : T (verdictNumber (calls R) (f .number)) ⊎ T (f .number =? 9) → s .answer ≡ Refused f
       go (inl t) = judged (verdict-number (calls R) _ t)
-      go (inr t) = let z = at 9 (eq-of _ _ t) in B .short (f .place) .1 (A .short (f .place) .0 (e ∙ z)) ∙ sym z
+      go (inr t) = let z = at 9 (eq-of _ _ t) in short-iff B (f .place) .1 (short-iff A (f .place) .0 (e ∙ z)) ∙ sym z
 
   -- a message that is read has room, and its draft and texts are its own
   drafted-too : (n : ℕ) → r .answer ≡ Texts n → (m : Message) → LegalMessage R m → octets m ≡ o →
       T (length (texts R m) ≤? length old) ⊎ (T (length (texts R m) ≤? length old) → ⊥) → (r ≡ s) × (area ≡ after)
   drafted-too n e m l q (inl t) =
-      let x = A .drafted m l q (le-of _ _ t) in
-      let y = B .drafted m l q (le-of _ _ t) in
+      let x = drafted-as A m l q (le-of _ _ t) in
+      let y = drafted-as B m l q (le-of _ _ t) in
       (x .0 ∙ sym (y .0), x .1 ∙ sym (y .1))
-  drafted-too n e m l q (inr t) = clash (cc (sym e ∙ A .short (length (texts R m)) .1 (m, l, q, refl, not-le _ _ t)))
+  drafted-too n e m l q (inr t) =
+      clash (cc (sym e ∙ short-iff A (length (texts R m)) .1 (m, l, q, refl, not-le _ _ t)))
 
   -- any octets and any area have one reading, and leave one area
   pub reads-one : (r ≡ s) × (area ≡ after)
@@ -56,12 +62,12 @@ module _ (R : Rules) (o old : List ℕ) (r : Reading) (area : List ℕ) (s : Rea
     where
       go : (x : Packed) → r .answer ≡ x → (r ≡ s) × (area ≡ after)
       go (Texts n) e =
-          let a = A .only n e in
+          let a = texts-accepted A n e in
           drafted-too n e (a .0) (a .1) (a .2) (decide (length (texts R (a .0)) ≤? length old))
       go (Refused f) e =
           let d = refused-too f e in
-          let x = A .refused f e in
-          let y = B .refused f d in
+          let x = refused-so A f e in
+          let y = refused-so B f d in
           let answer = e ∙ sym d in
           let draft = x .1 ∙ sym (y .1) in
           ((λ i. record { answer = answer i; draft = draft i }), x .0 ∙ sym (y .0))

@@ -11,29 +11,17 @@ use lib.Dec.{T}
 use Rattle.rules.specs.Tests.{_=?_, _or_}
 use Rattle.rules.specs.Table.{Rules}
 use Rattle.rules.specs.Message.{Message, octets, LegalMessage, Accepts}
-use Rattle.rules.specs.Refusals.{noted}
 use Rattle.rules.specs.Endings.{Ending, Spoilt, Numbered}
 use Rattle.rules.specs.Language.{calls}
-use Rattle.rules.specs.declared.Fault.{Fault}
 use Rattle.message.specs.Judges.{verdictNumber}
 use Rattle.draft.specs.Draft.{emptyOf, messageOf}
 use Rattle.rules.specs.Laying.{laid}
 use Rattle.draft.specs.Packing.{textsOf, draftOf}
 use Rattle.reader.specs.declared.Packed.{Packed}
-use Rattle.reader.specs.declared.Packed.the-variants.{Texts, Refused}
 use Rattle.reader.specs.declared.Reading.{Reading}
+use Rattle.reader.specs.Told.{told, success, refusal, Clear}
 
--- ---- what an answer tells (document 01, The forms we expect: a definition provides number and values for each case)
--- the number and place of a refusal, the size of the text octets laid down; 0 where there is none
-pub record Told : Type 0 where
-  pub number : ℕ
-  pub place : ℕ
-  pub size : ℕ
-
-unfoldable pub told : Packed → Told
-told (Texts n) = record { number = 0; place = 0; size = n }
-told (Refused f) = record { number = f .number; place = f .place; size = 0 }
-
+-- number, place and size are small: a word has room for them
 pub record Near (p : Packed) : Type 0 where
   pub number : told p .number ≤ 10
   pub place : told p .place ≤ 258
@@ -49,25 +37,26 @@ readNumber R k = verdictNumber (calls R) k or k =? 9
 
 -- r is the answer to the octets o with an area that held `old` and then holds `area`
 pub record Reads (R : Rules) (o old : List ℕ) (r : Reading) (area : List ℕ) : Type 0 where
+  -- number, place and size tell the answer
+  pub clear : Clear (r .answer)
   -- 1 to 6 and 10 exactly at the octet that spoils the message, with the number of its role
-  pub spoilt : (f : Fault) → T (calls R .given (f .number)) →
-      (r .answer ≡ Refused f) ↔
-      (Spoilt (Accepts R) o (f .place) × Numbered (Accepts R) (calls R .roles) o (f .place) (f .number))
+  pub spoilt : (k p : ℕ) → T (calls R .given k) →
+      (told (r .answer) ≡ refusal k p) ↔ (Spoilt (Accepts R) o p × Numbered (Accepts R) (calls R .roles) o p k)
   -- 8 at the number of octets exactly when they can still be completed
-  pub early : (p : ℕ) → (r .answer ≡ Refused (noted 8 p)) ↔ ((p ≡ length o) × Ending (Accepts R) o)
+  pub early : (p : ℕ) → (told (r .answer) ≡ refusal 8 p) ↔ ((p ≡ length o) × Ending (Accepts R) o)
   -- 7 at the first octet behind an accepted message
-  pub followed : (p : ℕ) → (r .answer ≡ Refused (noted 7 p)) ↔ ((p < length o) × Accepts R (take p o))
+  pub followed : (p : ℕ) → (told (r .answer) ≡ refusal 7 p) ↔ ((p < length o) × Accepts R (take p o))
   -- 9 exactly when a message's text octets exceed the area, with their number
   pub short : (p : ℕ) →
-      (r .answer ≡ Refused (noted 9 p)) ↔
+      (told (r .answer) ≡ refusal 9 p) ↔
       ((m : Message) × LegalMessage R m × (octets m ≡ o) × (p ≡ length (texts R m)) × (length old < p))
   -- an accepted message with room gives its draft, always; the texts lie from octet 0 on and later octets stay; the
   -- draft stands for exactly that message
   pub drafted : (m : Message) → LegalMessage R m → octets m ≡ o → length (texts R m) ≤ length old →
-      (r ≡ (record { answer = Texts (length (texts R m)); draft = draftOf R m })) × (area ≡ laid (texts R m) old)
+      (told (r .answer) ≡ success (length (texts R m))) × (r .draft ≡ draftOf R m) × (area ≡ laid (texts R m) old)
       × (messageOf (r .draft) area ≡ m)
   -- and nothing else gives one
-  pub only : (n : ℕ) → r .answer ≡ Texts n → Accepts R o
+  pub only : told (r .answer) .number ≡ 0 → Accepts R o
   -- a refusal leaves the area, and the draft is empty; its number is one of 1 to 9, or 10
-  pub refused : (f : Fault) → r .answer ≡ Refused f →
-      (area ≡ old) × (r .draft ≡ emptyOf 0) × T (readNumber R (f .number))
+  pub refused : 1 ≤ told (r .answer) .number →
+      (area ≡ old) × (r .draft ≡ emptyOf 0) × T (readNumber R (told (r .answer) .number))

@@ -1,4 +1,5 @@
 -- The root of the proofs.
+pub mod Told
 pub mod Clauses
 pub mod Settled
 pub mod Promised

@@ -13,7 +13,9 @@ use Rattle.rules.specs.declared.Fault.{Fault}
 use Rattle.message.proofs.One.{judges-one}
 use Rattle.walker.specs.declared.Step.{Step}
 use Rattle.walker.specs.declared.Step.the-variants.{Parameter, NoMore, Refused}
-use Rattle.walker.specs.Steps.{told, nextPlace}
+use Rattle.walker.specs.Told.{told}
+use Rattle.walker.proofs.Told.{some-number, refused-iff, declined-so}
+use Rattle.walker.specs.Steps.{nextPlace}
 use Rattle.walker.specs.Walks.{Gives, Walks}
 
 -- a parameter and its place tell the step that gives it
@@ -28,7 +30,8 @@ module _ (R : Rules) (o : List ℕ) (at : ℕ) where
   -- what the one refuses, the other refuses with the same number and place
   refused-too : (r s : Step) → Walks R o at r → Walks R o at s → (f : Fault) → r ≡ Refused f → s ≡ Refused f
   refused-too r s A B f e =
-      B .refused f .1 (sym (judges-one (calls R) o _ _ (A .judged) (B .judged)) ∙ A .refused f .0 e)
+      refused-iff B f (some-number A f e) .1
+      (sym (judges-one (calls R) o _ _ (A .judged) (B .judged)) ∙ declined-so A f e)
 
   -- where the one gives a parameter, that begins there, and the other gives it too
   given-too : (r s : Step) → Walks R o at r → Walks R o at s → told r .number ≡ 0 → told r .more ≡ 1 → r ≡ s

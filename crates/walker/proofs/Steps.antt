@@ -17,7 +17,8 @@ use Rattle.message.specs.Walking.{parameterAt}
 use Rattle.message.proofs.Searching.{found-inside}
 use Rattle.walker.specs.declared.Step.{Step}
 use Rattle.walker.specs.declared.Step.the-variants.{Parameter, NoMore, Refused}
-use Rattle.walker.specs.Steps.{met, walkFrom, stepUnder, told}
+use Rattle.walker.specs.Told.{told}
+use Rattle.walker.specs.Steps.{met, walkFrom, stepUnder}
 
 module _ (turns : ℕ) (o : List ℕ) (at place : ℕ) where
   pub no-turns : turns ≤ 0 → walkFrom turns o at place ≡ NoMore

@@ -3,7 +3,7 @@
 -- Assumes nothing.
 use Prim.Native.Nat.{ℕ, zero, suc, _+_, _≤_}
 use mathlib.Core.Path.{_≡_, refl, sym, _∙_, ap, ap₂, subst}
-use mathlib.Core.Logic.{_⊎_, inl, inr, _↔_}
+use mathlib.Core.Logic.{_⊎_, inl, inr, _↔_, Iff·trans, Iff·symm}
 use mathlib.Core.List.{List, [], _∷_, _++_}
 use native.Mathlib.Omega.{arith}
 use lib.ListN.{length, length-append, take, drop}
@@ -16,18 +16,22 @@ use Rattle.rules.proofs.ContentLaw.{SoundRules}
 use Rattle.rules.specs.Message as message
 use Rattle.rules.specs.Message.{Message, body, front, octets, LegalMessage, most}
 use Rattle.rules.specs.declared.Fault.{Fault}
+use Rattle.rules.specs.Refusals.{noted}
 use Rattle.message.specs.declared.Verdict.{Verdict}
 use Rattle.message.specs.declared.Verdict.the-variants.{Accepted, Declined}
 use Rattle.message.specs.Verdict.{verdictOf}
 use Rattle.message.specs.Judges.{Judges, verdictNumber}
 use Rattle.message.proofs.Judges.{judges-calls, told-small}
+use Rattle.message.proofs.Told.{told-declined, accepted-iff, some-number, number-of}
 use Rattle.message.proofs.Searching.{Stand}
 use Rattle.rules.proofs.Sizes.{few}
 use Rattle.rules.specs.Language.{calls}
 use Rattle.rules.proofs.Grammar.{spoken}
 use Rattle.walker.specs.declared.Step.{Step}
 use Rattle.walker.specs.declared.Step.the-variants.{Parameter, NoMore, Refused}
-use Rattle.walker.specs.Steps.{walkFrom, stepUnder, stepOf, told, nextPlace, placeAt}
+use Rattle.walker.specs.Told.{told}
+use Rattle.walker.proofs.Told.{told-refused, clear-of}
+use Rattle.walker.specs.Steps.{walkFrom, stepUnder, stepOf, nextPlace, placeAt}
 use Rattle.walker.proofs.Steps.{walk-plain, under-inside}
 use Rattle.walker.proofs.Begins.{giving, beginAt, place-behind, begins-before, begins-apart, walk-begins, walk-begun, walk-none, walk-on, walk-ended, contents-stand}
 use Rattle.walker.specs.Walks.{Begins, Gives, StepAt, Walks}
@@ -56,15 +60,11 @@ module _ (o : List ℕ) (at : ℕ) where
   numbers-of R (Accepted n) h = inl (walk-plain o most at 2 .0)
   numbers-of R (Declined f) h = inr (h f refl)
 
-refusal-of : (at : ℕ) (r : Step) (f : Fault) → r ≡ Refused f →
-    (told r .number ≡ f .number) × (told r .place ≡ f .place) × (told r .more ≡ 0) × (nextPlace at r ≡ at)
+refusal-stays : (at : ℕ) (r : Step) → 1 ≤ told r .number → nextPlace at r ≡ at
 unfolding told nextPlace
-refusal-of at r f e = (
-  ap (λ (s : Step). told s .number) e,
-  ap (λ (s : Step). told s .place) e,
-  ap (λ (s : Step). told s .more) e,
-  ap (nextPlace at) e,
-)
+refusal-stays at (Parameter k start n next) l = absurd (omega arith)
+refusal-stays at NoMore l = refl
+refusal-stays at (Refused f) l = refl
 
 -- ---- the step in a message
 given-is : (r : Step) → told r .more ≡ 1 → (k s n next : ℕ) × (r ≡ Parameter k s n next)
@@ -90,7 +90,7 @@ module _ (R : Rules) (S : SoundRules R) where
     legal-step : (at : ℕ) → stepOf R o at ≡ walkFrom most o at 2
     unfolding stepOf
     legal-step at =
-        accepted-is o at _ (length o) (judges-calls R S o (told-of R S .octets _ (m, l, refl)) .accepted
+        accepted-is o at _ (length o) (accepted-iff (judges-calls R S o (told-of R S .octets _ (m, l, refl)))
         (length o) .1 (refl, (m, l, refl)))
 
     stand : Stand o c 2 (m .parameters)
@@ -159,18 +159,21 @@ module _ (R : Rules) (S : SoundRules R) where
     pub walks : Walks R o at (stepOf R o at)
     unfolding stepOf
     walks = record {
+      clear = clear-of _ (λ f e. some-number J f (refused-of o at v f .0 e));
       done = (
         λ e. let a =
-            accepted-of o at v (λ f k. told-small (spoken R S) _ (J .numbers f k) .0) e in
-            J .accepted (a .0) .0 (a .1) .1,
+            accepted-of o at v (λ f k. told-small (spoken R S) _ (number-of J f k) .0) e in
+            accepted-iff J (a .0) .0 (a .1) .1,
         λ a. ap (λ (r : Step). told r .number)
-            (accepted-is o at v (length o) (J .accepted (length o) .1 (refl, a))) ∙ walk-plain o most at 2 .0,
+            (accepted-is o at v (length o) (accepted-iff J (length o) .1 (refl, a))) ∙ walk-plain o most at 2 .0,
       );
       verdict = v;
       judged = J;
-      refused = refused-of o at v;
-      refusal = refusal-of at _;
-      numbers = numbers-of o at R v (J .numbers);
+      refused =
+          λ k p l. Iff·trans (told-refused _ k p l)
+          (Iff·trans (refused-of o at v (noted k p)) (Iff·symm (told-declined v k p l)));
+      stays = refusal-stays at _;
+      numbers = numbers-of o at R v (number-of J);
       inside = under-inside o v at;
       stands = λ m l e. subst (λ (x : List ℕ). StepAt m at (stepOf R x at)) e (step-stands m l at);
     }

@@ -36,22 +36,6 @@ stepUnder (Declined f) o at = Refused f
 unfoldable pub stepOf : Rules → List ℕ → ℕ → Step
 stepOf R o at = stepUnder (verdictOf R o) o at
 
--- ---- what an answer tells (document 01, The forms we expect: a definition provides number and values for each case)
--- the number and place of a refusal, the type of a parameter and the part of its contents; 0 where there is none
-pub record Told : Type 0 where
-  pub number : ℕ
-  pub place : ℕ
-  -- 1 for a parameter, 0 for none
-  pub more : ℕ
-  pub kind : ℕ
-  pub start : ℕ
-  pub size : ℕ
-
-unfoldable pub told : Step → Told
-told (Parameter k start n next) = record { number = 0; place = 0; more = 1; kind = k; start = start; size = n }
-told NoMore = record { number = 0; place = 0; more = 0; kind = 0; start = 0; size = 0 }
-told (Refused f) = record { number = f .number; place = f .place; more = 0; kind = 0; start = 0; size = 0 }
-
 -- the place of the next call: behind the parameter given, the same place where none is given
 unfoldable pub nextPlace : ℕ → Step → ℕ
 nextPlace at (Parameter k start n next) = next

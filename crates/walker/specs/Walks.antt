@@ -8,28 +8,27 @@ use mathlib.Core.List.{List, _∷_, _++_}
 use lib.ListN.{length, take, drop}
 use lib.Dec.{T}
 use Rattle.rules.specs.Table.{Rules}
-use Rattle.rules.specs.Message as message
-use Rattle.rules.specs.Message.{Message, body, octets, LegalMessage, Accepts}
-use Rattle.rules.specs.declared.Fault.{Fault}
+use Rattle.message.specs.Told as message
+use Rattle.rules.specs.Message.{Message, Parameter, body, octets, LegalMessage, Accepts}
 use Rattle.rules.specs.Language.{calls}
 use Rattle.message.specs.declared.Verdict.{Verdict}
-use Rattle.message.specs.declared.Verdict.the-variants.{Declined}
 use Rattle.message.specs.Judges.{Judges, verdictNumber}
 use Rattle.walker.specs.declared.Step.{Step}
-use Rattle.walker.specs.declared.Step.the-variants.{Parameter, NoMore, Refused}
-use Rattle.walker.specs.Steps.{told, nextPlace}
+use Rattle.walker.specs.declared.Step.the-variants.{NoMore}
+use Rattle.walker.specs.Told.{told, refusal, Clear}
+use Rattle.walker.specs.Steps.{nextPlace}
 
 -- of the parameters ps, of which the first begins at `first`, one begins at `at`: behind those before it
-pub record Begins (first : ℕ) (ps : List message.Parameter) (at : ℕ) : Type 0 where
-  pub before : List message.Parameter
-  pub p : message.Parameter
-  pub behind : List message.Parameter
+pub record Begins (first : ℕ) (ps : List Parameter) (at : ℕ) : Type 0 where
+  pub before : List Parameter
+  pub p : Parameter
+  pub behind : List Parameter
   pub is : ps ≡ before ++ p ∷ behind
   pub place : at ≡ first + length (body before)
 
 -- the step r at a place of the octets o gives the parameter p: its type, its contents' own place and size in o, and
 -- the place behind them
-pub record Gives (o : List ℕ) (at : ℕ) (p : message.Parameter) (r : Step) : Type 0 where
+pub record Gives (o : List ℕ) (at : ℕ) (p : Parameter) (r : Step) : Type 0 where
   pub number : told r .number ≡ 0
   pub place : told r .place ≡ 0
   pub more : told r .more ≡ 1
@@ -55,14 +54,16 @@ pub record StepAt (m : Message) (at : ℕ) (r : Step) : Type 0 where
 
 -- the octets o and a place went in, and r came back
 pub record Walks (R : Rules) (o : List ℕ) (at : ℕ) (r : Step) : Type 0 where
+  -- what is told, and the place of the next call, tell it
+  pub clear : Clear r
   -- number 0 exactly when the octets are a message, whatever the place
   pub done : (told r .number ≡ 0) ↔ Accepts R o
   -- refused exactly as the whole read declines the octets, with its number and place
   pub verdict : Verdict
   pub judged : Judges (calls R) o verdict
-  pub refused : (f : Fault) → (r ≡ Refused f) ↔ (verdict ≡ Declined f)
-  pub refusal : (f : Fault) → r ≡ Refused f →
-      (told r .number ≡ f .number) × (told r .place ≡ f .place) × (told r .more ≡ 0) × (nextPlace at r ≡ at)
+  pub refused : (k p : ℕ) → 1 ≤ k → (told r ≡ refusal k p) ↔ (message.told verdict ≡ message.refusal k p)
+  -- and then the next call's place is the same
+  pub stays : 1 ≤ told r .number → nextPlace at r ≡ at
   -- no number but 1 to 8, and 10
   pub numbers : (told r .number ≡ 0) ⊎ T (verdictNumber (calls R) (told r .number))
   -- the part lies inside the octets

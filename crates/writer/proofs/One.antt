@@ -16,8 +16,9 @@ use Rattle.rules.specs.Message.{messageKind, most}
 use Rattle.draft.specs.declared.Draft.{Draft}
 use Rattle.writer.specs.declared.Written.{Written}
 use Rattle.writer.specs.declared.Written.the-variants.{Message, Declined}
-use Rattle.writer.specs.Writing.{Told, told, declined, legalEntry}
-use Rattle.writer.specs.Reasons.{Makes, entryAt, lengthOf, AllMake, FirstBad, Asked, refusal, success}
+use Rattle.writer.specs.Told.{Told, told, success, refusal}
+use Rattle.writer.specs.Writing.{declined, legalEntry}
+use Rattle.writer.specs.Reasons.{Makes, entryAt, lengthOf, AllMake, FirstBad, Asked}
 use Rattle.writer.specs.Reasons.{Answers, Writes, Went, kind-is-none, no-entries, many-entries, bad-entry}
 use Rattle.writer.specs.Reasons.{too-long, too-tight, fits}
 use Rattle.writer.proofs.Legal.{at-most, makes-iff}

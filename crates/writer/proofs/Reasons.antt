@@ -18,10 +18,11 @@ use Rattle.draft.specs.Meaning.{formNumber, formIs, kindOf}
 use Rattle.draft.specs.Draft.{noEntry, meaningOf, used}
 use Rattle.draft.specs.declared.Entry.{Entry}
 use Rattle.draft.specs.declared.Draft.{Draft}
-use Rattle.writer.specs.Writing.{Told, told, declined, legalEntry, legalBefore, sized, measuredOf, writeOf}
+use Rattle.writer.specs.Told.{Told, told, success, refusal}
+use Rattle.writer.specs.Writing.{declined, legalEntry, legalBefore, sized, measuredOf, writeOf}
 use Rattle.writer.proofs.Legal.{at-most, makes-iff}
 use Rattle.writer.specs.declared.Written.{Written}
-use Rattle.writer.specs.Reasons.{lengthOf, AllMake, FirstBad, Asked, Went, refusal, success, Answers, kind-is-none, no-entries, many-entries, bad-entry, too-long, too-tight, fits}
+use Rattle.writer.specs.Reasons.{lengthOf, AllMake, FirstBad, Asked, Went, Answers, kind-is-none, no-entries, many-entries, bad-entry, too-long, too-tight, fits}
 
 -- ---- an unused entry place makes none
 none-bad : (b : Book) (texts : List ℕ) → T (legalEntry (rulesOf b) texts noEntry) → ⊥

@@ -1,4 +1,5 @@
 -- The root of what is promised of the writer.
+pub mod Told
 pub mod Writing
 pub mod Judging
 pub mod Laying

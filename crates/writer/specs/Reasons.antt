@@ -14,7 +14,8 @@ use Rattle.draft.specs.Meaning.{formIs, kindOf}
 use Rattle.draft.specs.Draft.{noEntry, meaningOf, inside, parameterOf, parametersOf, used, messageOf}
 use Rattle.draft.specs.declared.Entry.{Entry}
 use Rattle.draft.specs.declared.Draft.{Draft}
-use Rattle.writer.specs.Writing.{Told, told, declined}
+use Rattle.writer.specs.Told.{told, success, refusal}
+use Rattle.writer.specs.Writing.{declined}
 use Rattle.writer.specs.declared.Written.{Written}
 use Rattle.writer.specs.declared.Written.the-variants.{Message, Declined}
 
@@ -62,14 +63,6 @@ pub data Went (R : Rules) (d : Draft) (texts : List ℕ) (room : ℕ) : Written 
       Went R d texts room (Message (lengthOf d texts + 3))
 
 -- ---- number by number
--- the answer of a refusal with number k at p
-abbrev pub refusal : ℕ → ℕ → Told
-refusal k p = record { number = k; place = p; size = 0 }
-
--- the answer of a message of n octets
-abbrev pub success : ℕ → Told
-success n = record { number = 0; place = 0; size = n }
-
 -- w is what the writer answers to a draft with its text area, where the output has so many octets
 pub record Answers (R : Rules) (d : Draft) (texts : List ℕ) (room : ℕ) (w : Written) : Type 0 where
   -- 11 exactly where the message type is neither 80H nor 82H

@@ -17,8 +17,8 @@ use Rattle.draft.specs.declared.Value.{Value}
 use Rattle.draft.specs.declared.Value.the-variants.{Date, Code, State, Text, Carried}
 use Rattle.draft.specs.declared.Entry.{Entry}
 use Rattle.draft.specs.declared.Draft.{Draft}
-use Rattle.writer.specs.Writing.{Told, told, legalEntry, legalBefore, sized, measuredOf, writeOf}
-use Rattle.writer.specs.Reasons.{refusal, success}
+use Rattle.writer.specs.Told.{Told, told, success, refusal}
+use Rattle.writer.specs.Writing.{legalEntry, legalBefore, sized, measuredOf, writeOf}
 
 -- an entry
 abbrev pub says : ℕ → Value → Entry

@@ -16,17 +16,6 @@ use Rattle.draft.specs.declared.Draft.{Draft}
 use Rattle.writer.specs.declared.Written.{Written}
 use Rattle.writer.specs.declared.Written.the-variants.{Message, Declined}
 
--- ---- what an answer tells (document 01, The forms we expect: a definition provides number and values for each case)
--- the number and place of a refusal, the size of a message; 0 where there is none
-pub record Told : Type 0 where
-  pub number : ℕ
-  pub place : ℕ
-  pub size : ℕ
-
-unfoldable pub told : Written → Told
-told (Message n) = record { number = 0; place = 0; size = n }
-told (Declined f) = record { number = f .number; place = f .place; size = 0 }
-
 -- a refusal with a number at a place
 abbrev pub declined : ℕ → ℕ → Written
 declined k p = Declined (noted k p)

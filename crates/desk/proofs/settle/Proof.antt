@@ -5,6 +5,7 @@ use native.Mathlib.Omega.{arith}
 use Rattle.rules.proofs.Octets.{octets-at}
 use Rattle.rules.proofs.Returns.{pick-t, pick-f, via}
 use Rattle.message.proofs.Judges.{judges-of}
+use Rattle.message.proofs.Told.{accepted-iff}
 use Rattle.desk.specs.Settle.{settledUnder, settleOf}
 use borrow.Author.Needs.{needs}
 use Rattle.desk.proofs.settle.Statement.{statement}
@@ -24,7 +25,7 @@ settle-message-requires c κs =
     let read = c .before .before .before .before .before .before .before in
     let start = read .before in
     let o = octets-at (start .args .octets .now) (λ i. omega (arith, read .shared-slice-known .given i)) in
-    judges-of (start .args .book) _ o .accepted _ .0
+    accepted-iff (judges-of (start .args .book) _ o) _ .0
     (sym (c .before .before .before .judge .ensures) ∙ c .before .verdict .given .1) .1
 
 enum-known-verdict-2 : tie.Need-enum-known-verdict-2

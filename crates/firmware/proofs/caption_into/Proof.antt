@@ -1,7 +1,7 @@
 -- `firmware::caption_into` meets its contract: the record is written where a part was found.
 -- Assumes nothing.
 use mathlib.Core.Path.{sym, _∙_, ap}
-use Rattle.caption.specs.Caption.{told}
+use Rattle.caption.specs.Told.{told}
 use Rattle.firmware.specs.Exports.{foundWord, partFrom}
 use borrow.Author.Needs.{needs}
 use Rattle.firmware.proofs.caption_into.Statement.{statement}

@@ -1,6 +1,6 @@
 -- `firmware::desk_word` meets its contract.
 -- Assumes nothing.
-use Rattle.desk.specs.Settle.{told}
+use Rattle.desk.specs.Told.{told}
 use Rattle.firmware.specs.Exports.{deskWord}
 use borrow.Author.Needs.{needs}
 use Rattle.firmware.proofs.desk_word.Statement.{statement}

@@ -1,6 +1,6 @@
 -- `firmware::packed_word` meets its contract: one case after the other.
 -- Assumes nothing.
-use Rattle.reader.specs.Reads.{told}
+use Rattle.reader.specs.Told.{told}
 use Rattle.firmware.specs.Exports.{packedWord}
 use borrow.Author.Needs.{needs}
 use Rattle.firmware.proofs.packed_word.Statement.{statement}

@@ -1,6 +1,6 @@
 -- `firmware::word_of` meets its contract: answer by answer.
 -- Assumes nothing.
-use Rattle.listener.specs.Heard.{told}
+use Rattle.listener.specs.Told.{told}
 use borrow.Author.Needs.{needs}
 use Rattle.firmware.proofs.word_of.Statement.{statement}
 use Rattle.firmware.proofs.word_of.Tie as tie

@@ -1,0 +1,29 @@
+-- What the answer of a read tells (document 01, The forms we expect: a definition provides number and values for each
+-- case).
+-- Assumes nothing.
+use Prim.Native.Nat.{ℕ, _≤_}
+use Rattle.reader.specs.declared.Packed.{Packed}
+use Rattle.reader.specs.declared.Packed.the-variants.{Texts, Refused}
+
+-- the number and place of a refusal, the size of the text octets laid down; 0 where there is none
+pub record Told : Type 0 where
+  pub number : ℕ
+  pub place : ℕ
+  pub size : ℕ
+
+unfoldable pub told : Packed → Told
+told (Texts n) = record { number = 0; place = 0; size = n }
+told (Refused f) = record { number = f .number; place = f .place; size = 0 }
+
+-- a message with n text octets
+abbrev pub success : ℕ → Told
+success n = record { number = 0; place = 0; size = n }
+
+-- a refusal with number k at p
+abbrev pub refusal : ℕ → ℕ → Told
+refusal k p = record { number = k; place = p; size = 0 }
+
+-- a refusal has a number: so what is told tells the answer
+abbrev pub Clear : Packed → Type 0
+Clear (Texts n) = Unit {0}
+Clear (Refused f) = 1 ≤ f .number
