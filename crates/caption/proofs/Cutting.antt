@@ -13,9 +13,9 @@ use Rattle.rules.specs.Tests.{_=?_, pick}
 use Rattle.rules.proofs.Tests.{pick-yes, pick-not, pick-case, both, of-eq, eq-of, le-of}
 use Rattle.rules.proofs.Returns.{T-of}
 use Rattle.rules.proofs.Pairwise.{octets-are}
-use Rattle.caption.specs.declared.Line.{Line}
-use Rattle.caption.specs.declared.Entry.{Entry}
-use Rattle.caption.specs.declared.Entry.the-variants.{Text, Missing}
+use Rattle.caption.specs.declared.CutLine.{CutLine}
+use Rattle.caption.specs.declared.CallerText.{CallerText}
+use Rattle.caption.specs.declared.CallerText.the-variants.{Text, Missing}
 use Rattle.caption.specs.Lines.{onFirst, linesOf, indexOf, before, behind, names}
 use Rattle.caption.specs.Caption.{lookupFrom, Cuts}
 
@@ -65,7 +65,7 @@ names-index caller l t =
     let e = sym (length-take-le (indexOf 0x3D l) l (omega arith)) ∙ ap length (octets-are _ _ (b .1)) in
     (e, omega arith)
 
-chosen : (a b : Bool) (x x' y y' : Entry) → b ≡ a → (b ≡ true → x ≡ x') → y ≡ y' → pick a x y ≡ pick b x' y'
+chosen : (a b : Bool) (x x' y y' : CallerText) → b ≡ a → (b ≡ true → x ≡ x') → y ≡ y' → pick a x y ≡ pick b x' y'
 unfolding pick
 chosen a true x x' y y' e f g = ap (λ (z : Bool). pick z x y) (sym e) ∙ f refl
 chosen a false x x' y y' e f g = ap (λ (z : Bool). pick z x y) (sym e) ∙ g
@@ -76,7 +76,7 @@ module _ (caller d : List ℕ) (at : ℕ) where
   unfolding lookupFrom linesOf
   entry-end h = ap (λ (r : List ℕ). lookupFrom caller at (linesOf r)) (drop-of-length-le d h)
 
-  module _ (h : at < length d) (rest : List ℕ) (w : rest ≡ drop at d) (l : Line) (e : l .size ≡ indexOf 0x0A rest)
+  module _ (h : at < length d) (rest : List ℕ) (w : rest ≡ drop at d) (l : CutLine) (e : l .size ≡ indexOf 0x0A rest)
       (n : l .named ≡ names caller (take (l .size) rest)) where
     abbrev line : List ℕ
     line = take (l .size) rest

@@ -16,7 +16,7 @@ use Rattle.rules.specs.Tests.{_=?_, pick}
 use Rattle.rules.proofs.Tests.{pick-yes, pick-not, both, join, of-eq, eq-of, of-le, le-of, decide, clash}
 use Rattle.rules.specs.Pairwise.{sameOctets}
 use Rattle.rules.proofs.Pairwise.{octets-are, octets-self}
-use Rattle.caption.specs.declared.Entry.the-variants.{Text, Missing}
+use Rattle.caption.specs.declared.CallerText.the-variants.{Text, Missing}
 use Rattle.caption.specs.Lines.{linesOf, indexOf, before, behind, names}
 use Rattle.caption.specs.Caption.{lookupFrom, lookup}
 use Rattle.caption.proofs.Cutting.{index-most, lines-cut}

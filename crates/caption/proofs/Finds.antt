@@ -28,10 +28,10 @@ use Rattle.message.specs.Verdict.{verdictOf}
 use Rattle.message.specs.Judges.{Judges, verdictNumber}
 use Rattle.message.proofs.Judges.{judges-of, told-small}
 use Rattle.message.proofs.Told.{told-declined, accepted-iff, some-number, number-of}
-use Rattle.message.specs.Walking.{countedAt, partOf}
+use Rattle.message.specs.Parts.{countedAt, partOf}
 use Rattle.message.proofs.Searching.{counted-part}
-use Rattle.caption.specs.declared.Entry.{Entry}
-use Rattle.caption.specs.declared.Entry.the-variants.{Text, Missing}
+use Rattle.caption.specs.declared.CallerText.{CallerText}
+use Rattle.caption.specs.declared.CallerText.the-variants.{Text, Missing}
 use Rattle.caption.specs.declared.Shown.{Shown}
 use Rattle.caption.specs.declared.Shown.the-variants.{InMessage, InDirectory, Refused}
 use Rattle.caption.specs.Told.{told}
@@ -81,13 +81,13 @@ module _ (book : Book) where
     by-name v c = ap (λ (p : Part). byName (rulesOf book) p o d) (counted-at (rulesOf book) m 0x07 v c)
 
     by-caller : counted (rulesOf book) m 0x07 ≡ none →
-        (v : List ℕ) (c : Counts (rulesOf book) m 0x02 v) (e : Entry) → lookup v d ≡ e →
+        (v : List ℕ) (c : Counts (rulesOf book) m 0x02 v) (e : CallerText) → lookup v d ≡ e →
         found ≡ byEntry e (contentsAt (c .first)) (length v)
     unfolding found byName byCaller
     by-caller n v c e f =
         ap (λ (p : Part). byName (rulesOf book) p o d) (nowhere 0x07 n)
         ∙ ap (λ (p : Part). byCaller p o d) (counted-at (rulesOf book) m 0x02 v c)
-        ∙ ap (λ (x : Entry). byEntry x (contentsAt (c .first)) (length v))
+        ∙ ap (λ (x : CallerText). byEntry x (contentsAt (c .first)) (length v))
         (ap (λ (w : List ℕ). lookup w d) (holds 0x02 v c) ∙ f)
 
     empty : counted (rulesOf book) m 0x07 ≡ none → counted (rulesOf book) m 0x02 ≡ none → found ≡ InMessage 0 0
@@ -126,7 +126,7 @@ module _ (book : Book) where
     unfolding told
     in-directory start n = (refl, λ f e. clash cc)
 
-    by-entry-part : (e : Entry) (start n : ℕ) → Unrefused (byEntry e start n)
+    by-entry-part : (e : CallerText) (start n : ℕ) → Unrefused (byEntry e start n)
     unfolding byEntry
     by-entry-part (Text at k) start n = in-directory at k
     by-entry-part Missing start n = in-message start n

@@ -14,10 +14,10 @@ use Rattle.message.specs.declared.Verdict.the-variants.{Accepted, Declined}
 use Rattle.message.specs.declared.Part.{Part}
 use Rattle.message.specs.declared.Part.the-variants.{At, Nowhere}
 use Rattle.message.specs.Verdict.{verdictOf}
-use Rattle.message.specs.Walking.{countedAt}
+use Rattle.message.specs.Parts.{countedAt}
 use Rattle.message.proofs.Places.{Within, counted-inside}
-use Rattle.caption.specs.declared.Entry.{Entry}
-use Rattle.caption.specs.declared.Entry.the-variants.{Text, Missing}
+use Rattle.caption.specs.declared.CallerText.{CallerText}
+use Rattle.caption.specs.declared.CallerText.the-variants.{Text, Missing}
 use Rattle.caption.specs.declared.Shown.{Shown}
 use Rattle.caption.specs.declared.Shown.the-variants.{InMessage, InDirectory, Refused}
 use Rattle.caption.specs.Lines.{onFirst, linesOf, indexOf, behind, names}
@@ -57,7 +57,7 @@ module _ (o d : List ℕ) where
   abbrev Inside : Shown → Type 0
   Inside r = told r .start + told r .size ≤ length (sliceOf r o d)
 
-  by-entry-inside : (e : Entry) (start n : ℕ) → ((at k : ℕ) → e ≡ Text at k → at + k ≤ length d) →
+  by-entry-inside : (e : CallerText) (start n : ℕ) → ((at k : ℕ) → e ≡ Text at k → at + k ≤ length d) →
       start + n ≤ length o → Inside (byEntry e start n)
   unfolding byEntry told sliceOf
   by-entry-inside (Text at k) start n f h = f at k refl

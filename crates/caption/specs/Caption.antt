@@ -12,29 +12,29 @@ use Rattle.message.specs.declared.Verdict.the-variants.{Accepted, Declined}
 use Rattle.message.specs.declared.Part.{Part}
 use Rattle.message.specs.declared.Part.the-variants.{At, Nowhere}
 use Rattle.message.specs.Verdict.{verdictOf}
-use Rattle.message.specs.Walking.{countedAt}
+use Rattle.message.specs.Parts.{countedAt}
 use Rattle.caption.specs.Told.{told}
 use Rattle.caption.specs.Lines.{indexOf, behind, names, linesOf}
-use Rattle.caption.specs.declared.Line.{Line}
-use Rattle.caption.specs.declared.Entry.{Entry}
-use Rattle.caption.specs.declared.Entry.the-variants.{Text, Missing}
+use Rattle.caption.specs.declared.CutLine.{CutLine}
+use Rattle.caption.specs.declared.CallerText.{CallerText}
+use Rattle.caption.specs.declared.CallerText.the-variants.{Text, Missing}
 use Rattle.caption.specs.declared.Shown.{Shown}
 use Rattle.caption.specs.declared.Shown.the-variants.{InMessage, InDirectory, Refused}
 
 -- where the text after the first = stands on the first line for the caller; the first of the lines begins at a place
 -- of the directory
-unfoldable pub lookupFrom : List ℕ → ℕ → List (List ℕ) → Entry
+unfoldable pub lookupFrom : List ℕ → ℕ → List (List ℕ) → CallerText
 lookupFrom caller at [] = Missing
 lookupFrom caller at (l ∷ ls) =
     pick (names caller l) (Text (at + suc (indexOf 0x3D l)) (length (behind l)))
     (lookupFrom caller (at + suc (length l)) ls)
 
 -- where the text for a caller stands in the directory
-abbrev pub lookup : List ℕ → List ℕ → Entry
+abbrev pub lookup : List ℕ → List ℕ → CallerText
 lookup caller d = lookupFrom caller 0 (linesOf d)
 
 -- the directory's text for a caller that stands in the message, else the caller
-unfoldable pub byEntry : Entry → ℕ → ℕ → Shown
+unfoldable pub byEntry : CallerText → ℕ → ℕ → Shown
 byEntry (Text at k) start n = InDirectory at k
 byEntry Missing start n = InMessage start n
 
@@ -79,7 +79,7 @@ codeOf (Refused f) x = x
 
 -- ---- how the search goes on
 -- the line that begins at a place of the directory: what the search makes of it
-pub record Cuts (caller d : List ℕ) (at : ℕ) (l : Line) : Type 0 where
+pub record Cuts (caller d : List ℕ) (at : ℕ) (l : CutLine) : Type 0 where
   pub inside : at + l .size ≤ length d
   pub caller-inside : l .named ≡ true → length caller < l .size
   pub goes : lookupFrom caller at (linesOf (drop at d)) ≡

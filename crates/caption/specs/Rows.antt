@@ -16,7 +16,7 @@ use Rattle.rules.specs.Refusals.{noted}
 use Rattle.rules.specs.Machine.{step, run}
 use Rattle.rules.specs.Judge.{roomFits, rangePossible, somePossible, possible, final, fits, contents, after, fault, machine}
 use Rattle.message.specs.Verdict.{judged, verdictOf}
-use Rattle.message.specs.Walking.{parameterAt, matched, searchFrom, countedAt}
+use Rattle.message.specs.Parts.{parameterAt, matched, searchFrom, countedAt}
 use Rattle.caption.specs.declared.Shown.the-variants.{InMessage, InDirectory, Refused}
 use Rattle.caption.specs.Lines.{onFirst, linesOf, indexOf, before, behind, names}
 use Rattle.caption.specs.Caption.{lookupFrom, byEntry, byCaller, byName, findUnder, findOf}

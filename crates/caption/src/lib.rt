@@ -8,7 +8,7 @@ ghost use mathlib.Core.Path.{_≡_};
 ghost use Prim.Native.Nat.{_+_, _≤_, _<_};
 ghost use lib.ListN.{length, take, drop};
 ghost use Rattle.rules.specs.Table.{rulesOf};
-ghost use Rattle.message.specs.Walking.{countedAt};
+ghost use Rattle.message.specs.Parts.{countedAt};
 ghost use Rattle.caption.specs.Lines.{indexOf, names};
 ghost use Rattle.caption.specs.Caption.{lookup, Cuts, byEntry, byCaller, byName, findOf, captionOf, codeOf};
 
@@ -20,13 +20,13 @@ pub enum Shown {
 }
 
 // How long a line is, and whether it is for the caller.
-struct Line {
+struct CutLine {
     size: usize,
     named: bool,
 }
 
 // Where the text for a caller stands in the directory.
-enum Entry {
+enum CallerText {
     Text { start: usize, length: usize },
     Missing,
 }
@@ -58,18 +58,18 @@ fn is_for(caller: &[u8], line: &[u8]) -> bool
 }
 
 // The line that begins at a place; it ends at 0AH, the last perhaps without.
-fn line_at(caller: &[u8], directory: &[u8], at: usize) -> Line
+fn line_at(caller: &[u8], directory: &[u8], at: usize) -> CutLine
     requires { ⌜ at < length (now directory) ⌝ }
     ensures { λ r. ⌜ Cuts (now (caller .entry)) (now (directory .entry)) at r ⌝ }
 {
     let rest = &directory[at..];
     let size = index_of(0x0A, rest);
     let named = is_for(caller, &rest[..size]);
-    Line { size, named }
+    CutLine { size, named }
 }
 
 // The text after the first `=` on the first line for the caller.
-fn entry_for(caller: &[u8], directory: &[u8]) -> Entry
+fn entry_for(caller: &[u8], directory: &[u8]) -> CallerText
     ensures { λ r. ⌜ r ≡ lookup (now (caller .entry)) (now (directory .entry)) ⌝ }
 {
     let mut at: usize = 0;
@@ -79,11 +79,11 @@ fn entry_for(caller: &[u8], directory: &[u8]) -> Entry
         if line.named {
             let start = at + caller.len() + 1;
             let length = size - caller.len() - 1;
-            return Entry::Text { start, length };
+            return CallerText::Text { start, length };
         }
         at = at + size + 1;
     }
-    Entry::Missing
+    CallerText::Missing
 }
 
 // For a caller that counts: the directory's text, else the caller.
@@ -95,8 +95,8 @@ fn by_entry(message: &[u8], directory: &[u8], start: usize, n: u8) -> Shown
     let caller = &message[start..start + size];
     let entry = entry_for(caller, directory);
     match entry {
-        Entry::Text { start: at, length } => Shown::InDirectory { start: at, length },
-        Entry::Missing => Shown::InMessage {
+        CallerText::Text { start: at, length } => Shown::InDirectory { start: at, length },
+        CallerText::Missing => Shown::InMessage {
             start,
             length: size,
         },

@@ -16,7 +16,7 @@ use Rattle.rules.specs.Machine.{step, run}
 use Rattle.rules.specs.Judge.{roomFits, rangePossible, somePossible, possible, final, fits, contents, after, fault, machine}
 use Rattle.rules.specs.Refusals.{noted}
 use Rattle.message.specs.Verdict.{judged, verdictOf}
-use Rattle.message.specs.Walking.{parameterAt, matched, searchFrom, countedAt, partOf}
+use Rattle.message.specs.Parts.{parameterAt, matched, searchFrom, countedAt, partOf}
 use Rattle.desk.specs.declared.Waiting.{Waiting}
 use Rattle.desk.specs.declared.Waiting.the-variants as waiting
 use Rattle.desk.specs.declared.Lamp.{Lamp}

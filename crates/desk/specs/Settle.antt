@@ -8,7 +8,7 @@ use Rattle.rules.specs.Tests.{_=?_, pick}
 use Rattle.rules.specs.Table.{Rules}
 use Rattle.rules.specs.declared.Fault.{Fault}
 use Rattle.rules.specs.Refusals.{noted}
-use Rattle.message.specs.Walking.{countedAt, partOf}
+use Rattle.message.specs.Parts.{countedAt, partOf}
 use Rattle.message.specs.Verdict.{verdictOf}
 use Rattle.message.specs.declared.Verdict.{Verdict}
 use Rattle.message.specs.declared.Verdict.the-variants.{Accepted, Declined}
@@ -19,7 +19,6 @@ use Rattle.desk.specs.declared.Lamp.the-variants as lamp
 use Rattle.desk.specs.declared.Change.{Change}
 use Rattle.desk.specs.declared.Change.the-variants.{Nothing}
 use Rattle.desk.specs.declared.Desk.{Desk}
-use Rattle.desk.specs.declared.Answer.{Answer}
 use Rattle.desk.specs.declared.Answer.the-variants.{Done, Refused}
 use Rattle.desk.specs.declared.Outcome.{Outcome}
 use Rattle.desk.specs.References.{placeCount, free, placesFit, changeBy, isFull, placesAfter}

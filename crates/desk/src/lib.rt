@@ -177,7 +177,7 @@ fn places_after(places: [u32; PLACES], change: Change) -> [u32; PLACES]
 fn change_by(state: u8, high: u8, low: u8) -> Change
     ensures { λ r. ⌜ r ≡ changeBy state high low ⌝ }
 {
-    let reference = 256 * (high as u16) + low as u16;
+    let reference = rules::reference_of(high, low);
     if state == 0xFF {
         Change::Adds(reference)
     } else if state == 0x00 {

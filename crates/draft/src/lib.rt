@@ -69,15 +69,26 @@ pub fn empty(kind: u8) -> Draft
     }
 }
 
+// The numbers of the kinds of value. From TEXT_FORM on they have a text.
+pub const CODE_FORM: u8 = 0;
+
+pub const DATE_FORM: u8 = 1;
+
+pub const STATE_FORM: u8 = 2;
+
+pub const TEXT_FORM: u8 = 3;
+
+pub const CARRIED_FORM: u8 = 4;
+
 fn form_number(form: Form) -> u8
     ensures { λ r. ⌜ r ≡ formNumber form ⌝ }
 {
     match form {
-        Form::CodeValue => 0,
-        Form::DateValue => 1,
-        Form::StateValue => 2,
-        Form::TextValue => 3,
-        Form::CarriedValue => 4,
+        Form::CodeValue => CODE_FORM,
+        Form::DateValue => DATE_FORM,
+        Form::StateValue => STATE_FORM,
+        Form::TextValue => TEXT_FORM,
+        Form::CarriedValue => CARRIED_FORM,
     }
 }
 
@@ -109,7 +120,7 @@ pub fn flatten(v: Value) -> Flat
             hour,
             minute,
         } => Flat {
-            form: 1,
+            form: DATE_FORM,
             first: month as u16,
             second: day as u16,
             third: hour as u16,
@@ -118,7 +129,7 @@ pub fn flatten(v: Value) -> Flat
             length: 0,
         },
         Value::Code(x) => Flat {
-            form: 0,
+            form: CODE_FORM,
             first: x as u16,
             second: 0,
             third: 0,
@@ -127,7 +138,7 @@ pub fn flatten(v: Value) -> Flat
             length: 0,
         },
         Value::State { state, reference } => Flat {
-            form: 2,
+            form: STATE_FORM,
             first: state as u16,
             second: reference,
             third: 0,
@@ -135,8 +146,8 @@ pub fn flatten(v: Value) -> Flat
             start: 0,
             length: 0,
         },
-        Value::Text { start, length } => text_at(3, start, length),
-        Value::Carried { start, length } => text_at(4, start, length),
+        Value::Text { start, length } => text_at(TEXT_FORM, start, length),
+        Value::Carried { start, length } => text_at(CARRIED_FORM, start, length),
     }
 }
 

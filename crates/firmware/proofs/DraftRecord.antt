@@ -18,8 +18,8 @@ use Rattle.draft.specs.declared.Value.{Value}
 use Rattle.draft.specs.declared.Value.the-variants.{Date, Code, State, Text, Carried}
 use Rattle.draft.specs.declared.Entry.{Entry}
 use Rattle.draft.specs.declared.Draft.{Draft}
-use Rattle.draft.specs.Meaning.{formNumber, formIs}
-use Rattle.draft.specs.Draft.{noEntry, inside, allInside, meaningOf}
+use Rattle.draft.specs.Meaning.{formNumber}
+use Rattle.draft.specs.Draft.{noEntry, inside, allInside}
 use Rattle.draft.specs.Packing.{entriesOf, textsOf, draftOf}
 use Rattle.draft.proofs.Packing.{pack}
 use Rattle.message.specs.Parameters.{messageIn, parametersIn}
@@ -30,15 +30,6 @@ use Rattle.reader.specs.Read.{takenAt}
 use Rattle.reader.specs.declared.Taken.the-variants as taken
 use Rattle.firmware.specs.DraftRecord.{textNumbers, numbersOf, entryCells, entriesCells, draftRecord, valueOf, cellIn, entryIn}
 use Rattle.firmware.specs.Sizes.{draftSize}
-
--- the kinds are numbered as in a draft laid flat
-pub form-is : (texts : List ℕ) (v : Value) → numbersOf v .form ≡ formNumber (formIs (meaningOf texts v))
-unfolding numbersOf textNumbers formNumber formIs meaningOf
-form-is texts (Date m y h n) = refl
-form-is texts (Code x) = refl
-form-is texts (State s r) = refl
-form-is texts (Text s n) = refl
-form-is texts (Carried s n) = refl
 
 -- ---- entries in their places
 entry-length : (e : Entry) → length (entryCells e) ≡ 8

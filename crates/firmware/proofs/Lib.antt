@@ -1,8 +1,8 @@
 -- The root of the proofs: what the decoding of a record wants.
 pub mod Classes
-pub mod Decoding
+pub mod ListenerRecord
 pub mod RecordPlaces
-pub mod Drafting
+pub mod Cells
 pub mod Settled
 pub mod Promised
 pub mod One

@@ -1,13 +1,12 @@
 -- The sentences on the exports leave one word, and one content of each record: what is told of the octets is one
 -- (hears-one and its like), and the word and the records are told by it.
 -- Assumes nothing.
-use Prim.Native.Nat.{ℕ, suc, _≤_}
+use Prim.Native.Nat.{ℕ, _≤_}
 use mathlib.Core.Path.{_≡_, refl, sym, _∙_, ap, subst}
 use mathlib.Core.Logic.{_⊎_, inl, inr}
 use mathlib.Core.List.{List}
 use mathlib.Core.Option.{Option, none, some}
 use native.Mathlib.Omega.{arith}
-use lib.ListN.{length}
 use lib.Dec.{T}
 use Rattle.rules.specs.Tests.{_=?_}
 use Rattle.rules.proofs.Tests.{decide, eq-of, of-eq}

@@ -20,7 +20,6 @@ use Rattle.rules.specs.Judge.{machine, inRange}
 use Rattle.rules.specs.Language.{languageOf}
 use Rattle.rules.proofs.Language.{in-range-run}
 use Rattle.rules.proofs.Grammar.{spoken-of}
-use Rattle.rules.specs.declared.Fault.{Fault}
 use Rattle.listener.specs.declared.Listener.{Listener}
 use Rattle.listener.specs.declared.Answer.{Answer}
 use Rattle.listener.specs.declared.Answer.the-variants.{Waits, Message, Refused}

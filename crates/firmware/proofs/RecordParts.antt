@@ -25,7 +25,7 @@ use Rattle.message.specs.declared.Part.the-variants.{At, Nowhere}
 use Rattle.message.specs.Verdict.{verdictOf}
 use Rattle.message.proofs.Judges.{judges-of, told-small, near-declined}
 use Rattle.message.proofs.Told.{accepted-iff, number-of}
-use Rattle.message.specs.Walking.{countedAt, partOf}
+use Rattle.message.specs.Parts.{countedAt, partOf}
 use Rattle.message.proofs.Searching.{counted-part}
 use Rattle.message.specs.Places.{contentsAt}
 use Rattle.message.proofs.Places.{counted-at, counted-inside}

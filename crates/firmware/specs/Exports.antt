@@ -18,7 +18,7 @@ use Rattle.message.specs.declared.Verdict.the-variants.{Accepted, Declined}
 use Rattle.message.specs.declared.Part.{Part}
 use Rattle.message.specs.declared.Part.the-variants.{At, Nowhere}
 use Rattle.message.specs.Verdict.{verdictOf}
-use Rattle.message.specs.Walking.{countedAt}
+use Rattle.message.specs.Parts.{countedAt}
 use Rattle.caption.specs.declared.Shown.{Shown}
 use Rattle.caption.specs.declared.Shown.the-variants as found
 use Rattle.caption.specs.Told as caption
@@ -33,7 +33,7 @@ use Rattle.desk.specs.Settle.{newDesk, settleOf}
 use Rattle.firmware.specs.DeskRecord.{isRecord, deskIn, deskRecord}
 use Rattle.firmware.specs.DraftRecord.{draftRecord}
 use Rattle.firmware.specs.PartRecord.{partRecord}
-use Rattle.firmware.specs.declared.Outcome.{Outcome}
+use Rattle.firmware.specs.declared.HeardWord.{HeardWord}
 use Rattle.firmware.specs.declared.Decoded.{Decoded}
 use Rattle.firmware.specs.declared.Decoded.the-variants.{Known, Unknown}
 use Rattle.firmware.specs.Record.{decodeOf, recordOf}
@@ -54,8 +54,8 @@ resetRecord c = pick (length c =? listenerSize) (recordOf (newListener PresentLe
 unfoldable pub wordOf : Heard → ℕ
 wordOf h = packed (told (h .answer) .number) (told (h .answer) .place) (told (h .answer) .size) (h .taken)
 
-unfoldable pub outcomeOf : Listener → List ℕ → Outcome
-outcomeOf l o = record { listener = heardOf l o .listener; word = wordOf (heardOf l o) }
+unfoldable pub heardWordOf : Listener → List ℕ → HeardWord
+heardWordOf l o = record { listener = heardOf l o .listener; word = wordOf (heardOf l o) }
 
 unfoldable pub answered : Decoded → List ℕ → ℕ
 answered (Known l) o = wordOf (heardOf l o)

@@ -45,28 +45,28 @@ fn numbers_of(v: Value) -> Numbers
             hour,
             minute,
         } => Numbers {
-            form: 1,
+            form: draft::DATE_FORM,
             a: month,
             b: day,
             c: hour,
             d: minute,
         },
         Value::Code(x) => Numbers {
-            form: 0,
+            form: draft::CODE_FORM,
             a: x,
             b: 0,
             c: 0,
             d: 0,
         },
         Value::State { state, reference } => Numbers {
-            form: 2,
+            form: draft::STATE_FORM,
             a: state,
             b: 0,
             c: (reference % 256) as u8,
             d: (reference / 256) as u8,
         },
-        Value::Text { start, length } => numbers_text(3, start, length),
-        Value::Carried { start, length } => numbers_text(4, start, length),
+        Value::Text { start, length } => numbers_text(draft::TEXT_FORM, start, length),
+        Value::Carried { start, length } => numbers_text(draft::CARRIED_FORM, start, length),
     }
 }
 

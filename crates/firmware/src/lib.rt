@@ -22,7 +22,7 @@ ghost use lib.ListN.{length};
 ghost use Rattle.rules.specs.Table.{rulesOf};
 ghost use Rattle.rules.specs.declared.Book.the-variants as book;
 ghost use Rattle.listener.specs.Told.{told};
-ghost use Rattle.message.specs.Walking.{countedAt};
+ghost use Rattle.message.specs.Parts.{countedAt};
 ghost use Rattle.caption.specs.Caption.{findOf};
 ghost use Rattle.reader.specs.Read.{packOf, areaAfter};
 ghost use Rattle.firmware.specs.Record as record-of;
@@ -340,19 +340,19 @@ fn word_of(a: Answer, taken: usize) -> u64
 }
 
 // What a call leaves: the listener, and the answer as a word.
-struct Outcome {
+struct HeardWord {
     listener: Listener,
     word: u64,
 }
 
-fn hear(l: Listener, octets: &[u8]) -> Outcome
-    ensures { λ r. ⌜ r ≡ exports.outcomeOf l (now (octets .entry)) ⌝ }
+fn hear(l: Listener, octets: &[u8]) -> HeardWord
+    ensures { λ r. ⌜ r ≡ exports.heardWordOf l (now (octets .entry)) ⌝ }
 {
     let heard = listener::listen(l, octets);
     let listener = heard.listener;
     let answer = heard.answer;
     let word = word_of(answer, heard.taken);
-    Outcome { listener, word }
+    HeardWord { listener, word }
 }
 
 fn packed_word(p: Packed) -> u64

@@ -1,5 +1,5 @@
 -- The root of the proofs.
-pub mod Putting
+pub mod Pieces
 pub mod Keys
 pub mod Rows
 pub mod Whole

@@ -2,8 +2,8 @@
 -- the order of the table; the number of carried parameters stands last.
 -- Assumes nothing.
 use Prim.Native.Nat.{ℕ, zero, suc, _≤_, _<_}
-use mathlib.Core.Path.{_≡_, refl, sym, _∙_, ap, subst}
-use mathlib.Core.Logic.{_⊎_, inl, inr, _↔_}
+use mathlib.Core.Path.{_≡_, refl, subst}
+use mathlib.Core.Logic.{_⊎_, inl, inr}
 use mathlib.Core.Bool.{Bool}
 use mathlib.Core.List.{List, [], _∷_, _++_}
 use mathlib.Core.Option.{Option, none, some}
@@ -11,18 +11,17 @@ use native.Mathlib.Omega.{arith}
 use lib.ListN.{length, getD}
 use lib.Dec.{T}
 use Rattle.rules.specs.Tests.{_=?_, _and_, _or_, pick}
-use Rattle.rules.proofs.Tests.{pick-yes, both, either, eq-of}
-use Rattle.rules.specs.Table.{Rules, Row, rulesOf, classOf, styleOf, ascii}
+use Rattle.rules.proofs.Tests.{pick-yes, both, eq-of}
+use Rattle.rules.specs.Table.{Rules, Row, rulesOf, ascii}
 use Rattle.rules.specs.declared.Book.{Book}
 use Rattle.rules.specs.declared.Book.the-variants.{PresentStrict, PresentLenient, OldStrict, OldLenient}
 use Rattle.rules.specs.Message.{Message}
 use Rattle.rules.specs.Counting.{counted, carriedIn}
 use Rattle.rules.specs.Pairwise.{pairwise}
 use Rattle.rules.proofs.Pairwise.{octets-self}
-use Rattle.listing.proofs.Tabled.{differ, differ-is, below, below-at}
 use Rattle.listing.specs.Lists.{Has, HasLine, kind, counts, carried}
 use Rattle.listing.specs.Lists.{keysOf, keyPlace, order, linePlace, Rising, Lines}
-use Rattle.listing.specs.Listing.{printed, Line, lineOf, linesFor, rowLines, noRow, rowAt, kindLine, carriedLine, messageLines, rowCount, row-count}
+use Rattle.listing.specs.Listing.{Line, lineOf, linesFor, rowLines, kindLine, carriedLine, messageLines}
 
 -- ---- one of some
 module _ {A : Type 0} where
@@ -151,114 +150,3 @@ lines-of b m =
       said = λ l. (has-said (rulesOf b) m l, said-has (rulesOf b) m l);
       ordered = rise (rulesOf b) m (in-places b);
     }
-
--- ---- the keys: no two rows have the same, and none has `kind` or `carried`
-abbrev apart : ℕ → Bool
-apart i =
-    differ (rowAt i .key) (ascii "kind") and differ (rowAt i .key) (ascii "carried") and below
-    (λ (j : ℕ). differ (rowAt i .key) (rowAt j .key) or i =? j) rowCount
-
-tested : T (below apart rowCount)
-unfolding below pairwise differ rowAt rulesOf ascii pick _=?_ _and_ _or_
-tested = tt
-
-module _ (i : ℕ) (h : i < rowCount) where
-  own : T (apart i)
-  own = below-at apart rowCount i tested h
-
-  pub not-kind : rowAt i .key ≡ ascii "kind" → ⊥
-  not-kind e = differ-is _ _ (both _ _ (both _ _ own .0) .0) e
-
-  pub not-carried : rowAt i .key ≡ ascii "carried" → ⊥
-  not-carried e = differ-is _ _ (both _ _ (both _ _ own .0) .1) e
-
-  pub key-tells : (j : ℕ) → j < rowCount → rowAt i .key ≡ rowAt j .key → i ≡ j
-  key-tells j k e =
-      go (either _ _ (below-at (λ (j : ℕ). differ (rowAt i .key) (rowAt j .key) or i =? j) rowCount j
-      (both _ _ own .1) k))
-    where
-      go : T (differ (rowAt i .key) (rowAt j .key)) ⊎ T (i =? j) → i ≡ j
-      go (inl t) = absurd (differ-is _ _ t e)
-      go (inr t) = eq-of i j t
-
-module _ (m : Message) where
-  -- the type of row i counts with contents v, and l is its line
-  abbrev pub LineAt : ℕ → Line → Type 0
-  LineAt i l =
-      (v : List ℕ) × (counted (rulesOf PresentLenient) m (rowAt i .kind) ≡ some v)
-      × (l ≡ lineOf (rulesOf PresentLenient) (rowAt i) v)
-
-  -- a line says the kind, or the number of carried parameters, or what counts
-  pub every-line : (l : Line) → Has (messageLines (rulesOf PresentLenient) m) l →
-      (l ≡ kindLine (m .kind))
-      ⊎ ((l ≡ carriedLine (carriedIn (rulesOf PresentLenient) (m .parameters))) ⊎ ((i : ℕ) × (i < rowCount) × LineAt i l))
-  unfolding rowAt
-  every-line l h = go l (has-said (rulesOf PresentLenient) m l h)
-    where
-      go : (l : Line) → HasLine (rulesOf PresentLenient) m l →
-          (l ≡ kindLine (m .kind))
-          ⊎ ((l ≡ carriedLine (carriedIn (rulesOf PresentLenient) (m .parameters)))
-          ⊎ ((i : ℕ) × (i < rowCount) × LineAt i l))
-      go l kind = inl refl
-      go l carried = inr (inl refl)
-      go l (counts r v h e) =
-          let w = at-has (rulesOf PresentLenient .rows) r noRow h in
-          inr (inr (
-            w .0,
-            omega (arith, w .1, row-count),
-            (
-              v,
-              ap (λ (q : Row). counted (rulesOf PresentLenient) m (q .kind)) (sym (w .2))
-                  ∙ e,
-              ap (λ (q : Row). lineOf (rulesOf PresentLenient) q v) (w .2),
-            ),
-          ))
-
-  -- and the line of each type that counts is there
-  pub line-there : (i : ℕ) (l : Line) → i < rowCount → LineAt i l → Has (messageLines (rulesOf PresentLenient) m) l
-  unfolding rowAt
-  line-there i l h w =
-      rw (w .2) (said-has (rulesOf PresentLenient) m _
-      (counts (rowAt i) (w .0) (has-at (rulesOf PresentLenient .rows) i noRow (omega (arith, row-count))) (w .1)))
-
-  key-of : (i : ℕ) (x : List ℕ) (l : Line) → (record { key = rowAt i .key; value = x }) ≡ l → rowAt i .key ≡ l .key
-  key-of i x l e = ap (λ (k : Line). k .key) e
-
-  -- a row's key has a line with the value x exactly when its type counts and x is its value's text
-  pub line-iff : (i : ℕ) (x : List ℕ) → i < rowCount →
-      Has (messageLines (rulesOf PresentLenient) m) (record { key = rowAt i .key; value = x }) ↔
-      ((v : List ℕ) × (counted (rulesOf PresentLenient) m (rowAt i .kind) ≡ some v)
-      × (x ≡ printed (styleOf (classOf (rulesOf PresentLenient) (rowAt i .kind))) v))
-  unfolding lineOf kindLine carriedLine
-  line-iff i x h = (
-    λ t. go (every-line _ t),
-    λ w. line-there i _ h (w .0, w .1, ap (λ (y : List ℕ). record { key = rowAt i .key; value = y }) (w .2)),
-  )
-    where
-      at : (j : ℕ) → i ≡ j → LineAt j (record { key = rowAt i .key; value = x }) →
-          (v : List ℕ) × (counted (rulesOf PresentLenient) m (rowAt i .kind) ≡ some v)
-          × (x ≡ printed (styleOf (classOf (rulesOf PresentLenient) (rowAt i .kind))) v)
-      at j e w = (
-        w .0,
-        ap (λ (k : ℕ). counted (rulesOf PresentLenient) m (rowAt k .kind)) e
-            ∙ w .1,
-        ap (λ (k : Line). k .value) (w .2)
-            ∙ ap (λ (k : ℕ). printed (styleOf (classOf (rulesOf PresentLenient) (rowAt k .kind))) (w .0)) (sym e),
-      )
-
-      go : ((record { key = rowAt i .key; value = x }) ≡ kindLine (m .kind))
-          ⊎ (((record { key = rowAt i .key; value = x }) ≡ carriedLine
-          (carriedIn (rulesOf PresentLenient) (m .parameters)))
-          ⊎ ((j : ℕ) × (j < rowCount) × LineAt j (record { key = rowAt i .key; value = x }))) →
-          (v : List ℕ) × (counted (rulesOf PresentLenient) m (rowAt i .kind) ≡ some v)
-          × (x ≡ printed (styleOf (classOf (rulesOf PresentLenient) (rowAt i .kind))) v)
-      go (inl e) = absurd (not-kind i h (key-of i x _ e))
-      go (inr (inl e)) = absurd (not-carried i h (key-of i x _ e))
-      go (inr (inr w)) = at (w .0) (key-tells i h (w .0) (w .1) (key-of i x _ (w .2 .2))) (w .2)
-
-  -- the number of carried parameters stands last, in every listing
-  pub carried-last : messageLines (rulesOf PresentLenient) m ≡
-      (kindLine (m .kind) ∷ rowLines (rulesOf PresentLenient) m ((rulesOf PresentLenient) .rows)) ++ carriedLine
-      (carriedIn (rulesOf PresentLenient) (m .parameters)) ∷ []
-  unfolding messageLines
-  carried-last = refl

@@ -18,7 +18,7 @@ use Rattle.rules.specs.Counting.{counted, carriedIn}
 use Rattle.rules.proofs.Counting.{counted-iff, legal-counts, one-of-pair}
 use Rattle.rules.specs.declared.Fault.{Fault}
 use Rattle.rules.proofs.Sizes.{few}
-use Rattle.listing.specs.declared.Text.{Text}
+use Rattle.listing.specs.declared.ListingText.{ListingText}
 use Rattle.listing.specs.Numerals.{decimal}
 use Rattle.listing.proofs.Numerals.{two-digits, three-digits}
 use Rattle.listing.proofs.Values.{widest, value}
@@ -182,13 +182,13 @@ refusal-short f a b =
     )
 
 -- so a listing lies within its buffer
-pub text-inside : (t : Text) (v : List ℕ) → t ≡ bufferOf v → t .length ≤ length (t .octets)
+pub text-inside : (t : ListingText) (v : List ℕ) → t ≡ bufferOf v → t .length ≤ length (t .octets)
 unfolding bufferOf
 text-inside t v e =
     omega (
       arith,
-      ap (λ (x : Text). x .length) e,
-      ap (λ (x : Text). length (x .octets)) e,
+      ap (λ (x : ListingText). x .length) e,
+      ap (λ (x : ListingText). length (x .octets)) e,
       length-append v
           (replicate {A = ℕ} (bufferSize - length v) 0),
     )

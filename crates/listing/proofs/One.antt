@@ -15,7 +15,7 @@ use Rattle.message.proofs.Told.{accepted-iff}
 use Rattle.message.specs.declared.Verdict.{Verdict}
 use Rattle.message.specs.declared.Verdict.the-variants.{Accepted, Declined}
 use Rattle.message.proofs.One.{judges-one}
-use Rattle.listing.specs.declared.Text.{Text}
+use Rattle.listing.specs.declared.ListingText.{ListingText}
 use Rattle.listing.specs.Listing.{Line, written, bufferSize}
 use Rattle.listing.specs.Lists.{Has, linePlace, Rising, Lines, Lists}
 
@@ -58,7 +58,7 @@ module _ (R : Rules) where
       rising-one 0 0 a b (A .ordered) (B .ordered)
       (λ l h. B .said l .1 (A .said l .0 h)) (λ l h. A .said l .1 (B .said l .0 h))
 
-  module _ (o : List ℕ) (r s : Text) (A : Lists R o r) (B : Lists R o s) where
+  module _ (o : List ℕ) (r s : ListingText) (A : Lists R o r) (B : Lists R o s) where
     same-lines : (v : Verdict) → A .verdict ≡ v → A .lines ≡ B .lines
     same-lines (Accepted n) e =
         let a = accepted-iff (A .judged) n .0 e .1 in

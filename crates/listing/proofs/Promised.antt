@@ -21,7 +21,7 @@ use Rattle.message.specs.Verdict.{verdictOf}
 use Rattle.message.proofs.Judges.{judges-of}
 use Rattle.message.specs.Parameters.{messageIn}
 use Rattle.message.proofs.Parameters.{message-in}
-use Rattle.listing.specs.declared.Text.{Text}
+use Rattle.listing.specs.declared.ListingText.{ListingText}
 use Rattle.listing.specs.Listing.{written, messageLines, verdictLines, refusalLines}
 use Rattle.listing.specs.Listing.{listingOf, bufferOf, bufferSize}
 use Rattle.listing.specs.Lists.{Lines, Lists}
@@ -31,11 +31,11 @@ use Rattle.listing.proofs.Plain.{cut, bares, lines-back}
 use Rattle.listing.proofs.listing.Reads as listing
 
 -- of the octets o, `listing` answers r
-abbrev pub listing-gives : List ℕ → Text → Type 0
+abbrev pub listing-gives : List ℕ → ListingText → Type 0
 listing-gives o r = (κs : _) × (a : _) × (s : _) × listing.Post κs a r s × (a .0 .now ≡ o)
 
 -- the octets of a listing
-abbrev pub shown : Text → List ℕ
+abbrev pub shown : ListingText → List ℕ
 shown r = take (r .length) (r .octets)
 
 of-text : (v : List ℕ) →
@@ -44,7 +44,7 @@ unfolding bufferOf
 of-text v =
     (take-append-seam v (replicate (bufferSize - length v) 0), drop-append-seam v (replicate (bufferSize - length v) 0))
 
-module _ (o : List ℕ) (r : Text) (h : listing-gives o r) where
+module _ (o : List ℕ) (r : ListingText) (h : listing-gives o r) where
   listing-is : r ≡ bufferOf (listingOf (rulesOf PresentLenient) o)
   listing-is = h .3 ∙ (λ i. bufferOf (listingOf (rulesOf PresentLenient) (h .4 i)))
 
@@ -55,7 +55,8 @@ module _ (o : List ℕ) (r : Text) (h : listing-gives o r) where
   pub zeros-behind : drop (r .length) (r .octets) ≡
       replicate (bufferSize - length (listingOf (rulesOf PresentLenient) o)) 0
   zeros-behind =
-      ap (λ (x : Text). drop (x .length) (x .octets)) listing-is ∙ of-text (listingOf (rulesOf PresentLenient) o) .1
+      ap (λ (x : ListingText). drop (x .length) (x .octets)) listing-is
+      ∙ of-text (listingOf (rulesOf PresentLenient) o) .1
 
   -- of a message's octets: its lines, and nothing else
   pub lists-message : (m : message.Message) → LegalMessage (rulesOf PresentLenient) m → octets m ≡ o →
@@ -114,5 +115,6 @@ module _ (o : List ℕ) (q : Octets o) where
       }
 
 -- whatever `listing` answers has them
-pub listing-follows : (o : List ℕ) (r : Text) → listing-gives o r → Octets o → Lists (rulesOf PresentLenient) o r
+pub listing-follows : (o : List ℕ) (r : ListingText) → listing-gives o r → Octets o →
+    Lists (rulesOf PresentLenient) o r
 listing-follows o r h q = subst (Lists (rulesOf PresentLenient) o) (sym (listing-is o r h)) (listing-of o q)

@@ -18,7 +18,7 @@ use Rattle.rules.specs.declared.Fault.{Fault}
 use Rattle.message.specs.declared.Found.the-variants.{Parameter, Nothing}
 use Rattle.message.specs.declared.Part.{Part}
 use Rattle.message.specs.declared.Part.the-variants.{At, Nowhere}
-use Rattle.message.specs.Walking.{parameterAt, countedAt, partOf}
+use Rattle.message.specs.Parts.{parameterAt, countedAt, partOf}
 use Rattle.message.proofs.Places.{counted-inside}
 use Rattle.message.specs.Parameters.{parametersFrom, parametersIn}
 use Rattle.message.proofs.Parameters.{no-more, none-here, one-here}

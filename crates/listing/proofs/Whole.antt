@@ -22,7 +22,7 @@ use Rattle.message.specs.declared.Verdict.the-variants.{Accepted, Declined}
 use Rattle.message.specs.Verdict.{verdictOf}
 use Rattle.message.proofs.Judges.{judges-of, told-small, near-declined}
 use Rattle.message.proofs.Told.{accepted-iff, number-of}
-use Rattle.message.specs.Walking.{countedAt, partOf}
+use Rattle.message.specs.Parts.{countedAt, partOf}
 use Rattle.message.proofs.Searching.{counted-part}
 use Rattle.message.specs.Parameters.{parametersIn, messageIn}
 use Rattle.message.proofs.Parameters.{message-in}

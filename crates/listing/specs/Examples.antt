@@ -16,27 +16,27 @@ use Rattle.rules.specs.ContentJudge.{opens, tensFit, onesFit, pairAt, columnAt,
 use Rattle.rules.specs.Machine.{step, run}
 use Rattle.rules.specs.Judge.{roomFits, rangePossible, somePossible, possible, final, fits, contents, after, fault, machine}
 use Rattle.message.specs.Verdict.{judged, verdictOf}
-use Rattle.message.specs.Walking.{parameterAt}
+use Rattle.message.specs.Parts.{parameterAt}
 use Rattle.message.specs.Parameters.{found, parametersFrom, parametersIn, messageIn}
 use Rattle.listing.specs.Numerals.{digitsBy, decimal, hexDigit, hex}
 use Rattle.listing.specs.Listing as listing
 use Rattle.listing.specs.Listing.{half, clock, lampWord, stateWord, reference, printed, lineText, written, lineOf, linesFor, rowLines, kindLine, carriedLine, messageLines, refusalLines, listingOf, bufferSize}
 
 -- octets, and what is printed of them
-abbrev pub Row : Type 0
-Row = List ℕ × String
+abbrev pub Example : Type 0
+Example = List ℕ × String
 
 -- what is printed of each
-unfoldable pub listings : List Row → List (List ℕ)
+unfoldable pub listings : List Example → List (List ℕ)
 listings [] = []
 listings (r ∷ rs) = listingOf (rulesOf PresentLenient) (r .0) ∷ listings rs
 
 -- what each row says
-unfoldable pub texts : List Row → List (List ℕ)
+unfoldable pub texts : List Example → List (List ℕ)
 texts [] = []
 texts (r ∷ rs) = ascii (r .1) ∷ texts rs
 
-abbrev pub rows : List Row
+abbrev pub rows : List Example
 rows =
     (0x80 ∷ 0x11 ∷ 0x01 ∷ 0x08 ∷ 0x30 ∷ 0x36 ∷ 0x31 ∷ 0x35 ∷ 0x31 ∷ 0x34 ∷ 0x33 ∷ 0x30 ∷ 0x02 ∷ 0x05 ∷ 0x34 ∷ 0x30 ∷ 0x39 ∷ 0x31 ∷ 0x32 ∷ 0xCB ∷ [], "kind=call\ntime=06-15 14:30\ncaller=40912\ncarried=0\n") ∷
     ([], "refused=8\nat=0\n") ∷

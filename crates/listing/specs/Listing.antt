@@ -1,6 +1,6 @@
 -- The listing of any octets (document 01, What showmsg prints).
 -- Assumes nothing.
-use Prim.Native.Nat.{ℕ, _+_, _*_, _-_}
+use Prim.Native.Nat.{ℕ, _+_, _-_}
 use mathlib.Core.Path.{_≡_, refl, sym, _∙_, ap}
 use mathlib.Core.List.{List, [], _∷_, _++_, append-assoc, append-nil}
 use mathlib.Core.Option.{Option, none, some}
@@ -15,9 +15,9 @@ use Rattle.rules.specs.declared.Class.the-variants.{Carried}
 use Rattle.message.specs.declared.Verdict.{Verdict}
 use Rattle.message.specs.declared.Verdict.the-variants.{Accepted, Declined}
 use Rattle.message.specs.Verdict.{verdictOf}
-use Rattle.message.specs.Walking.{countedAt, partOf}
+use Rattle.message.specs.Parts.{countedAt, partOf}
 use Rattle.message.specs.Parameters.{parametersIn, messageIn}
-use Rattle.listing.specs.declared.Text.{Text}
+use Rattle.listing.specs.declared.ListingText.{ListingText}
 use Rattle.listing.specs.Numerals.{decimal, hex}
 use Rattle.rules.specs.Octets.{referenceOf}
 
@@ -116,7 +116,7 @@ abbrev pub bufferSize : ℕ
 bufferSize = 292
 
 -- a listing in its buffer, zeros behind it
-unfoldable pub bufferOf : List ℕ → Text
+unfoldable pub bufferOf : List ℕ → ListingText
 bufferOf v = record { octets = v ++ replicate (bufferSize - length v) 0; length = length v }
 
 -- ---- for the code: the same from the octets, row by row

@@ -17,7 +17,7 @@ use Rattle.rules.specs.declared.Fault.{Fault}
 use Rattle.message.specs.declared.Verdict.{Verdict}
 use Rattle.message.specs.declared.Verdict.the-variants.{Declined}
 use Rattle.message.specs.Judges.{Judges}
-use Rattle.listing.specs.declared.Text.{Text}
+use Rattle.listing.specs.declared.ListingText.{ListingText}
 use Rattle.listing.specs.Listing.{Line, written, lineOf, kindLine, carriedLine, refusalLines, bufferSize}
 
 -- x is one of some
@@ -61,7 +61,7 @@ pub record Lines (R : Rules) (m : Message) (ls : List Line) : Type 0 where
   pub ordered : Rising R 0 ls
 
 -- the octets o went in, and r came back
-pub record Lists (R : Rules) (o : List ℕ) (r : Text) : Type 0 where
+pub record Lists (R : Rules) (o : List ℕ) (r : ListingText) : Type 0 where
   -- a refusal, as the whole read declines the octets, has two lines: its number and its place
   pub verdict : Verdict
   pub judged : Judges (calls R) o verdict

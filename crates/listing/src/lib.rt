@@ -23,7 +23,7 @@ ghost use Rattle.listing.specs.Listing.{half, clock, lampWord, stateWord
 const LONGEST: usize = 292;
 
 // A listing: its first `length` octets; those behind them are 0.
-pub struct Text {
+pub struct ListingText {
     pub octets: [u8; LONGEST],
     pub length: usize,
 }
@@ -153,12 +153,12 @@ fn put_state(x: u8, out: &mut [u8], at: usize) -> usize
     }
 }
 
-fn reference_of(contents: &[u8]) -> u16
+fn reference_in(contents: &[u8]) -> u16
     ensures { λ r. ⌜ r ≡ reference (now (contents .entry)) ⌝ }
 {
     let high = message::octet(contents, 1);
     let low = message::octet(contents, 2);
-    256 * (high as u16) + low as u16
+    rules::reference_of(high, low)
 }
 
 fn put_identity(contents: &[u8], out: &mut [u8], at: usize) -> usize
@@ -167,7 +167,7 @@ fn put_identity(contents: &[u8], out: &mut [u8], at: usize) -> usize
 {
     let state = put_state(message::octet(contents, 0), out, at);
     let gap = put_octet(b' ', out, state);
-    put_decimal(reference_of(contents), out, gap)
+    put_decimal(reference_in(contents), out, gap)
 }
 
 // The value that contents say, in the style of their class.
@@ -329,7 +329,7 @@ fn put_refusal(fault: Fault, out: &mut [u8]) -> usize
 }
 
 // What showmsg prints of any octets.
-pub fn listing(octets: &[u8]) -> Text
+pub fn listing(octets: &[u8]) -> ListingText
     ensures { λ r. ⌜ r ≡ bufferOf (listingOf (rulesOf book.PresentLenient) (now (octets .entry))) ⌝ }
 {
     let mut out = [0u8; LONGEST];
@@ -337,14 +337,14 @@ pub fn listing(octets: &[u8]) -> Text
     match verdict {
         Verdict::Accepted { size: _ } => {
             let length = put_message(octets, &mut out);
-            Text {
+            ListingText {
                 octets: out,
                 length,
             }
         }
         Verdict::Declined { fault } => {
             let length = put_refusal(fault, &mut out);
-            Text {
+            ListingText {
                 octets: out,
                 length,
             }

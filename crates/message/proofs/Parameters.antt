@@ -15,7 +15,7 @@ use Rattle.rules.specs.Message.{front, octets, LegalMessage, most}
 use Rattle.message.specs.declared.Found.{Found}
 use Rattle.message.specs.declared.Found.the-variants.{Parameter, Nothing}
 use Rattle.message.specs.Parameters.{found, parametersFrom, parametersIn, messageIn}
-use Rattle.message.specs.Walking.{parameterAt}
+use Rattle.message.specs.Parts.{parameterAt}
 use Rattle.message.proofs.Searching.{Stand, at-end, found-is, contents-are, on}
 
 -- ---- for loops: what the next turn finds

@@ -18,7 +18,7 @@ use Rattle.message.specs.declared.Found.the-variants.{Parameter, Nothing
 use Rattle.message.specs.declared.Part.{Part}
 use Rattle.message.specs.declared.Part.the-variants.{At, Nowhere}
 use Rattle.message.specs.Places.{contentsAt}
-use Rattle.message.specs.Walking.{parameterAt, matched, searchFrom, countedAt, partOf}
+use Rattle.message.specs.Parts.{parameterAt, matched, searchFrom, countedAt, partOf}
 use Rattle.message.proofs.Searching.{Stand, wanted, next, found-is, on, enough, found-inside}
 
 search-at : (o : List ℕ) (c t u : ℕ) (p : message.Parameter) (a : List message.Parameter) → p .kind ≡ t →

@@ -14,7 +14,7 @@ use Rattle.message.specs.declared.Part.{Part}
 use Rattle.message.specs.Verdict.{verdictOf}
 use Rattle.message.specs.Judges.{Judges}
 use Rattle.message.proofs.Judges.{judges-of}
-use Rattle.message.specs.Walking.{countedAt}
+use Rattle.message.specs.Parts.{countedAt}
 use Rattle.message.specs.Places.{CountsAt}
 use Rattle.message.proofs.Searching.{counted-part}
 use Rattle.message.proofs.Places.{counted-at, part-none}

@@ -21,7 +21,7 @@ use Rattle.message.specs.declared.Found.{Found}
 use Rattle.message.specs.declared.Found.the-variants.{Parameter, Nothing}
 use Rattle.message.specs.declared.Part.{Part}
 use Rattle.message.specs.declared.Part.the-variants.{At, Nowhere}
-use Rattle.message.specs.Walking.{parameterAt, matched, searchFrom, countedAt, partOf}
+use Rattle.message.specs.Parts.{parameterAt, matched, searchFrom, countedAt, partOf}
 
 -- ---- for the loop
 module _ (turns t u : ℕ) (o : List ℕ) (at : ℕ) where

@@ -1,7 +1,7 @@
 -- The root of what is promised of whole messages.
 pub mod Told
 pub mod Verdict
-pub mod Walking
+pub mod Parts
 pub mod Judges
 pub mod Parameters
 pub mod Places

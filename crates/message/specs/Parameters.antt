@@ -7,7 +7,7 @@ use Rattle.rules.specs.Message as message
 use Rattle.rules.specs.Message.{most}
 use Rattle.message.specs.declared.Found.{Found}
 use Rattle.message.specs.declared.Found.the-variants.{Parameter, Nothing}
-use Rattle.message.specs.Walking.{parameterAt}
+use Rattle.message.specs.Parts.{parameterAt}
 
 -- the parameter found, and those behind it
 unfoldable pub found : List ℕ → Found → (ℕ → List message.Parameter) → List message.Parameter

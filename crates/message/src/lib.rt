@@ -8,7 +8,7 @@ ghost use Prim.Native.Nat.{_+_, _≤_};
 ghost use Rattle.rules.specs.Table.{Rules, rulesOf};
 ghost use Rattle.rules.specs.declared.Stage.the-variants as stage;
 ghost use lib.ListN.{length, getD};
-ghost use Rattle.message.specs.Walking.{parameterAt, searchFrom, countedAt};
+ghost use Rattle.message.specs.Parts.{parameterAt, searchFrom, countedAt};
 ghost use Rattle.message.specs.Verdict.{endFrom, onHead, HeadFits, onBody, verdictOf};
 
 pub enum Verdict {

@@ -35,9 +35,6 @@ const LENT: usize = 200;
 // A code that is no side: with a refusal `caption` leaves it (document 01, The caption).
 const LENT_CODE: u8 = 7;
 
-// From this number on the kinds of value have a text (`draft::form_of`).
-const TEXT: u8 = 3;
-
 fn say(text: &[u8]) {
     io::write_all(STDOUT_FILENO, text);
 }
@@ -100,7 +97,7 @@ fn say_entry(entry: Entry, texts: &[u8]) {
     say_octet(entry.kind);
     say_number(b" ", flat.form as u64);
     say(b" ");
-    if flat.form < TEXT {
+    if flat.form < draft::TEXT_FORM {
         say_numbers(flat);
     } else {
         say_text(texts, flat.start, flat.length);

@@ -32,9 +32,8 @@ use Rattle.rules.proofs.ContentLaw.{lenient-others}
 use Rattle.rules.proofs.InRange.{given-lenient, given-strict}
 use Rattle.listener.specs.declared.Listener.{Listener}
 use Rattle.listener.specs.declared.Heard.{Heard}
-use Rattle.listener.specs.declared.Answer.{Answer}
 use Rattle.listener.specs.declared.Answer.the-variants as listened
-use Rattle.listener.specs.Heard.{outOfRange, stepped}
+use Rattle.listener.specs.Heard.{outOfRange}
 use Rattle.listener.proofs.Hears.{Ranged, ranged}
 use Rattle.listener.proofs.Promised as listener
 use Rattle.message.specs.declared.Verdict.{Verdict}

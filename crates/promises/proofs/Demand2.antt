@@ -14,7 +14,6 @@ use Rattle.rules.specs.Octets.{Octets}
 use Rattle.rules.specs.Table.{rulesOf, rowIn, rowOf, listedIn, listed, rivalOf}
 use Rattle.rules.specs.declared.Book.{Book}
 use Rattle.rules.specs.declared.Book.the-variants.{PresentStrict, PresentLenient, OldStrict, OldLenient}
-use Rattle.rules.specs.Message as message
 use Rattle.rules.specs.Message.{Message, octets, LegalMessage}
 use Rattle.rules.specs.Counting.{counted}
 use Rattle.rules.proofs.Counting.{one-of-pair}

@@ -25,7 +25,7 @@ use Rattle.message.specs.declared.Verdict.the-variants.{Declined}
 use Rattle.message.specs.declared.Part.{Part}
 use Rattle.message.specs.Verdict.{judged, verdictOf}
 use Rattle.message.proofs.Promised as message
-use Rattle.message.specs.Walking.{parameterAt, matched, searchFrom, countedAt, partOf}
+use Rattle.message.specs.Parts.{parameterAt, matched, searchFrom, countedAt, partOf}
 use Rattle.reader.specs.declared.Packed.the-variants as packed
 use Rattle.reader.specs.declared.Reading.{Reading}
 use Rattle.reader.proofs.Promised as reader
@@ -52,7 +52,7 @@ pub data Outcomes : Type 0 where
   -- settled on a new desk, they are done and leave this desk
   settles : Desk → Outcomes
 
-pub record Row : Type 0 where
+pub record Example : Type 0 where
   pub octets : List ℕ
   pub outcome : Outcomes
 
@@ -73,12 +73,12 @@ Holds o (counts t v) = (p : Part) → message.counted-gives PresentLenient o t p
 Holds o (settles d) =
     (r : Outcome) → desk.settle-gives PresentLenient newDesk o r → r ≡ record { desk = d; answer = settled.Done }
 
-abbrev pub All : List Row → Type 0
+abbrev pub All : List Example → Type 0
 All [] = Unit {0}
 All (r ∷ rs) = Holds (r .octets) (r .outcome) × All rs
 
 -- ---- the rows
-abbrev says : List ℕ → Outcomes → Row
+abbrev says : List ℕ → Outcomes → Example
 says o x = record { octets = o; outcome = x }
 
 abbrev lamp-on : List ℕ
@@ -90,7 +90,7 @@ twice-waiting = 0x82 ∷ 0x06 ∷ 0x13 ∷ 0x01 ∷ 0x02 ∷ 0x13 ∷ 0x01 ∷ 0
 abbrev no-caller : List ℕ
 no-caller = 0x80 ∷ 0x06 ∷ 0x04 ∷ 0x01 ∷ 0x50 ∷ 0x02 ∷ 0x01 ∷ 0x37 ∷ 0xEB ∷ []
 
-abbrev pub document01 : List Row
+abbrev pub document01 : List Example
 document01 =
     says [] (heard answer.Waits) ∷
     says [] (unread 8 0) ∷

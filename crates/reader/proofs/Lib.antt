@@ -1,5 +1,5 @@
 -- The root of the proofs.
-pub mod Putting
+pub mod Copies
 pub mod Settled
 pub mod Promised
 pub mod One

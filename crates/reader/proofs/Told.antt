@@ -1,7 +1,7 @@
 -- Number, place and size tell the answer of a read, since a refusal has a number; and what is read, case by case.
 -- Assumes nothing.
 use Prim.Native.Nat.{ℕ, _≤_, _<_}
-use mathlib.Core.Path.{_≡_, refl, ap, subst}
+use mathlib.Core.Path.{_≡_, ap, subst}
 use mathlib.Core.Logic.{_↔_, Iff·trans, Iff·symm}
 use mathlib.Core.List.{List}
 use native.Mathlib.Omega.{arith}

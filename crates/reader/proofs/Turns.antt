@@ -19,7 +19,7 @@ use Rattle.rules.specs.declared.State.{State}
 use Rattle.rules.specs.declared.State.the-variants.{Waiting, Message, Refused}
 use Rattle.message.specs.Verdict.{judged, verdictOf}
 use Rattle.message.specs.declared.Verdict.the-variants.{Accepted}
-use Rattle.message.specs.Walking.{parameterAt}
+use Rattle.message.specs.Parts.{parameterAt}
 use Rattle.message.specs.Parameters as message
 use Rattle.message.specs.Parameters.{parametersFrom, parametersIn}
 use Rattle.message.proofs.Parameters.{none-here, one-here}

@@ -11,7 +11,7 @@ use Rattle.rules.specs.Message.{Parameter}
 use Rattle.rules.specs.declared.Form.{Form}
 use Rattle.rules.specs.declared.Form.the-variants.{DateValue, CodeValue, StateValue, TextValue, CarriedValue}
 use Rattle.message.specs.Verdict.{verdictOf}
-use Rattle.message.specs.Walking.{parameterAt}
+use Rattle.message.specs.Parts.{parameterAt}
 use Rattle.message.specs.Parameters.{parametersIn, messageIn}
 use Rattle.message.specs.declared.Verdict.{Verdict}
 use Rattle.message.specs.declared.Verdict.the-variants.{Accepted, Declined}

@@ -91,7 +91,7 @@ fn state_of(contents: &[u8]) -> Value
     let low = message::octet(contents, 2);
     Value::State {
         state,
-        reference: 256 * (high as u16) + low as u16,
+        reference: rules::reference_of(high, low),
     }
 }
 

@@ -10,6 +10,7 @@ use Rattle.rules.proofs.is_listed.Reads as is-listed
 use Rattle.rules.proofs.is_strict.Reads as is-strict
 use Rattle.rules.proofs.class_fault.Reads as class-fault
 use Rattle.rules.proofs.noted.Reads as noted
+use Rattle.rules.proofs.reference_of.Reads as reference-of
 use Rattle.rules.proofs.length_fits.Reads as length-fits
 use Rattle.rules.proofs.possible.Reads as possible
 use Rattle.rules.proofs.message_kind.Reads as message-kind
@@ -73,3 +74,7 @@ class-fault-settled κs a r r' s s' p q = p ∙ sym q
 
 pub noted-settled : (κs : _) (a : _) (r r' : _) (s s' : _) → noted.Post κs a r s → noted.Post κs a r' s' → r ≡ r'
 noted-settled κs a r r' s s' p q = p ∙ sym q
+
+pub reference-of-settled : (κs : _) (a : _) (r r' : _) (s s' : _) → reference-of.Post κs a r s →
+    reference-of.Post κs a r' s' → r ≡ r'
+reference-of-settled κs a r r' s s' p q = p ∙ sym q

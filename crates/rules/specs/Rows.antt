@@ -31,20 +31,20 @@ rowAnswer (Waiting s q) = waits
 rowAnswer (Message n) = size n
 rowAnswer (Refused f) = refused (f .number) at (f .place)
 
-abbrev pub Row : Type 0
-Row = List ℕ × RowAnswer
+abbrev pub Example : Type 0
+Example = List ℕ × RowAnswer
 
 -- every row is answered as it says
-unfoldable pub answers : Rules → List Row → List RowAnswer
+unfoldable pub answers : Rules → List Example → List RowAnswer
 answers R [] = []
 answers R (r ∷ rs) = rowAnswer (answer (machine R) (r .0)) ∷ answers R rs
 
-unfoldable pub expected : List Row → List RowAnswer
+unfoldable pub expected : List Example → List RowAnswer
 expected [] = []
 expected (r ∷ rs) = r .1 ∷ expected rs
 
 -- the listener's column, all rows
-abbrev pub listenerRows : List Row
+abbrev pub listenerRows : List Example
 listenerRows =
     ([], waits) ∷
     (0x81 ∷ [], refused 1 at 0) ∷
@@ -71,7 +71,7 @@ listenerRows =
     []
 
 -- where the other books say something else. In the strict way: a type without a row, whatever its room.
-abbrev pub strictRows : List Row
+abbrev pub strictRows : List Example
 strictRows =
     (0x80 ∷ 0x03 ∷ 0x05 ∷ [], refused 10 at 2) ∷
     (0x80 ∷ 0x04 ∷ 0x05 ∷ [], refused 10 at 2) ∷
@@ -82,7 +82,7 @@ strictRows =
 
 -- In the old edition: 19 digits, a sign that is no digit, a name of 21, a forwarding, a calling user; 08H of five
 -- octets is carried.
-abbrev pub oldRows : List Row
+abbrev pub oldRows : List Example
 oldRows =
     (0x80 ∷ 0x14 ∷ 0x02 ∷ 0x12 ∷ [], waits) ∷
     (0x80 ∷ 0x15 ∷ 0x02 ∷ 0x13 ∷ [], refused 4 at 3) ∷
@@ -96,7 +96,7 @@ oldRows =
     []
 
 -- And both: 03H has no row.
-abbrev pub oldStrictRows : List Row
+abbrev pub oldStrictRows : List Example
 oldStrictRows =
     (0x80 ∷ 0x03 ∷ 0x02 ∷ [], waits) ∷
     (0x80 ∷ 0x03 ∷ 0x03 ∷ [], refused 10 at 2) ∷

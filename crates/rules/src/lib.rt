@@ -809,3 +809,12 @@ pub fn same_octets(v: &[u8], w: &[u8]) -> bool
         false
     }
 }
+
+ghost use Rattle.rules.specs.Octets.{referenceOf};
+
+// The reference that two octets of 0DH say, the high one first.
+pub fn reference_of(high: u8, low: u8) -> u16
+    ensures { λ r. ⌜ r ≡ referenceOf high low ⌝ }
+{
+    256 * (high as u16) + low as u16
+}

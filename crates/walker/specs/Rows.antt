@@ -14,7 +14,7 @@ use Rattle.rules.specs.Refusals.{noted}
 use Rattle.rules.specs.Machine.{step, run}
 use Rattle.rules.specs.Judge.{roomFits, rangePossible, somePossible, possible, final, fits, contents, after, fault, machine}
 use Rattle.message.specs.Verdict.{judged, verdictOf}
-use Rattle.message.specs.Walking.{parameterAt}
+use Rattle.message.specs.Parts.{parameterAt}
 use Rattle.walker.specs.declared.Step.the-variants.{Parameter, NoMore, Refused}
 use Rattle.walker.specs.Steps as steps
 use Rattle.walker.specs.Steps.{met, walkFrom, stepUnder, stepOf, placeAt}

@@ -10,7 +10,7 @@ use Rattle.message.specs.declared.Verdict.the-variants.{Accepted, Declined}
 use Rattle.message.specs.declared.Found.{Found}
 use Rattle.message.specs.declared.Found.the-variants as found
 use Rattle.message.specs.Verdict.{verdictOf}
-use Rattle.message.specs.Walking.{parameterAt}
+use Rattle.message.specs.Parts.{parameterAt}
 use Rattle.walker.specs.declared.Step.{Step}
 use Rattle.walker.specs.declared.Step.the-variants.{Parameter, NoMore, Refused}
 

@@ -21,7 +21,7 @@ use Rattle.draft.specs.declared.Value.{Value}
 use Rattle.draft.specs.declared.Value.the-variants.{Date, Code, State, Text, Carried}
 use Rattle.draft.specs.declared.Entry.{Entry}
 use Rattle.draft.specs.declared.Draft.{Draft}
-use Rattle.writer.specs.Writing.{declined, contentsOf, legalEntry, legalBefore, sized, measuredOf}
+use Rattle.writer.specs.Writing.{unwritten, contentsOf, legalEntry, legalBefore, sized, measuredOf}
 use Rattle.writer.proofs.Legal.{at-most}
 use Rattle.writer.specs.declared.Written.{Written}
 use Rattle.writer.specs.declared.Spelling.{Spelling}
@@ -201,7 +201,7 @@ module _ (R : Rules) where
 
 -- what the writer makes of how the entries went
 unfoldable pub onMeasure : Measure → ℕ → Written
-onMeasure (Bad i) room = declined 12 i
+onMeasure (Bad i) room = unwritten 12 i
 onMeasure (Size l) room = sized l room
 
 module _ (R : Rules) (d : Draft) (texts : List ℕ) (room : ℕ) (e : length (used d) ≡ d .count) where

@@ -17,17 +17,17 @@ use Rattle.draft.specs.declared.Draft.{Draft}
 use Rattle.writer.specs.declared.Written.{Written}
 use Rattle.writer.specs.declared.Written.the-variants.{Message, Declined}
 use Rattle.writer.specs.Told.{Told, told, success, refusal}
-use Rattle.writer.specs.Writing.{declined, legalEntry}
+use Rattle.writer.specs.Writing.{unwritten, legalEntry}
 use Rattle.writer.specs.Reasons.{Makes, entryAt, lengthOf, AllMake, FirstBad, Asked}
 use Rattle.writer.specs.Reasons.{Answers, Writes, Went, kind-is-none, no-entries, many-entries, bad-entry}
 use Rattle.writer.specs.Reasons.{too-long, too-tight, fits}
 use Rattle.writer.proofs.Legal.{at-most, makes-iff}
 
 -- ---- number, place and size tell the answer
-declined-is : (w : Written) (k p : ℕ) → 1 ≤ k → told w ≡ refusal k p → w ≡ declined k p
+unwritten-is : (w : Written) (k p : ℕ) → 1 ≤ k → told w ≡ refusal k p → w ≡ unwritten k p
 unfolding told
-declined-is (Message n) k p h e = absurd (omega (arith, ap (λ (a : Told). a .number) e))
-declined-is (Declined f) k p h e = λ i. Declined (record { number = e i .number; place = e i .place })
+unwritten-is (Message n) k p h e = absurd (omega (arith, ap (λ (a : Told). a .number) e))
+unwritten-is (Declined f) k p h e = λ i. Declined (record { number = e i .number; place = e i .place })
 
 message-is : (w : Written) (n : ℕ) → 1 ≤ n → told w ≡ success n → w ≡ Message n
 unfolding told
@@ -89,12 +89,12 @@ module _ (R : Rules) (d : Draft) (texts : List ℕ) where
 
     -- and each has its answer
     went-is : (w : Written) → Answers R d texts room w → (x : Written) → Went R d texts room x → w ≡ x
-    went-is w A x (kind-is-none n) = declined-is w _ _ (omega arith) (A .eleven 0 .1 (refl, n))
-    went-is w A x (no-entries k z) = declined-is w _ _ (omega arith) (A .fourteen 0 .1 (refl, (k, z)))
-    went-is w A x (many-entries k m) = declined-is w _ _ (omega arith) (A .thirteen 0 .1 (refl, inl (k, m)))
-    went-is w A x (bad-entry i a f) = declined-is w _ _ (omega arith) (A .twelve i a .1 f)
-    went-is w A x (too-long a m l) = declined-is w _ _ (omega arith) (A .thirteen 0 .1 (refl, inr (a, (m, l))))
-    went-is w A x (too-tight a m l r) = declined-is w _ _ (omega arith) (A .fifteen _ .1 (refl, (a, (m, (l, r)))))
+    went-is w A x (kind-is-none n) = unwritten-is w _ _ (omega arith) (A .eleven 0 .1 (refl, n))
+    went-is w A x (no-entries k z) = unwritten-is w _ _ (omega arith) (A .fourteen 0 .1 (refl, (k, z)))
+    went-is w A x (many-entries k m) = unwritten-is w _ _ (omega arith) (A .thirteen 0 .1 (refl, inl (k, m)))
+    went-is w A x (bad-entry i a f) = unwritten-is w _ _ (omega arith) (A .twelve i a .1 f)
+    went-is w A x (too-long a m l) = unwritten-is w _ _ (omega arith) (A .thirteen 0 .1 (refl, inr (a, (m, l))))
+    went-is w A x (too-tight a m l r) = unwritten-is w _ _ (omega arith) (A .fifteen _ .1 (refl, (a, (m, (l, r)))))
     went-is w A x (fits a m l r) = message-is w _ (omega arith) (A .message _ .1 (refl, (a, (m, (l, r)))))
 
     -- a draft with its text area and the room in the output have one answer

@@ -19,7 +19,7 @@ use Rattle.draft.specs.Draft.{noEntry, meaningOf, used}
 use Rattle.draft.specs.declared.Entry.{Entry}
 use Rattle.draft.specs.declared.Draft.{Draft}
 use Rattle.writer.specs.Told.{Told, told, success, refusal}
-use Rattle.writer.specs.Writing.{declined, legalEntry, legalBefore, sized, measuredOf, writeOf}
+use Rattle.writer.specs.Writing.{unwritten, legalEntry, legalBefore, sized, measuredOf, writeOf}
 use Rattle.writer.proofs.Legal.{at-most, makes-iff}
 use Rattle.writer.specs.declared.Written.{Written}
 use Rattle.writer.specs.Reasons.{lengthOf, AllMake, FirstBad, Asked, Went, Answers, kind-is-none, no-entries, many-entries, bad-entry, too-long, too-tight, fits}
@@ -148,7 +148,7 @@ module _ (book : Book) where
         sym (pick-yes _ _ _ k ∙ pick-not _ _ _ (λ t. omega (arith, eq-of _ _ t)) ∙ pick-yes _ _ _ (of-le _ _ m))
     answer x (bad-entry i a f) =
         let q = is-first d texts i f in
-        asked-is _ a (pick-yes _ _ _ (of-le _ _ (omega (arith, f .place))) ∙ ap (declined 12) q)
+        asked-is _ a (pick-yes _ _ _ (of-le _ _ (omega (arith, f .place))) ∙ ap (unwritten 12) q)
     answer x (too-long a m l) = made-is _ a m (pick-yes _ _ _ (of-le _ _ l))
     answer x (too-tight a m s r) =
         made-is _ a m (pick-not _ _ _ (λ t. omega (arith, le-of _ _ t)) ∙ pick-yes _ _ _ (of-le _ _ r))

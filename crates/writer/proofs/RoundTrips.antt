@@ -24,7 +24,7 @@ use Rattle.draft.specs.Packing.{meaningIn, entriesOf, textsOf, draftOf}
 use Rattle.draft.proofs.Packing.{allMeant, pack, entries-length, used-are, equal-stand, said-again, draft-stands}
 use Rattle.draft.specs.declared.Entry.{Entry}
 use Rattle.draft.specs.declared.Draft.{Draft}
-use Rattle.writer.specs.Writing.{declined, legalEntry, legalBefore, sized, measuredOf, writeOf}
+use Rattle.writer.specs.Writing.{unwritten, legalEntry, legalBefore, sized, measuredOf, writeOf}
 use Rattle.writer.proofs.Legal.{makes-iff, all-before, all-made, all-inside, parameters-length, Writable, writes, written, used-all}
 use Rattle.writer.specs.Reasons.{Makes, lengthOf}
 use Rattle.writer.specs.declared.Written.the-variants.{Message}
@@ -165,9 +165,9 @@ module _ (R : Rules) where
       ap (λ (m : message.Message). length (body (m .parameters))) (equal-stand a s b t e) in
       let k = e .kind in
       let c = e .count in
-      λ i. pick (messageKind (k i)) (pick (c i =? 0) (declined 14 0)
-      (pick (suc most ≤? c i) (declined 13 0) (pick (suc (n i) ≤? c i) (declined 12 (n i)) (sized (l i) room))))
-      (declined 11 0)
+      λ i. pick (messageKind (k i)) (pick (c i =? 0) (unwritten 14 0)
+      (pick (suc most ≤? c i) (unwritten 13 0) (pick (suc (n i) ≤? c i) (unwritten 12 (n i)) (sized (l i) room))))
+      (unwritten 11 0)
 
 round-trips : (R : Rules) → SoundRules R → RoundTrips R
 round-trips R S =

@@ -15,7 +15,7 @@ use Rattle.draft.specs.Draft.{noEntry, meaningOf, inside, parameterOf, paramete
 use Rattle.draft.specs.declared.Entry.{Entry}
 use Rattle.draft.specs.declared.Draft.{Draft}
 use Rattle.writer.specs.Told.{told, success, refusal}
-use Rattle.writer.specs.Writing.{declined}
+use Rattle.writer.specs.Writing.{unwritten}
 use Rattle.writer.specs.declared.Written.{Written}
 use Rattle.writer.specs.declared.Written.the-variants.{Message, Declined}
 
@@ -52,13 +52,13 @@ pub record Asked (d : Draft) : Type 0 where
 
 -- ---- the seven ways: each answer with its reason
 pub data Went (R : Rules) (d : Draft) (texts : List ℕ) (room : ℕ) : Written → Type 0 where
-  kind-is-none : (T (messageKind (d .kind)) → ⊥) → Went R d texts room (declined 11 0)
-  no-entries : T (messageKind (d .kind)) → d .count ≡ 0 → Went R d texts room (declined 14 0)
-  many-entries : T (messageKind (d .kind)) → suc most ≤ d .count → Went R d texts room (declined 13 0)
-  bad-entry : (i : ℕ) → Asked d → FirstBad R d texts i → Went R d texts room (declined 12 i)
-  too-long : Asked d → AllMake R d texts → 256 ≤ lengthOf d texts → Went R d texts room (declined 13 0)
+  kind-is-none : (T (messageKind (d .kind)) → ⊥) → Went R d texts room (unwritten 11 0)
+  no-entries : T (messageKind (d .kind)) → d .count ≡ 0 → Went R d texts room (unwritten 14 0)
+  many-entries : T (messageKind (d .kind)) → suc most ≤ d .count → Went R d texts room (unwritten 13 0)
+  bad-entry : (i : ℕ) → Asked d → FirstBad R d texts i → Went R d texts room (unwritten 12 i)
+  too-long : Asked d → AllMake R d texts → 256 ≤ lengthOf d texts → Went R d texts room (unwritten 13 0)
   too-tight : Asked d → AllMake R d texts → lengthOf d texts ≤ 255 → room < lengthOf d texts + 3 →
-      Went R d texts room (declined 15 (lengthOf d texts + 3))
+      Went R d texts room (unwritten 15 (lengthOf d texts + 3))
   fits : Asked d → AllMake R d texts → lengthOf d texts ≤ 255 → lengthOf d texts + 3 ≤ room →
       Went R d texts room (Message (lengthOf d texts + 3))
 

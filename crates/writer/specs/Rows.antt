@@ -1,7 +1,7 @@
 -- Rows of the writer, computed, as one claim: document 01's own messages written from their drafts, and both sides of
 -- the limits at which it refuses.
 -- Assumes nothing.
-use Prim.Native.Nat.{ℕ, suc, _-_}
+use Prim.Native.Nat.{ℕ, _-_}
 use mathlib.Core.Path.{_≡_, refl}
 use mathlib.Core.List.{List, [], _∷_, _++_}
 use lib.ListN.{length, replicate}
@@ -29,23 +29,23 @@ abbrev pub drafted : ℕ → List Entry → Draft
 drafted kind es = record { kind = kind; count = length es; entries = es ++ replicate (most - length es) noEntry }
 
 -- a draft with its text area, an output with so many octets, and the answer
-pub record Row : Type 0 where
+pub record Example : Type 0 where
   pub draft : Draft
   pub texts : List ℕ
   pub room : ℕ
   pub answer : Told
 
 -- the same, written in a line
-abbrev pub row : Draft → List ℕ → ℕ → Told → Row
+abbrev pub row : Draft → List ℕ → ℕ → Told → Example
 row d t n a = record { draft = d; texts = t; room = n; answer = a }
 
 -- what the writer answers in each row
-unfoldable pub rowsTold : List Row → List Told
+unfoldable pub rowsTold : List Example → List Told
 rowsTold [] = []
 rowsTold (r ∷ rs) = told (writeOf (rulesOf PresentLenient) (r .draft) (r .texts) (r .room)) ∷ rowsTold rs
 
 -- what each row says
-unfoldable pub expected : List Row → List Told
+unfoldable pub expected : List Example → List Told
 expected [] = []
 expected (r ∷ rs) = r .answer ∷ expected rs
 
@@ -70,7 +70,7 @@ abbrev pub carried : ℕ → Draft
 carried k = drafted 0x80 (replicate k (says 0x05 (Carried 0 6)))
 
 -- both sides of each limit
-abbrev pub writerRows : List Row
+abbrev pub writerRows : List Example
 writerRows =
     row lamp [] 6 (success 6) ∷
     row lamp [] 5 (refusal 15 6) ∷

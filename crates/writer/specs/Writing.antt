@@ -17,8 +17,8 @@ use Rattle.writer.specs.declared.Written.{Written}
 use Rattle.writer.specs.declared.Written.the-variants.{Message, Declined}
 
 -- a refusal with a number at a place
-abbrev pub declined : ℕ → ℕ → Written
-declined k p = Declined (noted k p)
+abbrev pub unwritten : ℕ → ℕ → Written
+unwritten k p = Declined (noted k p)
 
 -- ---- entries
 -- the octets that would be written for an entry's value
@@ -41,21 +41,21 @@ legalBefore R texts (e ∷ es) = pick (legalEntry R texts e) (suc (legalBefore R
 -- ---- the answer
 -- parameters of L octets: over 255 is 13; an output shorter than L + 3 is 15 there; else a message of L + 3
 unfoldable pub sized : ℕ → ℕ → Written
-sized l room = pick (256 ≤? l) (declined 13 0) (pick (suc room ≤? l + 3) (declined 15 (l + 3)) (Message (l + 3)))
+sized l room = pick (256 ≤? l) (unwritten 13 0) (pick (suc room ≤? l + 3) (unwritten 15 (l + 3)) (Message (l + 3)))
 
 -- 12 at the first entry that makes no legal parameter
 unfoldable pub measuredOf : Rules → Draft → List ℕ → ℕ → Written
 measuredOf R d texts room =
     pick (suc (legalBefore R texts (used d)) ≤? d .count)
-    (declined 12 (legalBefore R texts (used d)))
+    (unwritten 12 (legalBefore R texts (used d)))
     (sized (length (body (parametersOf texts (used d)))) room)
 
 -- in document 01's order: 11, 14, the 85 entries of 13, 12, the 255 octets of 13, 15
 unfoldable pub writeOf : Rules → Draft → List ℕ → ℕ → Written
 writeOf R d texts room =
     pick (messageKind (d .kind))
-    (pick (d .count =? 0) (declined 14 0) (pick (suc most ≤? d .count) (declined 13 0) (measuredOf R d texts room)))
-    (declined 11 0)
+    (pick (d .count =? 0) (unwritten 14 0) (pick (suc most ≤? d .count) (unwritten 13 0) (measuredOf R d texts room)))
+    (unwritten 11 0)
 
 -- ---- the output: the message's octets over its beginning, or as it was
 unfoldable pub outputAfter : Written → List ℕ → List ℕ → List ℕ

@@ -18,7 +18,7 @@ ghost use Rattle.rules.specs.Message.{front, octets, most};
 ghost use Rattle.draft.specs.Draft.{used, messageOf};
 ghost use Rattle.rules.specs.Laying.{laid};
 ghost use Rattle.draft.specs.declared.Value.the-variants as value;
-ghost use Rattle.writer.specs.Writing.{declined, sized, measuredOf, writeOf, outputAfter};
+ghost use Rattle.writer.specs.Writing.{unwritten, sized, measuredOf, writeOf, outputAfter};
 ghost use Rattle.writer.specs.Judging.{spellingOf, small, fitting, takesOf, measureFrom};
 ghost use Rattle.writer.specs.Laying.{parameterOctets, Puttable, Layable};
 
@@ -42,9 +42,6 @@ enum Measure {
 
 // The most octets that contents have: L is at most 255, and a parameter has a type and a length beside them (document 01, The message).
 const LONGEST: usize = 253;
-
-// From this number on the kinds of value have a text (`draft::form_of`).
-const TEXT: u8 = 3;
 
 // Two digits for each number of a date.
 fn spell_date(month: u8, day: u8, hour: u8, minute: u8) -> Spelling
@@ -172,7 +169,7 @@ fn entry_length(book: Book, e: Entry, texts: &[u8]) -> u8
     let class = rules::class_of(book, e.kind);
     let flat = draft::flatten(value);
     if flat.form == draft::form_of(class) {
-        if flat.form < TEXT {
+        if flat.form < draft::TEXT_FORM {
             number_length(class, value)
         } else {
             text_length(class, texts, flat.start, flat.length)
@@ -203,7 +200,7 @@ fn measure_entries(book: Book, draft: Draft, texts: &[u8]) -> Measure
 }
 
 fn refusal(number: u8, place: u16) -> Written
-    ensures { λ r. ⌜ r ≡ declined number place ⌝ }
+    ensures { λ r. ⌜ r ≡ unwritten number place ⌝ }
 {
     Written::Declined {
         fault: rules::noted(number, place),
@@ -288,7 +285,7 @@ fn put_entry(out: &mut [u8], e: Entry, texts: &[u8]) -> usize
 {
     let value = e.value;
     let flat = draft::flatten(value);
-    if flat.form < TEXT {
+    if flat.form < draft::TEXT_FORM {
         put_number(out, e.kind, value)
     } else {
         put_text(out, e.kind, texts, flat.start, flat.length)

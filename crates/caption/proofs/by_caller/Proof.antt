@@ -28,7 +28,8 @@ enum-told c = search needs
 returns : tie.Need-returns
 unfolding byCaller
 returns c =
-    rw (sym (c .before .before .before .before .counted .ensures) ∙ c .before .before .part .given .1)
+    let after-counted = c .before .before .before .before in
+    rw (sym (after-counted .counted .ensures) ∙ c .before .before .part .given .1)
     (c .by-entry .ensures)
 
 returns-2 : tie.Need-returns-2

@@ -21,7 +21,8 @@ enum-known-verdict-2 c = search needs
 returns : tie.Need-returns
 unfolding findOf findUnder
 returns c =
-    rw (sym (c .before .before .before .before .judge .ensures) ∙ c .before .before .verdict .given .1)
+    let after-judge = c .before .before .before .before in
+    rw (sym (after-judge .judge .ensures) ∙ c .before .before .verdict .given .1)
     (c .by-name .ensures)
 
 returns-2 : tie.Need-returns-2

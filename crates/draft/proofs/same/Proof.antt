@@ -27,7 +27,8 @@ returns c =
 returns-2 : tie.Need-returns-2
 unfolding sameDraft
 returns-2 c =
-    and-t _ _ _ (yes-eq _ _ (c .before .before .before .before .before .if1 .taken))
+    let branch = c .before .before .before .before .before in
+    and-t _ _ _ (yes-eq _ _ (branch .if1 .taken))
     (and-t _ _ _ (yes-eq _ _ (c .before .before .if2 .taken)) (and-f _ _ _ (no-le _ _ (c .if3 .left)) refl))
 
 returns-3 : tie.Need-returns-3

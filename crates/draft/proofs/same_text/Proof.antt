@@ -23,7 +23,8 @@ same-parts-requires c κs = (
 returns : tie.Need-returns
 unfolding sameText
 returns c =
-    and-t _ _ _ (via _ _ _ (c .before .before .before .before .lies .ensures)
+    let after-lies = c .before .before .before .before in
+    and-t _ _ _ (via _ _ _ (after-lies .lies .ensures)
     (c .before .before .before .if1 .taken))
     (and-t _ _ _ (via _ _ _ (c .before .before .lies2 .ensures) (c .before .if2 .taken)) (c .same-parts .ensures))
 

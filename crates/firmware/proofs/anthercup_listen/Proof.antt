@@ -3,7 +3,7 @@
 -- Assumes nothing.
 use mathlib.Core.Path.{sym, _∙_}
 use Rattle.firmware.proofs.Coding.{known-size}
-use Rattle.firmware.proofs.Decoding.{known-answers, unknown-answers}
+use Rattle.firmware.proofs.ListenerRecord.{known-answers, unknown-answers}
 use borrow.Author.Needs.{needs}
 use Rattle.firmware.proofs.anthercup_listen.Statement.{statement}
 use Rattle.firmware.proofs.anthercup_listen.Tie as tie

@@ -19,8 +19,9 @@ cast-packed c = search needs
 
 packed-requires : tie.Need-packed-requires
 packed-requires c κs =
+    let start = c .before .before .before .before .before in
     let i = counted-inside _ _ _ _ _ (sym (c .before .before .before .counted .ensures) ∙ c .before .part .given .1) in
-    omega (arith, i, c .before .before .before .before .before .pre)
+    omega (arith, i, start .pre)
 
 enum-told : tie.Need-enum-told
 enum-told c = search needs
@@ -31,8 +32,9 @@ packed-requires-2 c κs = search needs
 returns : tie.Need-returns
 unfolding partWord
 returns c =
+    let after-counted = c .before .before .before .before in
     c .packed .ensures ∙ ap partWord (sym (c .before .before .part .given .1)
-    ∙ c .before .before .before .before .counted .ensures)
+    ∙ after-counted .counted .ensures)
 
 returns-2 : tie.Need-returns-2
 unfolding partWord

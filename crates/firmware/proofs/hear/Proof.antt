@@ -3,7 +3,7 @@
 use native.Mathlib.Omega.{arith}
 use Rattle.rules.proofs.Octets.{octets-at}
 use Rattle.listener.proofs.Hears.{taken-small}
-use Rattle.firmware.proofs.Decoding.{outcome}
+use Rattle.firmware.proofs.ListenerRecord.{heard-word}
 use borrow.Author.Needs.{needs}
 use Rattle.firmware.proofs.hear.Statement.{statement}
 use Rattle.firmware.proofs.hear.Tie as tie
@@ -18,7 +18,7 @@ word-of-requires c κs =
     (λ i. omega (arith, c .before .before .shared-slice-known .given i))))
 
 returns : tie.Need-returns
-returns c = outcome _ _ _ _ (c .before .before .listen .ensures) (c .word-of .ensures)
+returns c = heard-word _ _ _ _ (c .before .before .listen .ensures) (c .word-of .ensures)
 
 pub hear-spec : {M : Type 1} → statement M
 hear-spec = tie.close (tie.spec listen-requires word-of-requires returns)

@@ -1,10 +1,9 @@
 -- `firmware::lay` meets its contract: all 16 octets are stored.
 -- Assumes nothing.
-use mathlib.Core.List.{[], _∷_}
 use native.Mathlib.Omega.{arith}
 use lib.ListN.{length-set}
 use Rattle.firmware.specs.Record.{laidFields}
-use Rattle.firmware.proofs.Decoding.{stored}
+use Rattle.firmware.proofs.Cells.{stored}
 use borrow.Author.Needs.{needs}
 use Rattle.firmware.proofs.lay.Statement.{statement}
 use Rattle.firmware.proofs.lay.Tie as tie

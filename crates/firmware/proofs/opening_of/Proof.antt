@@ -1,7 +1,7 @@
 -- `firmware::opening_of` meets its contract: stage by stage.
 -- Assumes nothing.
 use Rattle.firmware.specs.Record.{openingOf}
-use Rattle.firmware.proofs.Decoding.{known-eq}
+use Rattle.firmware.proofs.ListenerRecord.{known-eq}
 use Rattle.rules.proofs.Returns.{tests}
 use borrow.Author.Needs.{needs}
 use Rattle.firmware.proofs.opening_of.Statement.{statement}

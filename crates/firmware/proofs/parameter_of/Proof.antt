@@ -3,7 +3,7 @@
 use mathlib.Core.Path.{refl}
 use Rattle.rules.proofs.Returns.{pick-t, pick-f, yes-le, no-le, yes-eq, no-eq}
 use Rattle.firmware.specs.Record.{parameterState}
-use Rattle.firmware.proofs.Decoding.{known-eq}
+use Rattle.firmware.proofs.ListenerRecord.{known-eq}
 use borrow.Author.Needs.{needs}
 use Rattle.firmware.proofs.parameter_of.Statement.{statement}
 use Rattle.firmware.proofs.parameter_of.Tie as tie

@@ -39,7 +39,8 @@ returns-2 c = rw (c .before .before .s2 .given .1) (c .between .ensures)
 returns-3 : tie.Need-returns-3
 unfolding inRange
 returns-3 c =
-    rw (c .before .before .before .before .s3 .given .1)
+    let arm = c .before .before .before .before in
+    rw (arm .s3 .given .1)
     (and-t _ _ _ (sym (c .before .before .known-number .ensures) ∙ c .before .if1 .taken) (is-le _ _))
 
 returns-4 : tie.Need-returns-4

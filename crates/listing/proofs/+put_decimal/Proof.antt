@@ -3,7 +3,7 @@
 use native.Mathlib.Omega.{arith}
 use mathlib.Core.Path.{sym, _∙_}
 use Rattle.listing.specs.Put.{Room, put-then, put-same}
-use Rattle.listing.proofs.Putting.{room-same}
+use Rattle.listing.proofs.Pieces.{room-same}
 use Rattle.listing.proofs.Numerals.{decimal-small, decimal-big, decimal-long}
 use borrow.Author.Needs.{needs}
 use Prim.Native.Nat.{ℕ, _<_}

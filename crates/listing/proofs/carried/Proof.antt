@@ -45,9 +45,10 @@ cast-at c = search needs
 
 add-at : tie.Need-add-at Inv-loop μ-loop
 add-at c =
+    let after-parameter = c .before .before .before .before in
     omega (
       arith,
-      found-inside _ _ _ _ _ _ (c .before .before .before .before .parameter .ensures)
+      found-inside _ _ _ _ _ _ (after-parameter .parameter .ensures)
           (c .before .before .found .given .1),
     )
 

@@ -1,6 +1,6 @@
 -- `listing::put` meets its contract: the text is copied over the rest of the area from its place on.
 -- Assumes nothing.
-use Rattle.listing.proofs.Putting.{copied}
+use Rattle.listing.proofs.Pieces.{copied}
 use Rattle.listing.specs.Put.{Room}
 use borrow.Author.Needs.{needs}
 use Rattle.listing.proofs.put.Statement.{statement}

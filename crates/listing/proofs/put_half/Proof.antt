@@ -33,7 +33,9 @@ slice-aggregate-put c = search needs
 
 put-requires : tie.Need-put-requires
 unfolding half Room
-put-requires c κs = c .before .before .before .before .before .before .before .before .pre .1
+put-requires c κs =
+    let start = c .before .before .before .before .before .before .before .before in
+    start .pre .1
 
 same-length : tie.Need-same-length
 same-length c = search needs

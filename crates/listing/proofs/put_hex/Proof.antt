@@ -18,7 +18,9 @@ slice-aggregate-put c = search needs
 
 put-requires : tie.Need-put-requires
 unfolding hex Room
-put-requires c κs = c .before .before .before .before .before .pre
+put-requires c κs =
+    let start = c .before .before .before .before .before in
+    start .pre
 
 same-length : tie.Need-same-length
 same-length c = search needs

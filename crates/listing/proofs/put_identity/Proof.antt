@@ -3,7 +3,7 @@
 use mathlib.Core.Path.{ap}
 use Rattle.rules.specs.Table.{ascii}
 use Rattle.listing.specs.Put.{put-three, put-same, room-first, room-second, room-third}
-use Rattle.listing.proofs.Putting.{room-same}
+use Rattle.listing.proofs.Pieces.{room-same}
 use Rattle.listing.specs.Listing.{stateWord}
 use Rattle.listing.specs.Numerals.{decimal}
 use borrow.Author.Needs.{needs}
@@ -16,8 +16,9 @@ octet-requires c κs = search needs
 put-state-requires : tie.Need-put-state-requires
 unfolding ascii
 put-state-requires c κs =
+    let start = c .before .before .before .before in
     room-same _ _ _ _ (ap stateWord (c .before .octet .ensures))
-    (room-first _ _ _ _ _ (c .before .before .before .before .pre))
+    (room-first _ _ _ _ _ (start .pre))
 
 put-octet-requires : tie.Need-put-octet-requires
 unfolding ascii
@@ -27,8 +28,8 @@ put-octet-requires c κs =
     room-second _ _ _ _ _ (start .pre) _ _
     (put-same _ _ _ _ _ _ (ap stateWord (after-octet .octet .ensures)) (c .before .before .before .put-state .ensures))
 
-reference-of-requires : tie.Need-reference-of-requires
-reference-of-requires c κs = search needs
+reference-in-requires : tie.Need-reference-in-requires
+reference-in-requires c κs = search needs
 
 put-decimal-requires : tie.Need-put-decimal-requires
 unfolding ascii
@@ -36,7 +37,7 @@ put-decimal-requires c κs =
     let after-put-octet = c .before .before .before .before in
     let after-put-state = after-put-octet .before .before .before .before in
     let start = after-put-state .before .before .before .before .before in
-    room-same _ _ _ _ (ap decimal (c .before .reference-of .ensures))
+    room-same _ _ _ _ (ap decimal (c .before .reference-in .ensures))
     (room-third _ _ _ _ _ (start .pre) _ _ (put-same _ _ _ _ _ _
     (ap stateWord (after-put-state .before .before .octet .ensures)) (after-put-state .put-state .ensures)) _ _
     (after-put-octet .put-octet .ensures))
@@ -47,12 +48,12 @@ same-length c = search needs
 returns : tie.Need-returns
 unfolding ascii
 returns c =
-    let after-reference-of = c .before .before .before .before in
-    let after-put-state = after-reference-of .before .before .before .before .before .before .before in
+    let after-reference-in = c .before .before .before .before in
+    let after-put-state = after-reference-in .before .before .before .before .before .before .before in
     put-three _ _ _ _ _ _ _ _ _ _ _
     (put-same _ _ _ _ _ _ (ap stateWord (after-put-state .before .before .octet .ensures))
-    (after-put-state .put-state .ensures)) (after-reference-of .before .before .before .put-octet .ensures)
-    (put-same _ _ _ _ _ _ (ap decimal (after-reference-of .reference-of .ensures))
+    (after-put-state .put-state .ensures)) (after-reference-in .before .before .before .put-octet .ensures)
+    (put-same _ _ _ _ _ _ (ap decimal (after-reference-in .reference-in .ensures))
     (c .before .before .put-decimal .ensures))
 
 pub put-identity-spec : {M : Type 1} → statement M
@@ -62,7 +63,7 @@ put-identity-spec =
     octet-requires
     put-state-requires
     put-octet-requires
-    reference-of-requires
+    reference-in-requires
     put-decimal-requires
     same-length
     returns)

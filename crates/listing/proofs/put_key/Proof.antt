@@ -2,7 +2,7 @@
 -- Assumes nothing.
 use native.Mathlib.Omega.{arith}
 use Rattle.listing.specs.Put.{put-same}
-use Rattle.listing.proofs.Putting.{room-same}
+use Rattle.listing.proofs.Pieces.{room-same}
 use Rattle.listing.proofs.Keys.{starts, keys, key-at}
 use Rattle.rules.specs.Table.{ascii}
 use borrow.Author.Needs.{needs}

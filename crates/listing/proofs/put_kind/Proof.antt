@@ -1,7 +1,7 @@
 -- `listing::put_kind` meets its contract: the whole line is a word of ours.
 -- Assumes nothing.
 use Rattle.listing.specs.Put.{put-same}
-use Rattle.listing.proofs.Putting.{room-same, is-call, is-notice}
+use Rattle.listing.proofs.Pieces.{room-same, is-call, is-notice}
 use Rattle.rules.specs.Table.{ascii}
 use borrow.Author.Needs.{needs}
 use Rattle.listing.proofs.put_kind.Statement.{statement}

@@ -1,7 +1,7 @@
 -- `listing::put_lamp` meets its contract.
 -- Assumes nothing.
 use Rattle.listing.specs.Put.{put-same}
-use Rattle.listing.proofs.Putting.{room-same, is-off, is-on}
+use Rattle.listing.proofs.Pieces.{room-same, is-off, is-on}
 use Rattle.rules.specs.Table.{ascii}
 use borrow.Author.Needs.{needs}
 use Rattle.listing.proofs.put_lamp.Statement.{statement}

@@ -5,7 +5,7 @@ use Rattle.rules.specs.Table.{rulesOf, classOf, styleOf, ascii}
 use Rattle.rules.specs.declared.Book.the-variants.{PresentLenient}
 use Rattle.rules.specs.declared.Class.{Class}
 use Rattle.listing.specs.Put.{put-three, put-same, room-first, room-second, room-third}
-use Rattle.listing.proofs.Putting.{room-same}
+use Rattle.listing.proofs.Pieces.{room-same}
 use Rattle.listing.proofs.Keys.{kinds, key-at}
 use Rattle.listing.specs.Listing.{lineText, lineOf, printed}
 use borrow.Author.Needs.{needs}

@@ -4,7 +4,7 @@
 use mathlib.Core.Path.{refl, ap}
 use Rattle.rules.specs.Table.{ascii}
 use Rattle.listing.specs.Put.{put-three, put-same, room-first, room-second, room-third}
-use Rattle.listing.proofs.Putting.{room-same}
+use Rattle.listing.proofs.Pieces.{room-same}
 use Rattle.listing.proofs.Rows.{message-text}
 use Rattle.listing.specs.Listing.{numberLine}
 use borrow.Author.Needs.{needs}

@@ -1,6 +1,6 @@
 -- `listing::put_octet` meets its contract: one store.
 -- Assumes nothing.
-use Rattle.listing.proofs.Putting.{stored}
+use Rattle.listing.proofs.Pieces.{stored}
 use Rattle.listing.specs.Put.{Room}
 use borrow.Author.Needs.{needs}
 use Rattle.listing.proofs.put_octet.Statement.{statement}

@@ -1,7 +1,7 @@
 -- `listing::put_refusal` meets its contract: two lines of numbers.
 -- Assumes nothing.
 use Rattle.listing.specs.Put.{put-then, put-same, room-left, room-then}
-use Rattle.listing.proofs.Putting.{room-same}
+use Rattle.listing.proofs.Pieces.{room-same}
 use Rattle.listing.proofs.Rows.{refusal-text}
 use Rattle.listing.specs.Listing.{numberLine}
 use Rattle.rules.specs.Table.{ascii}

@@ -2,7 +2,7 @@
 -- Assumes nothing.
 use native.Mathlib.Omega.{arith}
 use Rattle.listing.specs.Put.{put-same, put-none}
-use Rattle.listing.proofs.Putting.{room-same}
+use Rattle.listing.proofs.Pieces.{room-same}
 use Rattle.listing.proofs.Keys.{kinds}
 use Rattle.listing.proofs.Rows.{part-inside, row-line, row-none}
 use borrow.Author.Needs.{needs}

@@ -52,7 +52,8 @@ same-length c = c .before .loop .inv .1 .long
 
 returns : tie.Need-returns Inv-loop μ-loop
 returns c =
-    all-rows (c .before .before .before .before .args .octets .now) _ _ _ _ _ (c .before .loop .inv .0)
+    let start = c .before .before .before .before in
+    all-rows (start .args .octets .now) _ _ _ _ _ (c .before .loop .inv .0)
     (c .loop-test .left) (c .before .loop .inv .1)
 
 pub put-rows-spec : {M : Type 1} → statement M

@@ -1,7 +1,7 @@
 -- `listing::put_state` meets its contract: unset, or as a lamp.
 -- Assumes nothing.
 use Rattle.listing.specs.Put.{put-same}
-use Rattle.listing.proofs.Putting.{room-same, is-unset, is-set}
+use Rattle.listing.proofs.Pieces.{room-same, is-unset, is-set}
 use Rattle.rules.specs.Table.{ascii}
 use borrow.Author.Needs.{needs}
 use Rattle.listing.proofs.put_state.Statement.{statement}

@@ -2,7 +2,7 @@
 -- Assumes nothing.
 use mathlib.Core.Path.{sym, _∙_, ap}
 use Rattle.listing.specs.Put.{put-same, put-none}
-use Rattle.listing.proofs.Putting.{room-same}
+use Rattle.listing.proofs.Pieces.{room-same}
 use Rattle.listing.specs.Listing.{printed, lampWord}
 use Rattle.listing.specs.Numerals.{decimal, hex}
 use Rattle.rules.specs.Table.{styleOf}
@@ -313,8 +313,9 @@ returns-10 c =
 returns-11 : tie.Need-returns-11
 unfolding printed styleOf
 returns-11 c =
+    let start = c .before .before .before .before in
     put-same _ _ _ _ _ _
-    (ap (λ (k : Class). printed (styleOf k) (c .before .before .before .before .args .contents .now))
+    (ap (λ (k : Class). printed (styleOf k) (start .args .contents .now))
     (sym (c .enum-told11 .given .1))) (put-none _ _)
 
 same-length-11 : tie.Need-same-length-11
@@ -368,8 +369,9 @@ returns-15 c =
 returns-16 : tie.Need-returns-16
 unfolding printed styleOf
 returns-16 c =
+    let start = c .before .before .before .before in
     put-same _ _ _ _ _ _
-    (ap (λ (k : Class). printed (styleOf k) (c .before .before .before .before .args .contents .now))
+    (ap (λ (k : Class). printed (styleOf k) (start .args .contents .now))
     (sym (c .enum-told16 .given .1))) (put-none _ _)
 
 pub put-value-spec : {M : Type 1} → statement M

@@ -2,7 +2,7 @@
 -- Assumes nothing.
 use mathlib.Core.Path.{refl, sym, _∙_}
 use Rattle.rules.proofs.Returns.{pick-t, pick-f}
-use Rattle.message.specs.Walking.{countedAt}
+use Rattle.message.specs.Parts.{countedAt}
 use borrow.Author.Needs.{needs}
 use Rattle.message.proofs.counted.Statement.{statement}
 use Rattle.message.proofs.counted.Tie as tie

@@ -4,7 +4,7 @@ use mathlib.Core.Path.{refl}
 use Prim.Native.Nat.{_+_}
 use native.Mathlib.Omega.{arith}
 use Rattle.rules.proofs.Returns.{pick-t, pick-f, yes-le, no-le}
-use Rattle.message.specs.Walking.{parameterAt}
+use Rattle.message.specs.Parts.{parameterAt}
 use borrow.Author.Needs.{needs}
 use Rattle.message.proofs.parameter.Statement.{statement}
 use Rattle.message.proofs.parameter.Tie as tie

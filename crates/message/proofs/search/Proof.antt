@@ -3,7 +3,7 @@
 use mathlib.Core.Path.{_≡_, refl, sym, _∙_}
 use native.Mathlib.Omega.{arith}
 use lib.ListN.{length}
-use Rattle.message.specs.Walking.{searchFrom}
+use Rattle.message.specs.Parts.{searchFrom}
 use Rattle.message.proofs.Searching.{no-turns, none-here, wanted, shut-out, next, found-inside}
 use borrow.Author.Needs.{needs}
 use Rattle.message.proofs.search.Statement.{statement}

@@ -4,7 +4,7 @@ use Prim.Native.Nat.{_-_}
 use native.Mathlib.Omega.{arith}
 use lib.ListN.{length, length-take, length-drop}
 use borrow.Rule.Slice.PartMut.{same-len-mid}
-use Rattle.reader.proofs.Putting.{put-is}
+use Rattle.reader.proofs.Copies.{put-is}
 use borrow.Author.Needs.{needs}
 use Rattle.reader.proofs.lay_text.Statement.{statement}
 use Rattle.reader.proofs.lay_text.Tie as tie

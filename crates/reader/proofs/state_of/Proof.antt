@@ -1,6 +1,7 @@
 -- `reader::state_of` meets its contract: the high octet of the reference first.
 -- Assumes nothing.
 use Prim.Native.Nat.{_+_, _*_}
+use mathlib.Core.Path.{_∙_}
 use Rattle.draft.specs.Meaning.{meant}
 use Rattle.draft.specs.Packing.{valueAt}
 use Rattle.draft.specs.declared.Value.the-variants.{State}
@@ -17,21 +18,17 @@ octet-requires-2 c κs = search needs
 octet-requires-3 : tie.Need-octet-requires-3
 octet-requires-3 c κs = search needs
 
-cast-t5 : tie.Need-cast-t5
-cast-t5 c = search needs
-
-mul-t6 : tie.Need-mul-t6
-mul-t6 c = search needs
-
-cast-t7 : tie.Need-cast-t7
-cast-t7 c = search needs
-
-add-t8 : tie.Need-add-t8
-add-t8 c = search needs
+reference-of-requires : tie.Need-reference-of-requires
+reference-of-requires c κs = search needs
 
 returns : tie.Need-returns
 unfolding valueAt meant
-returns c = λ i. State (c .before .before .octet .ensures i) (256 * c .before .octet2 .ensures i + c .octet3 .ensures i)
+returns c =
+    let after-octets = c .before in
+    let e =
+    c .reference-of .ensures
+    ∙ (λ i. 256 * after-octets .before .octet2 .ensures i + after-octets .octet3 .ensures i) in
+    λ i. State (after-octets .before .before .octet .ensures i) (e i)
 
 pub state-of-spec : {M : Type 1} → statement M
 state-of-spec =
@@ -40,8 +37,5 @@ state-of-spec =
     octet-requires
     octet-requires-2
     octet-requires-3
-    cast-t5
-    mul-t6
-    cast-t7
-    add-t8
+    reference-of-requires
     returns)

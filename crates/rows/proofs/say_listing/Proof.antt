@@ -18,10 +18,15 @@ in-one-line-requires : tie.Need-in-one-line-requires
 in-one-line-requires c κs = search needs
 
 array-share-prefix-lines : tie.Need-array-share-prefix-lines
-array-share-prefix-lines c = omega (arith, text-inside _ _ (c .before .before .before .before .listing .ensures), c .before .in-one-line .kept .0)
+array-share-prefix-lines c =
+    let after-listing = c .before .before .before .before in
+    omega (arith, text-inside _ _ (after-listing .listing .ensures), c .before .in-one-line .kept .0)
 
 slice-aggregate-say : tie.Need-slice-aggregate-say
-slice-aggregate-say c = sym (length-take-le _ _ (omega (arith, text-inside _ _ (c .before .before .before .before .before .listing .ensures), c .before .before .in-one-line .kept .0)))
+slice-aggregate-say c =
+    let after-listing = c .before .before .before .before .before in
+    let inside = text-inside _ _ (after-listing .listing .ensures) in
+    sym (length-take-le _ _ (omega (arith, inside, c .before .before .in-one-line .kept .0)))
 
 say-requires : tie.Need-say-requires
 say-requires c κs = search needs

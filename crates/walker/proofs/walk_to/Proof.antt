@@ -59,9 +59,10 @@ enum-told c = search needs
 
 returns-2 : tie.Need-returns-2 Inv-loop μ-loop
 returns-2 c =
+    let turn = c .before .before .before .before in
     sym (none-here _ _ _ _ (c .before .before .before .loop-test .taken)
     (sym (c .before .before .parameter .ensures) ∙ c .enum-told .given .1))
-    ∙ c .before .before .before .before .loop .inv
+    ∙ turn .loop .inv
 
 returns-3 : tie.Need-returns-3 Inv-loop μ-loop
 returns-3 c = sym (no-turns _ _ _ _ (c .loop-test .left)) ∙ c .before .loop .inv

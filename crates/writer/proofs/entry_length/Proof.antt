@@ -37,7 +37,8 @@ returns-2 c =
 
 returns-3 : tie.Need-returns-3
 returns-3 c =
-    entry-none _ _ _ (omega arith) _ _ _ (c .before .before .before .before .class-of .ensures)
+    let after-class-of = c .before .before .before .before in
+    entry-none _ _ _ (omega arith) _ _ _ (after-class-of .class-of .ensures)
     (c .before .before .before .flatten .ensures) (c .before .before .form-of .ensures) (c .if1 .left)
 
 pub entry-length-spec : {M : Type 1} → statement M

@@ -17,8 +17,9 @@ refusal-requires c κs = search needs
 returns : tie.Need-returns
 unfolding writeOf
 returns c =
+    let after-message-kind = c .before .before .before .before in
     c .refusal .ensures ∙ pick-t _ _ _ _
-    (via _ _ _ (c .before .before .before .before .message-kind .ensures) (c .before .before .before .if1 .taken))
+    (via _ _ _ (after-message-kind .message-kind .ensures) (c .before .before .before .if1 .taken))
     (pick-t _ _ _ _ (yes-eq _ _ (c .before .if2 .taken)) refl)
 
 refusal-requires-2 : tie.Need-refusal-requires-2

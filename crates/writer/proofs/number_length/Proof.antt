@@ -25,8 +25,9 @@ fitting-length-requires c κs = search needs
 returns : tie.Need-returns
 unfolding small
 returns c =
+    let start = c .before .before .before .before in
     c .fitting-length .ensures
-    ∙ ap (λ (s : Spelling). fitting (c .before .before .before .before .args .class)
+    ∙ ap (λ (s : Spelling). fitting (start .args .class)
     (take (s .length) (s .octets))) (c .before .before .before .spell .ensures)
 
 pub number-length-spec : {M : Type 1} → statement M

@@ -41,15 +41,17 @@ loop-less : tie.Need-loop-less Inv-loop μ-loop
 loop-less c = search needs
 
 loop-again : tie.Need-loop-again Inv-loop μ-loop
-loop-again c = (
-  search needs,
-  stands _ _ _ _ _ (c .before .before .before .before .before .loop .inv .1) (omega arith) _
-      (via _ _ _ (c .before .before .content-ok .ensures) (c .before .if1 .taken)) (c .remember .ensures),
-)
+loop-again c =
+    let turn = c .before .before .before .before .before in (
+      search needs,
+      stands _ _ _ _ _ (turn .loop .inv .1) (omega arith) _
+          (via _ _ _ (c .before .before .content-ok .ensures) (c .before .if1 .taken)) (c .remember .ensures),
+    )
 
 returns : tie.Need-returns Inv-loop μ-loop
 returns c =
-    stands-not _ _ _ _ _ (c .before .before .before .before .loop .inv .1) (omega arith)
+    let turn = c .before .before .before .before in
+    stands-not _ _ _ _ _ (turn .loop .inv .1) (omega arith)
     (via _ _ _ (c .before .content-ok .ensures) (c .if1 .left))
 
 returns-2 : tie.Need-returns-2 Inv-loop μ-loop

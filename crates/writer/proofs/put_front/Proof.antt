@@ -24,8 +24,11 @@ abbrev μ-loop : tie.MeasureT-loop
 
 -- a draft has 85 entry places
 full : (c : tie.In-loop Inv-loop μ-loop) →
-    length (c .before .before .before .before .before .args .draft .entries) ≡ most
-full c = simp length-map at (c .before .before .before .before .before .good .0 .1 .1 .1 .1 .0 .1 .0 .1)
+    let start = c .before .before .before .before .before in
+    length (start .args .draft .entries) ≡ most
+full c =
+    let start = c .before .before .before .before .before in
+    simp length-map at (start .good .0 .1 .1 .1 .1 .0 .1 .0 .1)
 
 slice-write-out : tie.Need-slice-write-out Inv-loop μ-loop
 slice-write-out c = omega (arith, c .before .before .before .pre .fits)

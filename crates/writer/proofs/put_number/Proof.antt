@@ -20,7 +20,8 @@ slice-aggregate-put-parameter c =
 
 put-parameter-requires : tie.Need-put-parameter-requires
 put-parameter-requires c κs =
-    spelled-asked _ _ _ (c .before .before .before .spell .ensures) (c .before .before .before .before .before .pre)
+    let start = c .before .before .before .before .before in
+    spelled-asked _ _ _ (c .before .before .before .spell .ensures) (start .pre)
 
 same-length : tie.Need-same-length
 same-length c = search needs

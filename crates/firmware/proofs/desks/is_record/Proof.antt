@@ -24,7 +24,9 @@ is-desk-requires c κs = search needs
 
 returns : tie.Need-returns
 unfolding isRecord
-returns c = and-t _ _ _ (yes-eq _ _ (c .before .before .before .before .before .if1 .taken)) (c .is-desk .ensures)
+returns c =
+    let branch = c .before .before .before .before .before in
+    and-t _ _ _ (yes-eq _ _ (branch .if1 .taken)) (c .is-desk .ensures)
 
 returns-2 : tie.Need-returns-2
 unfolding isRecord

@@ -37,10 +37,14 @@ add-lay-entry : tie.Need-add-lay-entry Inv-loop μ-loop
 add-lay-entry c = search needs
 
 sub-lay-entry : tie.Need-sub-lay-entry Inv-loop μ-loop
-sub-lay-entry c = omega (arith, recorded-long _ _ _ _ _ (c .before .before .before .before .before .loop .inv))
+sub-lay-entry c =
+    let turn = c .before .before .before .before .before in
+    omega (arith, recorded-long _ _ _ _ _ (turn .loop .inv))
 
 part-lay-entry-start : tie.Need-part-lay-entry-start Inv-loop μ-loop
-part-lay-entry-start c = omega (arith, recorded-long _ _ _ _ _ (c .before .before .before .before .before .loop .inv))
+part-lay-entry-start c =
+    let turn = c .before .before .before .before .before in
+    omega (arith, recorded-long _ _ _ _ _ (turn .loop .inv))
 
 part-lay-entry-end : tie.Need-part-lay-entry-end Inv-loop μ-loop
 part-lay-entry-end c = search needs
@@ -87,14 +91,16 @@ same-length c =
 
 returns : tie.Need-returns Inv-loop μ-loop
 returns c =
-    recorded-end _ _ _ _ _ (c .before .before .before .before .loop .inv)
+    let turn = c .before .before .before .before in
+    recorded-end _ _ _ _ _ (turn .loop .inv)
     (left-ended (rulesOf PresentLenient) _ _ _ _ (c .before .before .before .loop-test .taken)
     (sym (c .enum-told .given .1) ∙ c .before .before .entry .ensures))
 
 same-length-2 : tie.Need-same-length-2 Inv-loop μ-loop
 same-length-2 c =
+    let start = c .before .before .before .before in
     recorded-long _ _ _ _ _ (c .before .loop .inv)
-    ∙ sym (ap length (c .before .before .before .before .pre) ∙ length-replicate {A = ℕ} 688 0)
+    ∙ sym (ap length (start .pre) ∙ length-replicate {A = ℕ} 688 0)
 
 returns-2 : tie.Need-returns-2 Inv-loop μ-loop
 returns-2 c = recorded-end _ _ _ _ _ (c .before .loop .inv) (left-full _ _ _ (c .loop-test .left))

@@ -6,7 +6,7 @@ use lib.ListN.{length-set}
 use Rattle.rules.specs.Laying.{laid}
 use Rattle.firmware.specs.declared.drafts.Numbers.{Numbers}
 use Rattle.firmware.specs.DraftRecord.{cellsOf, entryCells}
-use Rattle.firmware.proofs.Drafting.{stored-front}
+use Rattle.firmware.proofs.Cells.{stored-front}
 use borrow.Author.Needs.{needs}
 use Rattle.firmware.proofs.drafts.lay_entry.Statement.{statement}
 use Rattle.firmware.proofs.drafts.lay_entry.Tie as tie

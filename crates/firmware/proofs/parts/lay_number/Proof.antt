@@ -4,7 +4,7 @@
 use native.Mathlib.Omega.{arith}
 use lib.ListN.{length-set}
 use Rattle.firmware.specs.PartRecord.{lowFirst}
-use Rattle.firmware.proofs.Drafting.{stored-front}
+use Rattle.firmware.proofs.Cells.{stored-front}
 use borrow.Author.Needs.{needs}
 use Rattle.firmware.proofs.parts.lay_number.Statement.{statement}
 use Rattle.firmware.proofs.parts.lay_number.Tie as tie

@@ -3,7 +3,7 @@
 use native.Mathlib.Omega.{arith}
 use lib.ListN.{length-set}
 use Rattle.firmware.specs.PartRecord.{sideCells}
-use Rattle.firmware.proofs.Drafting.{stored-front}
+use Rattle.firmware.proofs.Cells.{stored-front}
 use borrow.Author.Needs.{needs}
 use Rattle.firmware.proofs.parts.lay_side.Statement.{statement}
 use Rattle.firmware.proofs.parts.lay_side.Tie as tie
