@@ -11,7 +11,7 @@ use lib.Seq.{length-take-le}
 use Rattle.rules.specs.Table.{Rules}
 use Rattle.rules.specs.Message.{Message}
 use Rattle.rules.specs.Language.{calls}
-use Rattle.message.proofs.Told.{accepted-iff}
+use Rattle.message.proofs.Told.{told-declined, accepted-iff, some-number}
 use Rattle.message.specs.declared.Verdict.{Verdict}
 use Rattle.message.specs.declared.Verdict.the-variants.{Accepted, Declined}
 use Rattle.message.proofs.One.{judges-one}
@@ -64,7 +64,12 @@ module _ (R : Rules) where
         let a = accepted-iff (A .judged) n .0 e .1 in
         lines-one (a .0) _ _ (A .message (a .0) (a .1) (a .2)) (B .message (a .0) (a .1) (a .2))
     same-lines (Declined f) e =
-        A .refused f e ∙ sym (B .refused f (sym (judges-one (calls R) o _ _ (A .judged) (B .judged)) ∙ e))
+        let k = f .number in
+        let p = f .place in
+        let l = some-number (A .judged) f e in
+        let t = told-declined _ k p l .1 e in
+        let z = sym (judges-one (calls R) o _ _ (A .judged) (B .judged)) ∙ e in
+        A .refused k p l t ∙ sym (B .refused k p l (told-declined _ k p l .1 z))
 
     -- any octets have one listing
     pub lists-one : r ≡ s

@@ -14,7 +14,7 @@ use Rattle.rules.proofs.Unique.{unique-in}
 use Rattle.rules.specs.Message as message
 use Rattle.rules.specs.Message.{octets, LegalMessage, Accepts}
 use Rattle.rules.specs.declared.Fault.{Fault}
-use Rattle.message.proofs.Told.{accepted-iff}
+use Rattle.message.proofs.Told.{told-declined, accepted-iff}
 use Rattle.message.specs.declared.Verdict.{Verdict}
 use Rattle.message.specs.declared.Verdict.the-variants.{Accepted, Declined}
 use Rattle.message.specs.Verdict.{verdictOf}
@@ -106,7 +106,7 @@ module _ (o : List ℕ) (q : Octets o) where
         verdict = verdictOf R o;
         judged = judges-of PresentLenient o q;
         lines = verdictLines R o (verdictOf R o);
-        refused = λ f e. ap (verdictLines R o) e;
+        refused = λ k p l e. ap (verdictLines R o) (told-declined _ k p l .0 e);
         message = message-lines;
         text = of-text v .0;
         inside = omega arith;

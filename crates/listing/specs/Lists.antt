@@ -13,9 +13,9 @@ use Rattle.rules.specs.Table.{Rules, Row, ascii}
 use Rattle.rules.specs.Message.{Message, octets, LegalMessage}
 use Rattle.rules.specs.Counting.{counted, carriedIn}
 use Rattle.rules.specs.Language.{calls}
-use Rattle.rules.specs.declared.Fault.{Fault}
+use Rattle.rules.specs.Refusals.{noted}
 use Rattle.message.specs.declared.Verdict.{Verdict}
-use Rattle.message.specs.declared.Verdict.the-variants.{Declined}
+use Rattle.message.specs.Told.{told, refusal}
 use Rattle.message.specs.Judges.{Judges}
 use Rattle.listing.specs.declared.ListingText.{ListingText}
 use Rattle.listing.specs.Listing.{Line, written, lineOf, kindLine, carriedLine, refusalLines, bufferSize}
@@ -66,7 +66,7 @@ pub record Lists (R : Rules) (o : List ℕ) (r : ListingText) : Type 0 where
   pub verdict : Verdict
   pub judged : Judges (calls R) o verdict
   pub lines : List Line
-  pub refused : (f : Fault) → verdict ≡ Declined f → lines ≡ refusalLines f
+  pub refused : (k p : ℕ) → 1 ≤ k → told verdict ≡ refusal k p → lines ≡ refusalLines (noted k p)
   -- a message has its lines
   pub message : (m : Message) → LegalMessage R m → octets m ≡ o → Lines R m lines
   -- the text is these lines, one after the other, and zeros stand behind it

@@ -29,7 +29,7 @@ use Rattle.rules.specs.Language.{calls}
 use Rattle.rules.proofs.Grammar.{spoken}
 use Rattle.walker.specs.declared.Step.{Step}
 use Rattle.walker.specs.declared.Step.the-variants.{Parameter, NoMore, Refused}
-use Rattle.walker.specs.Told.{told}
+use Rattle.walker.specs.Told.{told, nothing}
 use Rattle.walker.proofs.Told.{told-refused, clear-of}
 use Rattle.walker.specs.Steps.{walkFrom, stepUnder, stepOf, nextPlace, placeAt}
 use Rattle.walker.proofs.Steps.{walk-plain, under-inside}
@@ -60,11 +60,11 @@ module _ (o : List ℕ) (at : ℕ) where
   numbers-of R (Accepted n) h = inl (walk-plain o most at 2 .0)
   numbers-of R (Declined f) h = inr (h f refl)
 
-refusal-stays : (at : ℕ) (r : Step) → 1 ≤ told r .number → nextPlace at r ≡ at
+place-stays : (at : ℕ) (r : Step) → told r .more ≡ 0 → nextPlace at r ≡ at
 unfolding told nextPlace
-refusal-stays at (Parameter k start n next) l = absurd (omega arith)
-refusal-stays at NoMore l = refl
-refusal-stays at (Refused f) l = refl
+place-stays at (Parameter k start n next) l = absurd (omega arith)
+place-stays at NoMore l = refl
+place-stays at (Refused f) l = refl
 
 -- ---- the step in a message
 given-is : (r : Step) → told r .more ≡ 1 → (k s n next : ℕ) × (r ≡ Parameter k s n next)
@@ -106,6 +106,10 @@ module _ (R : Rules) (S : SoundRules R) where
     none-at : (at : ℕ) → (Begins 2 (m .parameters) at → ⊥) → stepOf R o at ≡ NoMore
     none-at at n = legal-step at ∙ walk-none o c most at 2 (m .parameters) stand (few R S m l) n
 
+    none-told : (at : ℕ) → (Begins 2 (m .parameters) at → ⊥) → told (stepOf R o at) ≡ nothing
+    unfolding told
+    none-told at n = ap told (none-at at n)
+
     long-is : length o ≡ 3 + length (body (m .parameters))
     unfolding octets
     long-is = omega (arith, length-append (body (m .parameters)) (c ∷ []))
@@ -116,10 +120,10 @@ module _ (R : Rules) (S : SoundRules R) where
       begins =
           λ e. let g = given-is _ e in walk-begun o c most at 2 (m .parameters) stand (few R S m l) _ _ _ _
           (sym (legal-step at) ∙ g .4);
-      none = none-at at;
-      none-early = λ h. none-at at (λ b. omega (arith, b .place, h));
-      none-inside = λ place b h k. none-at at (λ d. omega (arith, begins-apart 2 (m .parameters) place at b d h, k));
-      none-late = λ h. none-at at (λ b. omega (arith, begins-before 2 (m .parameters) at b, long-is, h));
+      none = none-told at;
+      none-early = λ h. none-told at (λ b. omega (arith, b .place, h));
+      none-inside = λ place b h k. none-told at (λ d. omega (arith, begins-apart 2 (m .parameters) place at b d h, k));
+      none-late = λ h. none-told at (λ b. omega (arith, begins-before 2 (m .parameters) at b, long-is, h));
     }
 
     -- ---- one call after the other
@@ -172,7 +176,7 @@ module _ (R : Rules) (S : SoundRules R) where
       refused =
           λ k p l. Iff·trans (told-refused _ k p l)
           (Iff·trans (refused-of o at v (noted k p)) (Iff·symm (told-declined v k p l)));
-      stays = refusal-stays at _;
+      stays = place-stays at _;
       numbers = numbers-of o at R v (number-of J);
       inside = under-inside o v at;
       stands = λ m l e. subst (λ (x : List ℕ). StepAt m at (stepOf R x at)) e (step-stands m l at);

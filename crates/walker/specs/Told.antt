@@ -20,6 +20,10 @@ told (Parameter k start n next) = record { number = 0; place = 0; more = 1; kind
 told NoMore = record { number = 0; place = 0; more = 0; kind = 0; start = 0; size = 0 }
 told (Refused f) = record { number = f .number; place = f .place; more = 0; kind = 0; start = 0; size = 0 }
 
+-- no parameter begins there
+abbrev pub nothing : Told
+nothing = record { number = 0; place = 0; more = 0; kind = 0; start = 0; size = 0 }
+
 -- a refusal with number k at p
 abbrev pub refusal : ℕ → ℕ → Told
 refusal k p = record { number = k; place = p; more = 0; kind = 0; start = 0; size = 0 }

@@ -14,8 +14,7 @@ use Rattle.rules.specs.Language.{calls}
 use Rattle.message.specs.declared.Verdict.{Verdict}
 use Rattle.message.specs.Judges.{Judges, verdictNumber}
 use Rattle.walker.specs.declared.Step.{Step}
-use Rattle.walker.specs.declared.Step.the-variants.{NoMore}
-use Rattle.walker.specs.Told.{told, refusal, Clear}
+use Rattle.walker.specs.Told.{told, nothing, refusal, Clear}
 use Rattle.walker.specs.Steps.{nextPlace}
 
 -- of the parameters ps, of which the first begins at `first`, one begins at `at`: behind those before it
@@ -45,12 +44,12 @@ pub record StepAt (m : Message) (at : ℕ) (r : Step) : Type 0 where
   -- one is given nowhere else
   pub begins : told r .more ≡ 1 → Begins 2 (m .parameters) at
   -- where none begins, there is none
-  pub none : (Begins 2 (m .parameters) at → ⊥) → r ≡ NoMore
+  pub none : (Begins 2 (m .parameters) at → ⊥) → told r ≡ nothing
   -- that is so at 0 and 1, inside a parameter, at the checksum and beyond
-  pub none-early : at < 2 → r ≡ NoMore
+  pub none-early : at < 2 → told r ≡ nothing
   pub none-inside : (place : ℕ) (b : Begins 2 (m .parameters) place) → place < at →
-      at < place + 2 + length (b .p .contents) → r ≡ NoMore
-  pub none-late : length (octets m) ≤ at + 1 → r ≡ NoMore
+      at < place + 2 + length (b .p .contents) → told r ≡ nothing
+  pub none-late : length (octets m) ≤ at + 1 → told r ≡ nothing
 
 -- the octets o and a place went in, and r came back
 pub record Walks (R : Rules) (o : List ℕ) (at : ℕ) (r : Step) : Type 0 where
@@ -62,8 +61,8 @@ pub record Walks (R : Rules) (o : List ℕ) (at : ℕ) (r : Step) : Type 0 where
   pub verdict : Verdict
   pub judged : Judges (calls R) o verdict
   pub refused : (k p : ℕ) → 1 ≤ k → (told r ≡ refusal k p) ↔ (message.told verdict ≡ message.refusal k p)
-  -- and then the next call's place is the same
-  pub stays : 1 ≤ told r .number → nextPlace at r ≡ at
+  -- where no parameter is given, the next call's place is the same
+  pub stays : told r .more ≡ 0 → nextPlace at r ≡ at
   -- no number but 1 to 8, and 10
   pub numbers : (told r .number ≡ 0) ⊎ T (verdictNumber (calls R) (told r .number))
   -- the part lies inside the octets

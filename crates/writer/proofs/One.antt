@@ -2,7 +2,7 @@
 -- its answer; a message and the octets behind it make up the output.
 -- Assumes nothing.
 use Prim.Native.Nat.{ℕ, zero, suc, _+_, _≤_, _<_}
-use mathlib.Core.Path.{_≡_, refl, sym, _∙_, ap, ap₂}
+use mathlib.Core.Path.{_≡_, refl, sym, _∙_, ap, ap₂, subst}
 use mathlib.Core.Bool.{Bool}
 use mathlib.Core.Logic.{_⊎_, inl, inr}
 use mathlib.Core.List.{List, _++_}
@@ -15,24 +15,13 @@ use Rattle.rules.specs.Table.{Rules}
 use Rattle.rules.specs.Message.{messageKind, most}
 use Rattle.draft.specs.declared.Draft.{Draft}
 use Rattle.writer.specs.declared.Written.{Written}
-use Rattle.writer.specs.declared.Written.the-variants.{Message, Declined}
-use Rattle.writer.specs.Told.{Told, told, success, refusal}
-use Rattle.writer.specs.Writing.{unwritten, legalEntry}
+use Rattle.writer.specs.Told.{told, success}
+use Rattle.writer.proofs.Told.{unwritten-is, message-is}
+use Rattle.writer.specs.Writing.{legalEntry}
 use Rattle.writer.specs.Reasons.{Makes, entryAt, lengthOf, AllMake, FirstBad, Asked}
 use Rattle.writer.specs.Reasons.{Answers, Writes, Went, kind-is-none, no-entries, many-entries, bad-entry}
 use Rattle.writer.specs.Reasons.{too-long, too-tight, fits}
 use Rattle.writer.proofs.Legal.{at-most, makes-iff}
-
--- ---- number, place and size tell the answer
-unwritten-is : (w : Written) (k p : ℕ) → 1 ≤ k → told w ≡ refusal k p → w ≡ unwritten k p
-unfolding told
-unwritten-is (Message n) k p h e = absurd (omega (arith, ap (λ (a : Told). a .number) e))
-unwritten-is (Declined f) k p h e = λ i. Declined (record { number = e i .number; place = e i .place })
-
-message-is : (w : Written) (n : ℕ) → 1 ≤ n → told w ≡ success n → w ≡ Message n
-unfolding told
-message-is (Message m) n h e = ap (λ (a : Told). Message (a .size)) e
-message-is (Declined f) n h e = absurd (omega (arith, ap (λ (a : Told). a .size) e))
 
 -- a test passes, or it fails
 abbrev Decided : Bool → Type 0
@@ -97,6 +86,20 @@ module _ (R : Rules) (d : Draft) (texts : List ℕ) where
     went-is w A x (too-tight a m l r) = unwritten-is w _ _ (omega arith) (A .fifteen _ .1 (refl, (a, (m, (l, r)))))
     went-is w A x (fits a m l r) = message-is w _ (omega arith) (A .message _ .1 (refl, (a, (m, (l, r)))))
 
+    -- a message, or a number
+    abbrev Answered : Written → Type 0
+    Answered x = ((n : ℕ) × (told x ≡ success n)) ⊎ (1 ≤ told x .number)
+
+    answered : (x : Written) → Went R d texts room x → Answered x
+    unfolding told
+    answered x (kind-is-none n) = inr (omega arith)
+    answered x (no-entries k z) = inr (omega arith)
+    answered x (many-entries k m) = inr (omega arith)
+    answered x (bad-entry i a f) = inr (omega arith)
+    answered x (too-long a m l) = inr (omega arith)
+    answered x (too-tight a m l r) = inr (omega arith)
+    answered x (fits a m l r) = inl (_, refl)
+
     -- a draft with its text area and the room in the output have one answer
     pub answers-one : (w v : Written) → Answers R d texts room w → Answers R d texts room v → w ≡ v
     answers-one w v A B = went-is w A _ (way .1) ∙ sym (went-is v B _ (way .1))
@@ -106,13 +109,18 @@ module _ (R : Rules) (d : Draft) (texts : List ℕ) where
       Writes R d texts old w new → Writes R d texts old v after → (w ≡ v) × (new ≡ after)
   writes-one old w new v after A B =
       let e = answers-one (length old) w v (A .answers) (B .answers) in
-      (e, go w refl (sym e))
+      (e, go (answered (length old) _ (way (length old) .1)) (sym e))
     where
-      go : (x : Written) → w ≡ x → v ≡ w → new ≡ after
-      go (Message n) e d =
-          let a = A .lays n e in
-          let b = B .lays n (d ∙ e) in
+      is : w ≡ way (length old) .0
+      is = went-is (length old) w (A .answers) _ (way (length old) .1)
+
+      go : Answered (length old) (way (length old) .0) → v ≡ w → new ≡ after
+      go (inl (n, t)) d =
+          let a = A .lays n (ap told is ∙ t) in
+          let b = B .lays n (ap told (d ∙ is) ∙ t) in
           let x = a .begins ∙ sym (b .begins) in
           let y = a .stays ∙ sym (b .stays) in
           sym (take-append-drop n new) ∙ ap₂ _++_ x y ∙ take-append-drop n after
-      go (Declined f) e d = A .keeps f e ∙ sym (B .keeps f (d ∙ e))
+      go (inr l) d =
+          A .keeps (subst (λ (x : Written). 1 ≤ told x .number) (sym is) l)
+          ∙ sym (B .keeps (subst (λ (x : Written). 1 ≤ told x .number) (sym (d ∙ is)) l))

@@ -1,8 +1,9 @@
 -- What the promise of `write` says of any draft with its text area and any output, over the written rules.
 -- Assumes nothing.
-use mathlib.Core.Path.{_≡_, sym, _∙_, ap, ap₂}
+use mathlib.Core.Path.{_≡_, refl, sym, _∙_, ap, ap₂}
 use mathlib.Core.List.{List, _++_}
 use Prim.Native.Nat.{ℕ, _≤_}
+use native.Mathlib.Omega.{arith}
 use lib.ListN.{length, take, drop}
 use lib.Seq.{take-at, drop-at}
 use Rattle.rules.specs.Table.{rulesOf}
@@ -24,6 +25,8 @@ use Rattle.writer.proofs.Reasons.{answers}
 use Rattle.writer.proofs.RoundTrips.{round-trips-of}
 use Rattle.writer.specs.declared.Written.{Written}
 use Rattle.writer.specs.declared.Written.the-variants.{Message, Declined}
+use Rattle.writer.specs.Told.{told}
+use Rattle.writer.proofs.Told.{message-is}
 use Rattle.writer.proofs.write.Reads as write
 
 -- by the book b, of the draft d with the text area t, `write` answers w; the output held `old` and then holds `out`
@@ -66,7 +69,16 @@ module _ (b : Book) (d : Draft) (t old : List ℕ) (w : Written) (out : List ℕ
 
   -- answer and output together (`Writes`)
   pub writing : Writes (rulesOf b) d t old w out
-  writing = record { answers = writer-answers; lays = writer-lays; keeps = refusal-keeps }
+  unfolding told
+  writing = record {
+    answers = writer-answers;
+    lays = λ n e. writer-lays n (message-is w n (omega (arith, writer-answers .message n .0 e .0)) e);
+    keeps = kept w refl;
+  }
+    where
+      kept : (x : Written) → w ≡ x → 1 ≤ told x .number → out ≡ old
+      kept (Message n) e l = absurd (omega arith)
+      kept (Declined f) e l = refusal-keeps f e
 
   -- the draft of a legal message, over an area that begins with its texts, is written as exactly its octets where
   -- there is room

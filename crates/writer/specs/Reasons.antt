@@ -9,7 +9,6 @@ use lib.ListN.{length, getD, take, drop}
 use lib.Dec.{T}
 use Rattle.rules.specs.Table.{Rules}
 use Rattle.rules.specs.Message.{body, octets, messageKind, LegalParameter, Accepts, most}
-use Rattle.rules.specs.declared.Fault.{Fault}
 use Rattle.draft.specs.Meaning.{formIs, kindOf}
 use Rattle.draft.specs.Draft.{noEntry, meaningOf, inside, parameterOf, parametersOf, used, messageOf}
 use Rattle.draft.specs.declared.Entry.{Entry}
@@ -17,7 +16,7 @@ use Rattle.draft.specs.declared.Draft.{Draft}
 use Rattle.writer.specs.Told.{told, success, refusal}
 use Rattle.writer.specs.Writing.{unwritten}
 use Rattle.writer.specs.declared.Written.{Written}
-use Rattle.writer.specs.declared.Written.the-variants.{Message, Declined}
+use Rattle.writer.specs.declared.Written.the-variants.{Message}
 
 -- an entry makes a legal parameter: its kind of value is its type's, its text lies inside the area, and the parameter
 -- it stands for is legal
@@ -103,5 +102,5 @@ pub record LaidMessage (R : Rules) (d : Draft) (texts old new : List ℕ) (n : �
 pub record Writes (R : Rules) (d : Draft) (texts old : List ℕ) (w : Written) (new : List ℕ) : Type 0 where
   pub answers : Answers R d texts (length old) w
   -- a message lies at the output's beginning, and a refusal leaves the output
-  pub lays : (n : ℕ) → w ≡ Message n → LaidMessage R d texts old new n
-  pub keeps : (f : Fault) → w ≡ Declined f → new ≡ old
+  pub lays : (n : ℕ) → told w ≡ success n → LaidMessage R d texts old new n
+  pub keeps : 1 ≤ told w .number → new ≡ old

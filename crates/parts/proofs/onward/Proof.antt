@@ -104,8 +104,8 @@ module _ {M : Type 1} (𝓤 : URA M) (H : Heap 𝓤) (A : Atoms 𝓤) (W : Given
   Own = ShrSlice (named 0) κ u8 .own s (v ∷ [])
 
   -- what is had on entry
-  abbrev Entry : SProp 𝓤
-  Entry = onEntry 𝓤 H A onward.signature (κ, tt) (q, tt) (s, (n, tt)) at
+  abbrev Entered : SProp 𝓤
+  Entered = onEntry 𝓤 H A onward.signature (κ, tt) (q, tt) (s, (n, tt)) at
 
   -- what is said of the walker r that `next` returns, and of what `look` sees there
   abbrev NextGave : Walker → SProp 𝓤
@@ -124,7 +124,7 @@ module _ {M : Type 1} (𝓤 : URA M) (H : Heap 𝓤) (A : Atoms 𝓤) (W : Given
       qed W ((‵ (flft κ q) ⊛ ‵ ftrue) ∷ ‵ (owns (B (κ, tt) ∷ []) (made, tt) (mach ∷ [], tt)) ∷ []) ∵
       join ! $ frame ! $ done !
 
-  goes-next : ent 𝓤 Entry (sep 𝓤 (Next 𝓤 H A mem run .pre to-next) (sem 𝓤 H A Own))
+  goes-next : ent 𝓤 Entered (sep 𝓤 (Next 𝓤 H A mem run .pre to-next) (sem 𝓤 H A Own))
   goes-next =
       qed W ((‵ (flft κ q) ⊛ ‵ ftrue) ∷ ‵ (owns (ShrSlice (named 0) κ u8 ∷ usize ∷ []) (s, (n, tt)) at) ∷ []) ∵
       move ! (1 ∷ []) $ fsplit ! $
@@ -156,10 +156,10 @@ module _ {M : Type 1} (𝓤 : URA M) (H : Heap 𝓤) (A : Atoms 𝓤) (W : Given
       (known-next : Triple 𝓤 (C #walker·next) (Next 𝓤 H A mem run))
       (known-sees : Triple 𝓤 (C #walker·look) (Sees 𝓤 H A mem run)) where
     walk : Is (ShrSlice (named 0) κ u8) s (v ∷ [])
-        → ent 𝓤 Entry (WpFn 𝓤 H C Λ code.function (v ∷ vint w64 n ∷ []) Post)
+        → ent 𝓤 Entered (WpFn 𝓤 H C Λ code.function (v ∷ vint w64 n ∷ []) Post)
     walk p =
         let typed = shr-slice-lawful 𝓤 H A W (named 0) κ u8 .typed s (v ∷ []) p .0 in
-        qed W (raw Entry ∷ []) ∵ enter ! C Λ code.function (v ∷ vint w64 n ∷ []) _ $
+        qed W (raw Entered ∷ []) ∵ enter ! C Λ code.function (v ∷ vint w64 n ∷ []) _ $
         alloc1 ! (λ l₀. alloc1 ! (λ l₁. alloc1 ! (λ l₂. alloc1 ! (λ l₃. alloc1 ! (λ l₄. alloc0 ! $ params1 ! $
         pass1 ! (init ! 6 refl typed) $ pass1 ! (init ! 4 refl (tt, record { fits = ok })) $ pass0 ! $
         assigns ! (agg ! (and-then ! (load ! (from ! (stop !)) (look ! 6 refl))
