@@ -89,6 +89,8 @@ anthercup-cut-anywhere c x y w w₁ w₂ d d₁ d₂ h h₁ h₂ q a b = firmwar
 -- ---- a listener heard h since its reset, and then a run: what it says is what a whole read of all these octets by
 -- the book of the reset says
 pub record AsListened (b : Book) (o : List ℕ) (w : Answer) (x : Packed) : Type 0 where
+  -- number, place and size tell both
+  pub clear : read.Clear x × heard.Clear w
   pub refuses : (k p : ℕ) → T (languageOf b .given k) →
       (read.told x ≡ read.refusal k p) ↔ (heard.told w ≡ heard.refusal k p)
   pub waits : (read.told x ≡ read.refusal 8 (length o)) ↔ (heard.told w ≡ heard.waiting)
@@ -102,6 +104,7 @@ as-listened b l h d o q r p old x area k q' =
     let y = listener.demand3 b l h d o q r p in
     let v = g .early (length (h ++ o)) in
     record {
+      clear = (g .clear, y .clear);
       refuses = λ k p t. Iff·trans (g .spoilt k p t) (Iff·symm (y .refuses k p (spoken-of b .numbers k t .0)));
       waits = (λ e. y .waits .1 (v .0 e .1), λ e. v .1 (refl, y .waits .0 e));
     }

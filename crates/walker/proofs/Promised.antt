@@ -21,6 +21,7 @@ use Rattle.walker.specs.declared.Step.{Step}
 use Rattle.walker.specs.declared.Step.the-variants.{NoMore}
 use Rattle.walker.specs.Steps.{stepOf, placeAt}
 use Rattle.walker.proofs.Walks as walks
+use Rattle.walker.specs.Told.{Clear}
 use Rattle.walker.specs.Walks.{Gives, StepAt, Walks}
 use Rattle.walker.specs.Moves.{seen, Seen, Reached, reached}
 use Rattle.walker.proofs.step_at.Reads as step-at
@@ -40,8 +41,8 @@ module _ (b : Book) (o : List ℕ) (at : ℕ) (r : Step) (h : step-gives b o at 
   stepping q = subst (Walks (rulesOf b) o at) (sym step-at-is) (walks.walks (rulesOf b) (sound-rules b) o q at)
 
   -- of a legal message
-  pub step-of : (m : Message) → LegalMessage (rulesOf b) m → octets m ≡ o → StepAt m at r
-  step-of m l e = stepping (unique-in b .octets _ (m, l, e)) .stands m l e
+  pub step-of : (m : Message) → LegalMessage (rulesOf b) m → octets m ≡ o → Clear r × StepAt m at r
+  step-of m l e = let x = stepping (unique-in b .octets _ (m, l, e)) in (x .clear, x .stands m l e)
 
 -- any walker, with any message and any place
 pub looking : (w : Walker) (r : Step) → Seen w r → Octets (now (w .message)) →
