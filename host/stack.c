@@ -1,13 +1,14 @@
 /* The deepest message, 85 parameters in 258 octets, on a painted stack: read,
  * settled, asked for what counts and for its caption, and heard; the deepest
  * octet touched by each call is printed. More than the header says ends it with
- * status 1. */
+ * status 1: so it does where header and contents are no longer one loop, since
+ * each parameter then costs stack of its own. */
 #include <stdio.h>
 #include <string.h>
 
 #include "anthercup.h"
 
-enum { PAINTED = 1 << 18, WANTED = 13 * 1024, HEARD = 1024 };
+enum { PAINTED = 1 << 18, WANTED = 1000 };
 
 static uint8_t o[ANTHERCUP_MESSAGE_OCTETS], draft[ANTHERCUP_DRAFT_OCTETS],
     texts[ANTHERCUP_TEXTS_OCTETS], desk[ANTHERCUP_DESK_OCTETS],
@@ -124,5 +125,5 @@ int main(void)
            "%zu, counted %zu, caption %zu, listen %zu\n",
            read, settle, counted, caption, listen);
     return read > WANTED || settle > WANTED || counted > WANTED
-        || caption > WANTED || listen > HEARD;
+        || caption > WANTED || listen > WANTED;
 }

@@ -8,8 +8,8 @@
  * position-independent, uses SSE registers and needs memset of the
  * C library. It has no data of its own: calls on different records may run at
  * the same time, in threads or interrupts. Stack, measured on the deepest
- * message: read, settle, counted and caption use less than 13 KB each, listen
- * less than 1 KB.
+ * message: read, settle, counted, caption and listen use less than 1,000 octets
+ * each.
  *
  * What the caller owes. Octets are handed over as a pointer and a length. A
  * pointer is never null, also where the length is 0, and what is lent for

@@ -1,4 +1,5 @@
--- The draft's record is laid down entry by entry over octets of 0, and the header's readers read it back.
+-- The draft's record is laid down entry by entry over octets of 0, the texts beside it, and the header's readers read
+-- it back.
 -- Assumes nothing.
 use Prim.Native.Nat.{ℕ, zero, suc, _+_, _*_, _-_, _/_, _%_, _≤_, _<_}
 use mathlib.Core.Path.{_≡_, refl, sym, _∙_, ap, ap₂}
@@ -24,9 +25,10 @@ use Rattle.draft.specs.Packing.{entriesOf, textsOf, draftOf}
 use Rattle.draft.proofs.Packing.{pack}
 use Rattle.message.specs.Parameters.{messageIn, parametersIn}
 use Rattle.message.proofs.Parameters.{parameters-few}
-use Rattle.rules.specs.Laying.{laidAt}
-use Rattle.reader.proofs.Laying.{TakenEntries, filled-first, filled-small, filled-more, filled-end, untaken}
-use Rattle.reader.specs.Read.{takenAt}
+use Rattle.rules.specs.Laying.{laid, laidAt}
+use Rattle.reader.proofs.Laying.{TakenEntries, filled-first, filled-more, filled-end, untaken, LaidTexts, laid-first, laid-room, laid-more, laid-end, sized-end}
+use Rattle.reader.proofs.Turns.{entry-text}
+use Rattle.reader.specs.Read.{textSize, takenAt}
 use Rattle.reader.specs.declared.Taken.the-variants as taken
 use Rattle.firmware.specs.DraftRecord.{textNumbers, numbersOf, entryCells, entriesCells, draftRecord, valueOf, cellIn, entryIn}
 use Rattle.firmware.specs.Sizes.{draftSize}
@@ -88,59 +90,80 @@ put-entry es i e h =
     ∙ ap (λ (l : List ℕ). zeros ++ l) (sym (cells-append (take i es) (e ∷ drop (suc i) es))
     ∙ ap entriesCells (sym (set-split es i e h)))
 
--- ---- the loop over the entries
-module _ (o : List ℕ) where
-  pub record Recorded (count at used : ℕ) (cells : List ℕ) : Type 0 where
+cells-length : (es : List Entry) → length (entriesCells es) ≡ 8 * length es
+unfolding entriesCells
+cells-length [] = refl
+cells-length (e ∷ es) = omega (arith, length-append (entryCells e) (entriesCells es), entry-length e, cells-length es)
+
+-- ---- the loop over the entries and their texts
+abbrev R : Rules
+R = rulesOf PresentLenient
+
+module _ (o old : List ℕ) where
+  pub record Recorded (count at used : ℕ) (cells texts : List ℕ) : Type 0 where
     pub entries : List Entry
-    pub filled : TakenEntries (rulesOf PresentLenient) o count at used entries
+    pub filled : TakenEntries R o count at used entries
     pub cells-are : cells ≡ zeros ++ entriesCells entries
+    pub laid-down : LaidTexts R o old count at used texts
 
-  pub recorded-first : (cells : List ℕ) → cells ≡ replicate draftSize 0 → Recorded 0 2 0 cells
-  recorded-first cells e = record {
-    entries = replicate most noEntry;
-    filled = filled-first (rulesOf PresentLenient) o;
-    cells-are = e ∙ sym (replicate-append-replicate 8 680 0) ∙ ap (λ (l : List ℕ). zeros ++ l) (sym (none-cells most));
-  }
+  module _ (room : textSize R o ≤ length old) where
+    pub recorded-first : (cells : List ℕ) → cells ≡ replicate draftSize 0 → Recorded 0 2 0 cells old
+    recorded-first cells e = record {
+      entries = replicate most noEntry;
+      filled = filled-first R o;
+      cells-are =
+          e ∙ sym (replicate-append-replicate 8 680 0) ∙ ap (λ (l : List ℕ). zeros ++ l) (sym (none-cells most));
+      laid-down = laid-first R o old room;
+    }
 
-  cells-length : (es : List Entry) → length (entriesCells es) ≡ 8 * length es
-  unfolding entriesCells
-  cells-length [] = refl
-  cells-length (e ∷ es) = omega (arith, length-append (entryCells e) (entriesCells es), entry-length e, cells-length es)
+    module _ (count at used : ℕ) (cells texts : List ℕ) (w : Recorded count at used cells texts) where
+      pub recorded-long : length cells ≡ draftSize
+      recorded-long =
+          omega (
+            arith,
+            ap length (w .cells-are),
+            length-append zeros (entriesCells (w .entries)),
+            cells-length
+                (w .entries),
+            w .filled .long,
+          )
 
-  module _ (count at used : ℕ) (cells : List ℕ) (w : Recorded count at used cells) where
-    pub recorded-long : length cells ≡ draftSize
-    recorded-long =
-        omega (
-          arith,
-          ap length (w .cells-are),
-          length-append zeros (entriesCells (w .entries)),
-          cells-length
-              (w .entries),
-          w .filled .long,
-        )
+      module _ (h : count < most) (e : Entry) (n place : ℕ) (t : taken.Next e n place ≡ takenAt R o at used) where
+        pub recorded-room : (at + 2 + n ≤ length o) × (used + n ≤ length texts)
+        recorded-room =
+            laid-room R o old room count at used texts (w .laid-down) h (at + 2) n place
+            (entry-text R o (most - count) at (omega arith) used e n place t)
 
-    module _ (h : count < most) (e : Entry) (n place : ℕ)
-        (t : taken.Next e n place ≡ takenAt (rulesOf PresentLenient) o at used) where
-      pub recorded-small : used + n ≤ length o
-      recorded-small = filled-small (rulesOf PresentLenient) o count at used (w .entries) (w .filled) h e n place t
+        pub recorded-more : (next after : List ℕ) → next ≡ laidAt (entryCells e) (8 + 8 * count) cells →
+            after ≡ laidAt (take n (drop (at + 2) o)) used texts → Recorded (count + 1) place (used + n) next after
+        recorded-more next after p q = record {
+          entries = set (w .entries) count e;
+          filled = filled-more R o count at used (w .entries) (w .filled) h e n place t;
+          cells-are =
+              p ∙ ap (laidAt (entryCells e) (8 + 8 * count)) (w .cells-are)
+              ∙ put-entry (w .entries) count e (omega (arith, w .filled .long));
+          laid-down =
+              laid-more R o old room count at used texts (w .laid-down) h (at + 2) n place
+              (entry-text R o (most - count) at (omega arith) used e n place t) after q;
+        }
 
-      pub recorded-more : (next : List ℕ) → next ≡ laidAt (entryCells e) (8 + 8 * count) cells →
-          Recorded (count + 1) place (used + n) next
-      recorded-more next p = record {
-        entries = set (w .entries) count e;
-        filled = filled-more (rulesOf PresentLenient) o count at used (w .entries) (w .filled) h e n place t;
-        cells-are =
-            p ∙ ap (laidAt (entryCells e) (8 + 8 * count)) (w .cells-are)
-            ∙ put-entry (w .entries) count e (omega (arith, w .filled .long));
-      }
-
-    pub recorded-end : untaken o count at ≡ [] →
-        (count ≡ draftOf (rulesOf PresentLenient) (messageIn o) .count)
-        × (cells ≡ zeros ++ entriesCells (draftOf (rulesOf PresentLenient) (messageIn o) .entries))
-    recorded-end e =
-        let z = filled-end (rulesOf PresentLenient) o count at used (w .entries) (w .filled)
-        (record { kind = getD o 0 0; count = count; entries = w .entries }) refl refl refl e in
-        (ap (λ (d : Draft). d .count) z, w .cells-are ∙ ap (λ (d : Draft). zeros ++ entriesCells (d .entries)) z)
+      pub recorded-end : untaken o count at ≡ [] →
+          (count ≡ draftOf R (messageIn o) .count)
+          × ((used ≡ textSize R o)
+          × ((cells ≡ zeros ++ entriesCells (draftOf R (messageIn o) .entries))
+          × (texts ≡ laid (textsOf R (parametersIn o)) old)))
+      recorded-end e =
+          let z = filled-end R o count at used (w .entries) (w .filled)
+          (record { kind = getD o 0 0; count = count; entries = w .entries }) refl refl refl e in (
+            ap (λ (d : Draft). d .count) z,
+            (
+              sized-end R o count at used (w .laid-down .sized) e,
+              (
+                w .cells-are ∙ ap (λ (d : Draft). zeros ++ entriesCells (d .entries)) z,
+                laid-end R o old room count at used texts (w .laid-down) e,
+              ),
+            ),
+          )
 
 -- the header over eight octets of 0
 pub headed : (d : Draft) (cells : List ℕ) (kind count : ℕ) → kind ≡ d .kind → count ≡ d .count →

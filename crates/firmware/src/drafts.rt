@@ -9,8 +9,9 @@ ghost use lib.ListN.{length, replicate};
 ghost use Rattle.rules.specs.Table.{rulesOf};
 ghost use Rattle.rules.specs.declared.Book.the-variants as book;
 ghost use Rattle.rules.specs.Laying.{laid};
-ghost use Rattle.draft.specs.Packing.{draftOf};
-ghost use Rattle.message.specs.Parameters.{messageIn};
+ghost use Rattle.draft.specs.Packing.{draftOf, textsOf};
+ghost use Rattle.message.specs.Parameters.{parametersIn, messageIn};
+ghost use Rattle.reader.specs.Read.{textSize};
 ghost use Rattle.firmware.specs.DraftRecord as record-of;
 ghost use Rattle.firmware.specs.Sizes.{draftSize};
 
@@ -97,10 +98,19 @@ fn clear(cells: &mut [u8])
     }
 }
 
-// The entries of the message's parameters, each at its place; how many there are.
-fn lay_entries(octets: &[u8], cells: &mut [u8]) -> usize
-    requires { ⌜ now cells ≡ replicate draftSize 0 ⌝ }
-    ensures { λ r. ⌜ (r ≡ draftOf (rulesOf book.PresentLenient) (messageIn (now (octets .entry))) .count) × (now (cells .exit) ≡ replicate 8 0 ++ record-of.entriesCells (draftOf (rulesOf book.PresentLenient) (messageIn (now (octets .entry))) .entries)) ⌝ }
+// How many entries were laid down, and how many text octets.
+struct Filled {
+    count: usize,
+    used: usize,
+}
+
+// The entries of the message's parameters, each at its place, and their texts one behind the other, in one walk.
+fn lay_entries(octets: &[u8], cells: &mut [u8], texts: &mut [u8]) -> Filled
+    requires { ⌜ (now cells ≡ replicate draftSize 0) × (textSize (rulesOf book.PresentLenient) (now octets) ≤ length (now texts)) ⌝ }
+    ensures count { λ r. ⌜ r .count ≡ draftOf (rulesOf book.PresentLenient) (messageIn (now (octets .entry))) .count ⌝ }
+    ensures used { λ r. ⌜ r .used ≡ textSize (rulesOf book.PresentLenient) (now (octets .entry)) ⌝ }
+    ensures cells { λ r. ⌜ now (cells .exit) ≡ replicate 8 0 ++ record-of.entriesCells (draftOf (rulesOf book.PresentLenient) (messageIn (now (octets .entry))) .entries) ⌝ }
+    ensures texts { λ r. ⌜ now (texts .exit) ≡ laid (textsOf (rulesOf book.PresentLenient) (parametersIn (now (octets .entry)))) (now (texts .entry)) ⌝ }
 {
     let mut at: usize = 2;
     let mut used: usize = 0;
@@ -110,25 +120,31 @@ fn lay_entries(octets: &[u8], cells: &mut [u8]) -> usize
         match taken {
             Taken::Next { entry, text, place } => {
                 lay_entry(&mut cells[8 + 8 * count..], entry);
+                let start = at + 2;
+                let end = start + text;
+                bytes::copy(&octets[start..end], &mut texts[used..]);
                 used += text;
                 at = place;
                 count += 1;
             }
             Taken::End => {
-                return count;
+                return Filled { count, used };
             }
         }
     }
-    count
+    Filled { count, used }
 }
 
-// The record of a message's draft, whatever it held.
-pub(crate) fn lay_draft(octets: &[u8], cells: &mut [u8])
-    requires { ⌜ length (now cells) ≡ draftSize ⌝ }
-    ensures { λ _. ⌜ now (cells .exit) ≡ record-of.draftRecord (draftOf (rulesOf book.PresentLenient) (messageIn (now (octets .entry)))) ⌝ }
+// The record of a message's draft, whatever it held, and the texts; how many text octets there are.
+pub(crate) fn lay_draft(octets: &[u8], cells: &mut [u8], texts: &mut [u8]) -> usize
+    requires { ⌜ (length (now cells) ≡ draftSize) × (textSize (rulesOf book.PresentLenient) (now octets) ≤ length (now texts)) ⌝ }
+    ensures used { λ r. ⌜ r ≡ textSize (rulesOf book.PresentLenient) (now (octets .entry)) ⌝ }
+    ensures cells { λ r. ⌜ now (cells .exit) ≡ record-of.draftRecord (draftOf (rulesOf book.PresentLenient) (messageIn (now (octets .entry)))) ⌝ }
+    ensures texts { λ r. ⌜ now (texts .exit) ≡ laid (textsOf (rulesOf book.PresentLenient) (parametersIn (now (octets .entry)))) (now (texts .entry)) ⌝ }
 {
     clear(cells);
-    let count = lay_entries(octets, cells);
+    let filled = lay_entries(octets, cells, texts);
     cells[0] = message::octet(octets, 0);
-    cells[1] = count as u8;
+    cells[1] = filled.count as u8;
+    filled.used
 }

@@ -10,7 +10,7 @@ use listener::Listener;
 use message::Part;
 use message::Verdict;
 use parts::PART;
-use reader::Packed;
+use reader::Fitting;
 use rules::Book;
 use rules::Fault;
 use rules::Spot;
@@ -355,15 +355,6 @@ fn hear(l: Listener, octets: &[u8]) -> HeardWord
     HeardWord { listener, word }
 }
 
-fn packed_word(p: Packed) -> u64
-    ensures { λ r. ⌜ r ≡ exports.packedWord p ⌝ }
-{
-    match p {
-        Packed::Texts { octets } => packed(0, 0, octets, 0),
-        Packed::Refused { fault } => packed(fault.number, fault.place, 0, 0),
-    }
-}
-
 // The texts, and the record where they were laid down.
 fn read_into(octets: &[u8], cells: &mut [u8], texts: &mut [u8]) -> u64
     requires { ⌜ length (now cells) ≡ draftSize ⌝ }
@@ -371,13 +362,13 @@ fn read_into(octets: &[u8], cells: &mut [u8], texts: &mut [u8]) -> u64
     ensures cells { λ r. ⌜ now (cells .exit) ≡ exports.recordFrom (now (octets .entry)) (now (cells .entry)) (packOf (rulesOf book.PresentLenient) (now (octets .entry)) (length (now (texts .entry)))) ⌝ }
     ensures texts { λ r. ⌜ now (texts .exit) ≡ areaAfter (rulesOf book.PresentLenient) (now (octets .entry)) (now (texts .entry)) ⌝ }
 {
-    let answer = reader::pack(Book::PresentLenient, octets, texts);
-    match answer {
-        Packed::Texts { octets: _ } => {
-            drafts::lay_draft(octets, cells);
-            packed_word(answer)
+    let fitting = reader::fits(Book::PresentLenient, octets, texts.len());
+    match fitting {
+        Fitting::Fits => {
+            let used = drafts::lay_draft(octets, cells, texts);
+            packed(0, 0, used as u16, 0)
         }
-        Packed::Refused { fault: _ } => packed_word(answer),
+        Fitting::Refused { fault } => packed(fault.number, fault.place, 0, 0),
     }
 }
 

@@ -8,3 +8,4 @@ pub mod Runs
 pub mod Told
 pub mod Hears
 pub mod Going
+pub mod Headers

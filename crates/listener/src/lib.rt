@@ -228,7 +228,49 @@ fn along(book: Book, f: Frame, first: u8, kept: u8, spot: Spot, octets: &[u8], f
     }
 }
 
-// One octet further, or contents as far as they go.
+// Parameters from a header on: to the message or the refusal that they come to, or to the last header on the way; one octet where that is this one.
+fn by_turns(book: Book, room: u8, q: Spot, octets: &[u8], i: usize) -> Ran
+    requires { ⌜ T (inRange (rulesOf book) (state.Waiting (stage.Header room) q)) × (i < list.length (now octets)) ⌝ }
+    ensures { λ r. ⌜ Onward (rulesOf book) (state.Waiting (stage.Header room) q) (now (octets .entry)) i r ⌝ }
+{
+    let stop = turns::through(book, &octets[i..], room, q.sum);
+    let gone = i + stop.place as usize;
+    let place = q.place + stop.place;
+    if stop.number == 0 {
+        Ran {
+            state: State::Message(place),
+            taken: gone,
+        }
+    } else if stop.number == 8 {
+        if stop.place == 0 {
+            let x = octets[i];
+            Ran {
+                state: at_header(book, room, q, x),
+                taken: i + 1,
+            }
+        } else {
+            let spot = Spot {
+                sum: stop.sum,
+                place,
+            };
+            Ran {
+                state: State::Waiting(Stage::Header { room: stop.room }, spot),
+                taken: gone,
+            }
+        }
+    } else {
+        let fault = Fault {
+            number: stop.number,
+            place,
+        };
+        Ran {
+            state: State::Refused(fault),
+            taken: gone + 1,
+        }
+    }
+}
+
+// One octet further; as far as contents go; or, where a whole parameter can follow, as far as parameters go.
 fn onward(book: Book, stage: Stage, q: Spot, octets: &[u8], i: usize) -> Ran
     requires { ⌜ T (inRange (rulesOf book) (state.Waiting stage q)) × (i < list.length (now octets)) ⌝ }
     ensures { λ r. ⌜ Onward (rulesOf book) (state.Waiting stage q) (now (octets .entry)) i r ⌝ }
@@ -243,10 +285,16 @@ fn onward(book: Book, stage: Stage, q: Spot, octets: &[u8], i: usize) -> Ran
             state: at_size(book, q, x),
             taken: i + 1,
         },
-        Stage::Header { room } => Ran {
-            state: at_header(book, room, q, x),
-            taken: i + 1,
-        },
+        Stage::Header { room } => {
+            if octets.len() - i < 3 {
+                Ran {
+                    state: at_header(book, room, q, x),
+                    taken: i + 1,
+                }
+            } else {
+                by_turns(book, room, q, octets, i)
+            }
+        }
         Stage::Length { class, room } => Ran {
             state: at_length(book, class, room, q, x),
             taken: i + 1,

@@ -4,8 +4,7 @@ pub mod Parameters
 pub mod Places
 pub mod Told
 pub mod Judges
-pub mod Calls
 pub mod Settled
 pub mod Promised
 pub mod One
-pub mod Turns
+pub mod Opening

@@ -46,9 +46,12 @@ use Rattle.draft.specs.declared.Draft.{Draft}
 use Rattle.draft.specs.Draft.{emptyOf}
 use Rattle.reader.specs.declared.Packed.{Packed}
 use Rattle.reader.specs.declared.Packed.the-variants as packed
+use Rattle.reader.specs.declared.Fitting.{Fitting}
+use Rattle.reader.specs.declared.Fitting.the-variants as fitting
 use Rattle.reader.specs.declared.Reading.{Reading}
 use Rattle.reader.specs.Told.{told}
 use Rattle.reader.specs.Reads.{readNumber, Reads}
+use Rattle.reader.proofs.Area.{refused-fitting}
 use Rattle.reader.proofs.Promised as reader
 use Rattle.writer.specs.declared.Written.{Written}
 use Rattle.writer.specs.declared.Written.the-variants.{Declined}
@@ -166,6 +169,14 @@ pub pack-refuses : (b : Book) (o old : List ℕ) (w : Packed) (area : List ℕ) 
 pack-refuses b o old w area h q f e =
     let x = reader.packs b o old w area h q in
     read-so b o old (x .0) area (x .2) f (x .1 ∙ e)
+
+-- whether a read goes through: the same refusals, and no area is lent
+pub fits-refuses : (b : Book) (o old : List ℕ) (w : Fitting) → reader.fits-gives b o (length old) w → Octets o →
+    (f : Fault) → w ≡ fitting.Refused f → Unread b o old f old
+fits-refuses b o old w h q f e =
+    let x = reader.fits-so b o old w h q in
+    let y = read-so b o old (x .0) (x .2 .0) (x .2 .1) f (sym (refused-fitting (x .0 .answer) f (sym (x .1 ∙ e)))) in
+    subst (Unread b o old f) (y .stays) y
 
 -- the writer: 11 to 15; the output stays
 pub write-refuses : (b : Book) (d : Draft) (t old : List ℕ) (w : Written) (out : List ℕ) →

@@ -35,7 +35,9 @@ use Rattle.reader.specs.declared.Packed.{Packed}
 use Rattle.reader.specs.declared.Packed.the-variants.{Texts, Refused}
 use Rattle.reader.specs.declared.Reading.{Reading}
 use Rattle.reader.proofs.Turns.{texts-in-body, size-within}
-use Rattle.reader.specs.Read.{textSize, packFrom, packOf, areaFrom, areaAfter, draftFrom, readOf}
+use Rattle.reader.proofs.Area.{fits-whole}
+use Rattle.reader.specs.declared.Fitting.the-variants.{Fits}
+use Rattle.reader.specs.Read.{textSize, packFrom, packOf, fittingOf, areaFrom, areaAfter, draftFrom, readOf}
 use Rattle.reader.specs.Told.{told, Clear}
 use Rattle.reader.proofs.Told.{told-texts, told-refused}
 use Rattle.reader.specs.Reads.{Near, texts, readNumber, Reads}
@@ -76,12 +78,8 @@ module _ (R : Rules) (S : SoundRules R) where
       λ e. clash (cc (e .1)),
     )
 
-    texts-verdict : (v : Verdict) (n : ℕ) → packFrom R o room v ≡ Texts n → (k : ℕ) × (v ≡ Accepted k)
-    unfolding packFrom
-    texts-verdict (Accepted k) n e = (k, refl)
-    texts-verdict (Declined g) n e = clash cc
-
-    whole-is : (v : Verdict) (n : ℕ) → v ≡ Accepted n → textSize R o ≤ room → packFrom R o room v ≡ Texts (textSize R o)
+    whole-is : (v : Verdict) (n : ℕ) → v ≡ Accepted n → textSize R o ≤ room →
+        packFrom R o room v ≡ Texts (textSize R o)
     unfolding packFrom
     whole-is v n e h = ap (packFrom R o room) e ∙ pick-yes _ _ _ (of-le _ _ h)
 
@@ -96,6 +94,16 @@ module _ (R : Rules) (S : SoundRules R) where
   size-of : (m : Message) (o : List ℕ) → LegalMessage R m → octets m ≡ o → textSize R o ≡ length (texts R m)
   unfolding textSize
   size-of m o l e = ap (λ (ps : List Parameter). length (textsOf R ps)) (parameters-in m o l e)
+
+  -- an accepted message has at most 258 octets, and 253 are enough for its texts
+  pub accepted-small : (o : List ℕ) → Octets o → (n : ℕ) → verdictOf R o ≡ Accepted n →
+      (length o ≤ 258) × (textSize R o ≤ 253)
+  accepted-small o q n e =
+      let a = accepted-iff (judges-calls R S o q) n .0 e .1 in
+      (accepted-size R o a .1, omega (arith, size-of (a .0) o (a .1) (a .2), area-enough R (a .0) (a .1)))
+
+  pub fits-small : (o : List ℕ) → Octets o → (room : ℕ) → Fits ≡ fittingOf (packOf R o room) → textSize R o ≤ 253
+  fits-small o q room e = let w = fits-whole R o room e in accepted-small o q (w .octets) (w .accepted) .1
 
   module _ (o old : List ℕ) (q : Octets o) where
     abbrev v : Verdict
@@ -187,8 +195,10 @@ module _ (R : Rules) (S : SoundRules R) where
         (λ n e. accepted-size R o (accepted-iff j n .0 e .1) .1)
 
     only-message : (n : ℕ) → packOf R o room ≡ Texts n → Accepts R o
-    unfolding packOf
-    only-message n e = let x = texts-verdict o room v n e in accepted-iff j (x .0) .0 (x .1) .1
+    unfolding fittingOf
+    only-message n e =
+        let w = fits-whole R o room (ap fittingOf (sym e)) in
+        accepted-iff j (w .octets) .0 (w .accepted) .1
 
     clear-of : (p : Packed) → ((f : Fault) → p ≡ Refused f → 1 ≤ f .number) → Clear p
     clear-of (Texts n) b = tt

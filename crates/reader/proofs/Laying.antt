@@ -8,13 +8,8 @@ use native.Mathlib.Numerals.{add-one}
 use native.Mathlib.Omega.{arith}
 use lib.ListN.{length, length-append, length-drop, length-set, length-replicate, take, drop, set, getD, replicate, take-append-drop}
 use lib.Seq.{drop-drop, take-suc-set, drop-set-lt, length-take-le}
-use Rattle.rules.specs.Tests.{_≤?_}
-use Rattle.rules.proofs.Tests.{pick-yes, pick-not, le-of, of-le}
 use Rattle.rules.specs.Table.{Rules}
 use Rattle.rules.specs.declared.Fault.{Fault}
-use Rattle.message.specs.declared.Verdict.{Verdict}
-use Rattle.message.specs.declared.Verdict.the-variants.{Accepted, Declined}
-use Rattle.message.specs.Verdict.{verdictOf}
 use Rattle.rules.specs.Message.{Parameter, most}
 use Rattle.message.specs.Parameters.{parametersFrom, parametersIn, messageIn}
 use Rattle.message.proofs.Parameters.{no-more}
@@ -23,15 +18,14 @@ use Rattle.draft.specs.declared.Draft.{Draft}
 use Rattle.draft.specs.Draft.{noEntry, emptyOf}
 use Rattle.rules.specs.Laying.{laid, laidAt}
 use Rattle.rules.proofs.Laying.{laid-front, laid-behind, laid-length}
-use Rattle.rules.specs.Refusals.{noted}
 use Rattle.draft.specs.Packing.{textsOf, entriesOf, draftOf}
 use Rattle.draft.proofs.Packing.{entries-length}
 use Rattle.reader.specs.declared.Packed.{Packed}
 use Rattle.reader.specs.declared.Packed.the-variants as packed
 use Rattle.reader.specs.declared.Taken.the-variants as taken
 use Rattle.reader.specs.declared.Text.the-variants as text
-use Rattle.reader.specs.Read.{textSize, textAt, takenAt, packFrom, packOf, areaFrom, areaAfter, draftFrom, readOf}
-use Rattle.reader.proofs.Turns.{TextHere, text-here, text-none, EntryHere, entry-here, entry-none, size-within, accepted-long}
+use Rattle.reader.specs.Read.{textSize, textAt, takenAt, packOf, draftFrom, readOf}
+use Rattle.reader.proofs.Turns.{TextHere, text-here, text-none, EntryHere, entry-here, entry-none, size-within}
 
 -- the parameters not yet taken
 abbrev pub untaken : List ℕ → ℕ → ℕ → List Parameter
@@ -210,43 +204,6 @@ module _ (R : Rules) (o : List ℕ) where
         s ∙ sym (take-append-drop count entries)
         ∙ ap₂ _++_ t (w .rest ∙ ap (λ (m : ℕ). replicate (most - m) noEntry) n) in
         λ i. record { kind = k i; count = a i; entries = b i }
-
--- ---- the verdict, then 9, then the texts
-module _ (R : Rules) (o old : List ℕ) (v : Verdict) (e : v ≡ verdictOf R o) where
-  pub record Packs (r : Packed) (area : List ℕ) : Type 0 where
-    pub answer : r ≡ packOf R o (length old)
-    pub area-is : area ≡ areaAfter R o old
-
-  after : (r : Packed) (area : List ℕ) → r ≡ packOf R o (length old) → area ≡ areaFrom R o old r → Packs r area
-  unfolding areaAfter
-  after r area a b = record { answer = a; area-is = b ∙ ap (areaFrom R o old) a }
-
-  pub packs-declined : (f : Fault) → v ≡ Declined f → Packs (packed.Refused f) old
-  unfolding packOf packFrom areaFrom
-  packs-declined f q = after (packed.Refused f) old (ap (packFrom R o (length old)) (sym q ∙ e)) refl
-
-  module _ (n : ℕ) (q : v ≡ Accepted n) where
-    pub packs-short : (s : ℕ) → s ≡ textSize R o → length old < s → Packs (packed.Refused (noted 9 s)) old
-    unfolding packOf packFrom areaFrom
-    packs-short s z h =
-        after (packed.Refused (noted 9 s)) old
-        (ap (λ (k : ℕ). packed.Refused (noted 9 k)) z
-        ∙ sym (pick-not (textSize R o ≤? length old) (packed.Texts (textSize R o))
-        (packed.Refused (noted 9 (textSize R o))) (λ t. omega (arith, le-of _ _ t)))
-        ∙ ap (packFrom R o (length old)) (sym q ∙ e)) refl
-
-    pub packs-whole : (s : ℕ) (area : List ℕ) → s ≡ textSize R o → s ≤ length old →
-        area ≡ laid (textsOf R (parametersIn o)) old → Packs (packed.Texts s) area
-    unfolding packOf packFrom areaFrom
-    packs-whole s area z h a =
-        after (packed.Texts s) area
-        (ap packed.Texts z
-        ∙ sym (pick-yes (textSize R o ≤? length old) (packed.Texts (textSize R o))
-        (packed.Refused (noted 9 (textSize R o))) (of-le _ _ (omega arith)))
-        ∙ ap (packFrom R o (length old)) (sym q ∙ e)) a
-
-    pub size-small : (s : ℕ) → s ≡ textSize R o → s ≤ n
-    size-small s z = omega (arith, accepted-long R o n (sym q ∙ e), size-within R o)
 
 -- ---- what becomes of the octets, and the draft to it
 module _ (R : Rules) (o : List ℕ) (room : ℕ) (p : Packed) (d : Draft) (e : p ≡ packOf R o room) where

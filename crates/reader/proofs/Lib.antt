@@ -6,4 +6,5 @@ pub mod One
 pub mod Laying
 pub mod Turns
 pub mod Told
+pub mod Area
 pub mod Answered

@@ -1,4 +1,4 @@
--- What the promises of `read` and `pack` say of any octets and any area, over the written rules.
+-- What the promises of `read`, `pack` and `fits` say of any octets and any area, over the written rules.
 -- Assumes nothing.
 use Prim.Native.Nat.{ℕ}
 use mathlib.Core.Path.{_≡_, refl, sym, _∙_, subst}
@@ -9,12 +9,16 @@ use Rattle.rules.specs.Table.{rulesOf}
 use Rattle.rules.proofs.ContentLaw.{sound-rules}
 use Rattle.rules.specs.declared.Book.{Book}
 use Rattle.reader.specs.declared.Packed.{Packed}
+use Rattle.reader.specs.declared.Packed.the-variants.{Texts, Refused}
+use Rattle.reader.specs.declared.Fitting.{Fitting}
 use Rattle.reader.specs.declared.Reading.{Reading}
-use Rattle.reader.specs.Read.{packOf, readOf, areaAfter}
+use Rattle.reader.specs.Read.{packOf, fittingOf, readOf, areaAfter}
+use Rattle.reader.specs.Told.{told, toldFitting}
 use Rattle.reader.specs.Reads.{Reads}
 use Rattle.reader.proofs.Answered.{reads-of}
 use Rattle.reader.proofs.read.Reads as read
 use Rattle.reader.proofs.pack.Reads as pack
+use Rattle.reader.proofs.fits.Reads as fits
 
 -- by the book b, of the octets o, `read` answers r; the area held `old` and then holds `area`
 abbrev pub read-gives : Book → List ℕ → List ℕ → Reading → List ℕ → Type 0
@@ -27,6 +31,18 @@ abbrev pub pack-gives : Book → List ℕ → List ℕ → Packed → List ℕ �
 pack-gives b o old w area =
     (κs : _) × (a : _) × (s : _) × pack.Post κs a w s × (a .0 ≡ b) × (a .1 .0 .now ≡ o) × (a .1 .1 .0 .now ≡ old)
     × (s .1 .1 .0 .now ≡ area)
+
+-- likewise `fits`, of an area of so many octets: it lays nothing down
+abbrev pub fits-gives : Book → List ℕ → ℕ → Fitting → Type 0
+fits-gives b o room w =
+    (κs : _) × (a : _) × (s : _) × fits.Post κs a w s × (a .0 ≡ b) × (a .1 .0 .now ≡ o) × (a .1 .1 .0 ≡ room)
+
+-- whether a read goes through tells its number and place
+pub fits-tells : (p : Packed) →
+    (toldFitting (fittingOf p) .number ≡ told p .number) × (toldFitting (fittingOf p) .place ≡ told p .place)
+unfolding toldFitting fittingOf told
+fits-tells (Texts n) = (refl, refl)
+fits-tells (Refused f) = (refl, refl)
 
 module _ (b : Book) (o old : List ℕ) where
   pub read-is : (r : Reading) (area : List ℕ) → read-gives b o old r area →
@@ -55,3 +71,11 @@ module _ (b : Book) (o old : List ℕ) where
       let e = h .3 .0 ∙ (λ i. packOf (rulesOf (h .4 i)) (h .5 i) (length (h .6 i))) in
       let f = sym (h .7) ∙ h .3 .1 ∙ (λ i. areaAfter (rulesOf (h .4 i)) (h .5 i) (h .6 i)) in
       (readOf (rulesOf b) o (length old), sym e, reads-so _ area refl f q)
+
+  -- `fits` says whether a read goes through with an area of this size
+  pub fits-so : (w : Fitting) → fits-gives b o (length old) w → Octets o →
+      (r : Reading) × (fittingOf (r .answer) ≡ w) × ((area : List ℕ) × Reads (rulesOf b) o old r area)
+  unfolding readOf
+  fits-so w h q =
+      let e = h .3 ∙ (λ i. fittingOf (packOf (rulesOf (h .4 i)) (h .5 i) (h .6 i))) in
+      (readOf (rulesOf b) o (length old), sym e, (areaAfter (rulesOf b) o old, reads-so _ _ refl refl q))

@@ -8,17 +8,11 @@ use lib.ListN.{length, length-append, length-drop, take, drop}
 use lib.Seq.{length-take-le, take-length, take-take}
 use Rattle.rules.proofs.Laying.{part-is}
 use Rattle.rules.specs.Tests.{pick}
-use Rattle.rules.proofs.Tests.{picked-by, eq-of, clash}
+use Rattle.rules.proofs.Tests.{clash}
 use Rattle.rules.specs.Table.{Rules}
 use Rattle.rules.specs.declared.Form.{Form}
 use Rattle.rules.specs.declared.Form.the-variants.{DateValue, CodeValue, StateValue, TextValue, CarriedValue}
 use Rattle.rules.specs.Message.{Parameter, body, most}
-use Rattle.rules.specs.Machine.{answer}
-use Rattle.rules.specs.Judge.{machine}
-use Rattle.rules.specs.declared.State.{State}
-use Rattle.rules.specs.declared.State.the-variants.{Waiting, Message, Refused}
-use Rattle.message.specs.Verdict.{judged, verdictOf}
-use Rattle.message.specs.declared.Verdict.the-variants.{Accepted}
 use Rattle.message.specs.Parts.{parameterAt}
 use Rattle.message.specs.Parameters as message
 use Rattle.message.specs.Parameters.{parametersFrom, parametersIn}
@@ -28,11 +22,11 @@ use Rattle.message.specs.declared.Found.{Found}
 use Rattle.message.specs.declared.Found.the-variants as found
 use Rattle.draft.specs.declared.Value.{Value}
 use Rattle.draft.specs.declared.Entry.{Entry}
-use Rattle.draft.specs.Meaning.{kindOf, meant, textIn}
+use Rattle.draft.specs.Meaning.{Meaning, dateIs, codeIs, stateIs, textIs, carriedIs, kindOf, meant, textIn}
 use Rattle.draft.specs.Packing.{valueAt, meaningIn, entryOf, textOf, entriesOf, textsOf}
 use Rattle.reader.specs.declared.Taken.the-variants as taken
 use Rattle.reader.specs.declared.Text.the-variants as text
-use Rattle.reader.specs.Read.{standing, hasText, takenFrom, takenAt, textFrom, textAt, textSize}
+use Rattle.reader.specs.Read.{standing, hasText, textLong, takenFrom, takenAt, textFrom, textAt, textSize}
 
 -- the text is the contents, or nothing
 text-or-none : (f : Form) (v : List ℕ) → length (textIn (meant f v)) ≡ pick (hasText f) (length v) 0
@@ -141,6 +135,20 @@ module _ (R : Rules) (o : List ℕ) (turns at : ℕ) (h : 0 < turns) where
             }
         go found.Nothing q t = clash cc
 
+    -- its text is the one that stands two octets behind the parameter's place
+    pub entry-text : (e : Entry) (n place : ℕ) → taken.Next e n place ≡ takenAt R o at used →
+        text.At (at + 2) n place ≡ textAt R o at
+    unfolding takenAt takenFrom textAt textFrom
+    entry-text e n place t = go (parameterAt o at) refl t
+      where
+        go : (f : Found) → f ≡ parameterAt o at → taken.Next e n place ≡ takenFrom R o used f →
+            text.At (at + 2) n place ≡ textFrom R o f
+        go (found.Parameter k s l) q t =
+            let b : n ≡ length (textOf R (standing o k s l)) = cc in
+            let d : place ≡ s + l = cc in
+            λ i. text.At (found-behind o at k s l q i) (b i) (d i)
+        go found.Nothing q t = clash cc
+
     pub entry-none : taken.End ≡ takenAt R o at used → parametersFrom turns o at ≡ []
     unfolding takenAt takenFrom
     entry-none e = go (parameterAt o at) refl e
@@ -188,16 +196,14 @@ pub size-within : (R : Rules) (o : List ℕ) → textSize R o ≤ length o
 unfolding textSize parametersIn
 size-within R o = omega (arith, texts-within R most o 2)
 
--- an accepted message's size is the number of octets
-pub accepted-long : (R : Rules) (o : List ℕ) (n : ℕ) → Accepted n ≡ verdictOf R o → length o ≡ n
-unfolding verdictOf judged
-accepted-long R o n e = go (answer (machine R) o) e
-  where
-    go : (w : State) → Accepted n ≡ judged o w → length o ≡ n
-    go (Waiting s q) e = clash cc
-    go (Message m) e =
-        picked-by (length o ≡ n) _ _ _ _ (sym e) (λ t d. let k : m ≡ n = cc in eq-of _ _ t ∙ k) (λ _ d. clash cc)
-    go (Refused f) e = clash cc
+-- the text that a value tells of is that of what it means
+value-text : (used : ℕ) (m : Meaning) → textLong (valueAt used m) ≡ length (textIn m)
+unfolding textLong valueAt textIn
+value-text used (dateIs a b c d) = refl
+value-text used (codeIs x) = refl
+value-text used (stateIs s r) = refl
+value-text used (textIs v) = refl
+value-text used (carriedIs v) = refl
 
 -- ---- what was found, from its parts
 module _ (R : Rules) (o : List ℕ) (at : ℕ) (f : Found) (e : f ≡ parameterAt o at) where
@@ -209,14 +215,16 @@ module _ (R : Rules) (o : List ℕ) (at : ℕ) (f : Found) (e : f ≡ parameterA
     unfolding textAt textFrom
     text-found = ap (λ (x : ℕ). text.At start x (start + l)) size ∙ ap (textFrom R o) (sym p ∙ e)
 
-    pub entry-found : (used : ℕ) (v : Value) (g : Form) → g ≡ kindOf R k →
-        v ≡ valueAt used (meant g (take (start + l - start) (drop start o))) →
-        taken.Next (record { kind = k; value = v }) n (start + l) ≡ takenAt R o at used
-    unfolding takenAt takenFrom entryOf meaningIn
-    entry-found used v g a d =
-        let z : v ≡ valueAt used (meant (kindOf R k) (take l (drop start o))) =
-        d ∙ ap₂ (λ (x : Form) (y : List ℕ). valueAt used (meant x y)) a (part-is o start l) in
-        (λ i. taken.Next (record { kind = k; value = z i }) (size i) (start + l)) ∙ ap (takenFrom R o used) (sym p ∙ e)
+  pub entry-found : (k start l : ℕ) → f ≡ found.Parameter k start l → (n used : ℕ) (v : Value) (g : Form) →
+      n ≡ textLong v → g ≡ kindOf R k → v ≡ valueAt used (meant g (take (start + l - start) (drop start o))) →
+      taken.Next (record { kind = k; value = v }) n (start + l) ≡ takenAt R o at used
+  unfolding takenAt takenFrom entryOf meaningIn textOf
+  entry-found k start l p n used v g q a d =
+      let z : v ≡ valueAt used (meant (kindOf R k) (take l (drop start o))) =
+      d ∙ ap₂ (λ (x : Form) (y : List ℕ). valueAt used (meant x y)) a (part-is o start l) in
+      let t : n ≡ length (textIn (meant (kindOf R k) (take l (drop start o)))) =
+      q ∙ ap textLong z ∙ value-text used (meant (kindOf R k) (take l (drop start o))) in
+      (λ i. taken.Next (record { kind = k; value = z i }) (t i) (start + l)) ∙ ap (takenFrom R o used) (sym p ∙ e)
 
   pub text-ended : f ≡ found.Nothing → text.End ≡ textAt R o at
   unfolding textAt textFrom

@@ -17,6 +17,8 @@ use Rattle.message.specs.declared.Verdict.{Verdict}
 use Rattle.message.specs.declared.Verdict.the-variants.{Accepted, Declined}
 use Rattle.message.specs.declared.Found.{Found}
 use Rattle.message.specs.declared.Found.the-variants as found
+use Rattle.draft.specs.declared.Value.{Value}
+use Rattle.draft.specs.declared.Value.the-variants as value
 use Rattle.draft.specs.declared.Draft.{Draft}
 use Rattle.draft.specs.Draft.{emptyOf}
 use Rattle.rules.specs.Laying.{laid}
@@ -24,6 +26,8 @@ use Rattle.rules.specs.Refusals.{noted}
 use Rattle.draft.specs.Packing.{entryOf, textOf, textsOf, draftOf}
 use Rattle.reader.specs.declared.Packed.{Packed}
 use Rattle.reader.specs.declared.Packed.the-variants as packed
+use Rattle.reader.specs.declared.Fitting.{Fitting}
+use Rattle.reader.specs.declared.Fitting.the-variants as fitting
 use Rattle.reader.specs.declared.Reading.{Reading}
 use Rattle.reader.specs.declared.Taken.{Taken}
 use Rattle.reader.specs.declared.Taken.the-variants as taken
@@ -44,6 +48,15 @@ packFrom R o room (Declined f) = packed.Refused f
 
 unfoldable pub packOf : Rules → List ℕ → ℕ → Packed
 packOf R o room = packFrom R o room (verdictOf R o)
+
+-- whether it goes through: the same without the octets that the texts take
+unfoldable pub fittingOf : Packed → Fitting
+fittingOf (packed.Texts n) = fitting.Fits
+fittingOf (packed.Refused f) = fitting.Refused f
+
+-- of an accepted message: 9 where its texts need more than the area has
+unfoldable pub roomFor : Rules → List ℕ → ℕ → Fitting
+roomFor R o room = pick (textSize R o ≤? room) fitting.Fits (fitting.Refused (noted 9 (textSize R o)))
 
 -- the area afterwards: the texts from octet 0 on, later octets as they were; with a refusal all of them
 unfoldable pub areaFrom : Rules → List ℕ → List ℕ → Packed → List ℕ
@@ -83,6 +96,14 @@ textFrom R o found.Nothing = text.End
 
 unfoldable pub textAt : Rules → List ℕ → ℕ → Text
 textAt R o at = textFrom R o (parameterAt o at)
+
+-- how long the text of a value is
+unfoldable pub textLong : Value → ℕ
+textLong (value.Date m d h n) = 0
+textLong (value.Code x) = 0
+textLong (value.State s r) = 0
+textLong (value.Text start n) = n
+textLong (value.Carried start n) = n
 
 -- values of this kind have a text
 unfoldable pub hasText : Form → Bool

@@ -4,6 +4,8 @@
 use Prim.Native.Nat.{ℕ, _≤_}
 use Rattle.reader.specs.declared.Packed.{Packed}
 use Rattle.reader.specs.declared.Packed.the-variants.{Texts, Refused}
+use Rattle.reader.specs.declared.Fitting.{Fitting}
+use Rattle.reader.specs.declared.Fitting.the-variants as fitting
 
 -- the number and place of a refusal, the size of the text octets laid down; 0 where there is none
 pub record Told : Type 0 where
@@ -14,6 +16,11 @@ pub record Told : Type 0 where
 unfoldable pub told : Packed → Told
 told (Texts n) = record { number = 0; place = 0; size = n }
 told (Refused f) = record { number = f .number; place = f .place; size = 0 }
+
+-- whether a read goes through tells the number and place of the refusal alike; no texts are laid down
+unfoldable pub toldFitting : Fitting → Told
+toldFitting fitting.Fits = record { number = 0; place = 0; size = 0 }
+toldFitting (fitting.Refused f) = told (Refused f)
 
 -- a message with n text octets
 abbrev pub success : ℕ → Told

@@ -20,11 +20,21 @@ ghost use Rattle.message.specs.Parameters.{parametersIn, messageIn};
 ghost use Rattle.draft.specs.Meaning.{kindOf, numberOf, digitsAt, meant};
 ghost use Rattle.rules.specs.Laying.{laid, laidAt};
 ghost use Rattle.draft.specs.Packing.{valueAt, draftOf, textsOf};
-ghost use Rattle.reader.specs.Read.{hasText, textSize, textAt, takenAt, packOf, areaAfter, readOf};
+ghost use Rattle.reader.specs.Read.{hasText, textLong, textSize, textAt, takenAt, roomFor, fittingOf, packOf, areaAfter, readOf};
+
+// Text octets that are enough for every message: of L, at most 255, two are a parameter's type and length (document 01,
+// The message).
+const ENOUGH: usize = 253;
 
 // What becomes of the octets: how many text octets were laid down; or a number from 1 to 10 with its place.
 pub enum Packed {
     Texts { octets: u16 },
+    Refused { fault: Fault },
+}
+
+// Whether a read goes through: its texts fit, or a number from 1 to 10 with its place.
+pub enum Fitting {
+    Fits,
     Refused { fault: Fault },
 }
 
@@ -198,10 +208,11 @@ fn lay_text(octets: &[u8], start: usize, length: usize, area: &mut [u8], at: usi
     bytes::copy(&octets[start..end], &mut area[at..]);
 }
 
-// Each text behind the one before it, from octet 0 of the area on.
-fn lay_texts(book: Book, octets: &[u8], area: &mut [u8])
+// Each text behind the one before it, from octet 0 of the area on; how many octets they take.
+fn lay_texts(book: Book, octets: &[u8], area: &mut [u8]) -> usize
     requires { ⌜ textSize (rulesOf book) (now octets) ≤ length (now area) ⌝ }
-    ensures { λ r. ⌜ now (area .exit) ≡ laid (textsOf (rulesOf book) (parametersIn (now (octets .entry)))) (now (area .entry)) ⌝ }
+    ensures size { λ r. ⌜ r ≡ textSize (rulesOf book) (now (octets .entry)) ⌝ }
+    ensures area { λ r. ⌜ now (area .exit) ≡ laid (textsOf (rulesOf book) (parametersIn (now (octets .entry)))) (now (area .entry)) ⌝ }
 {
     let mut at: usize = 2;
     let mut used: usize = 0;
@@ -220,9 +231,43 @@ fn lay_texts(book: Book, octets: &[u8], area: &mut [u8])
                 count += 1;
             }
             Text::End => {
-                return;
+                return used;
             }
         }
+    }
+    used
+}
+
+// An accepted message's texts in an area of so many octets: 9 with the octets that they need, where it has fewer.
+fn room_for(book: Book, octets: &[u8], room: usize) -> Fitting
+    requires { ⌜ length (now octets) ≤ 258 ⌝ }
+    ensures { λ r. ⌜ r ≡ roomFor (rulesOf book) (now (octets .entry)) room ⌝ }
+{
+    let size = text_size(book, octets);
+    if room < size {
+        Fitting::Refused {
+            fault: rules::noted(9, size as u16),
+        }
+    } else {
+        Fitting::Fits
+    }
+}
+
+// Whether a read goes through with an area of so many octets: the verdict, then 9 (document 01, Numbers). Nothing is
+// laid down.
+pub fn fits(book: Book, octets: &[u8], room: usize) -> Fitting
+    ensures { λ r. ⌜ r ≡ fittingOf (packOf (rulesOf book) (now (octets .entry)) room) ⌝ }
+{
+    let verdict = message::judge(book, octets);
+    match verdict {
+        Verdict::Accepted { size: _ } => {
+            if room < ENOUGH {
+                room_for(book, octets, room)
+            } else {
+                Fitting::Fits
+            }
+        }
+        Verdict::Declined { fault } => Fitting::Refused { fault },
     }
 }
 
@@ -231,20 +276,36 @@ pub fn pack(book: Book, octets: &[u8], area: &mut [u8]) -> Packed
     ensures answer { λ r. ⌜ r ≡ packOf (rulesOf book) (now (octets .entry)) (length (now (area .entry))) ⌝ }
     ensures area { λ r. ⌜ now (area .exit) ≡ areaAfter (rulesOf book) (now (octets .entry)) (now (area .entry)) ⌝ }
 {
-    let verdict = message::judge(book, octets);
-    match verdict {
-        Verdict::Accepted { size: whole } => {
-            let size = text_size(book, octets);
-            let place = size as u16;
-            if area.len() < size {
-                return Packed::Refused {
-                    fault: rules::noted(9, place),
-                };
+    let fitting = fits(book, octets, area.len());
+    match fitting {
+        Fitting::Fits => {
+            let size = lay_texts(book, octets, area);
+            Packed::Texts {
+                octets: size as u16,
             }
-            lay_texts(book, octets, area);
-            Packed::Texts { octets: place }
         }
-        Verdict::Declined { fault } => Packed::Refused { fault },
+        Fitting::Refused { fault } => Packed::Refused { fault },
+    }
+}
+
+// How long the text of a value is.
+fn text_of(v: Value) -> usize
+    ensures { λ r. ⌜ r ≡ textLong v ⌝ }
+{
+    match v {
+        Value::Date {
+            month: _,
+            day: _,
+            hour: _,
+            minute: _,
+        } => 0,
+        Value::Code(_) => 0,
+        Value::State {
+            state: _,
+            reference: _,
+        } => 0,
+        Value::Text { start: _, length } => length,
+        Value::Carried { start: _, length } => length,
     }
 }
 
@@ -263,7 +324,7 @@ pub fn entry(book: Book, octets: &[u8], at: usize, used: usize) -> Taken
             let value = value_of(form_at(book, kind), &octets[start..place], used);
             Taken::Next {
                 entry: Entry { kind, value },
-                text: text_length(book, kind, length),
+                text: text_of(value),
                 place,
             }
         }

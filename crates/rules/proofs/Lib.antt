@@ -24,5 +24,6 @@ pub mod Steps
 pub mod Table
 pub mod Rivals
 pub mod AtIndex
+pub mod Standing
 pub mod Settled
 mod OtherLength

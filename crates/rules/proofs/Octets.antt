@@ -6,6 +6,8 @@ use mathlib.Core.Path.{_≡_}
 use mathlib.Core.List.{List, [], _∷_, _++_}
 use native.Mathlib.Omega.{arith}
 use lib.ListN.{take, drop, getD}
+use mir.Val.{Fits}
+use mir.Syntax.{w8}
 use Rattle.rules.specs.Octets.{Octets, total, checksum}
 
 pub checksum-octet : (n : ℕ) → checksum n < 256
@@ -38,6 +40,10 @@ octets-take (suc n) (x ∷ h) o = (o .0, octets-take n h (o .1))
 pub octets-at : (h : List ℕ) → ((i : ℕ) → getD h i 0 < 256) → Octets h
 octets-at [] f = tt
 octets-at (x ∷ h) f = (f 0, octets-at h (λ i. f (suc i)))
+
+-- the same, as the code knows it
+pub octets-known : (h : List ℕ) → ((i : ℕ) → Fits w8 (getD h i 0)) → Octets h
+octets-known h f = octets-at h (λ i. omega (arith, f i))
 
 pub octets-drop : (n : ℕ) (h : List ℕ) → Octets h → Octets (drop n h)
 octets-drop zero h o = o

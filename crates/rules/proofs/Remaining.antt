@@ -89,7 +89,7 @@ fits-room n r t = go (either _ _ t)
     go (inl e) = let k = eq-of _ _ e in (omega arith, inl (omega arith))
     go (inr l) = let k = le-of _ _ l in (omega arith, inr (omega arith))
 
-possible-has : (ls : List Range) (n r : ℕ) → T (inSet ls n) → T (roomFits n r) → T (somePossible ls r)
+pub possible-has : (ls : List Range) (n r : ℕ) → T (inSet ls n) → T (roomFits n r) → T (somePossible ls r)
 unfolding somePossible rangePossible roomFits inSet within
 possible-has [] n r l f = absurd l
 possible-has (l ∷ ls) n r t f = go (λ e. possible-has ls n r e f) (either _ _ t) (either _ _ f)

@@ -70,6 +70,10 @@ via r b z p q = sym p ∙ q
 pub T-of : (b : Bool) → b ≡ true → T b
 T-of b e = rw e tt
 
+pub holds : (b : Bool) → T b → b ≡ true
+holds true t = refl
+holds false t = absurd t
+
 -- and that held
 pub told-le : (b : Bool) (x y : ℕ) → b ≡ (x ≤? y) → b ≡ true → x ≤ y
 told-le b x y e t = le-of _ _ (T-of _ (via _ _ _ e t))

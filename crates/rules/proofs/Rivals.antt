@@ -1,20 +1,20 @@
--- What the code's tables of classes say of every type: computed once over the table.
+-- What the code's tests of a type say of every type, row after row or computed once over the table; and that a book's
+-- class is its edition's, in its way.
 -- Assumes nothing.
 use mathlib.Core.Path.{_≡_, refl, sym, _∙_, ap}
 use mathlib.Core.Bool.{Bool, true, false}
 use mathlib.Core.List.{List, [], _∷_}
-use Prim.Native.Nat.{ℕ, _≤_, _<_}
-use native.Mathlib.Omega.{arith}
+use Prim.Native.Nat.{ℕ, _<_}
 use lib.ListN.{getD}
 use lib.Dec.{T}
 use Rattle.rules.specs.Tests.{_≤?_, _=?_, _and_, _or_, pick, every}
-use Rattle.rules.proofs.Tests.{pick-not, le-of, both}
-use Rattle.rules.proofs.Returns.{pick-t, pick-f, yes-eq, no-eq}
-use Rattle.rules.specs.Table.{Row, rulesOf, rowIn, rowOf, listedIn, listed, classOf, rivalOf}
-use Rattle.rules.specs.Codes.{classCode, classCoded, laterClass, strictClass}
-use Rattle.rules.proofs.Codes.{coded-code}
+use Rattle.rules.proofs.Tests.{pick-not, eq-of, both}
+use Rattle.rules.proofs.Returns.{pick-t, pick-f, yes-eq, no-eq, holds}
+use Rattle.rules.specs.Contents.{someLength}
+use Rattle.rules.specs.Table.{Row, rulesOf, oldBook, rowIn, rowOf, listedIn, listed, classFault, whole, classOf, rivalOf}
+use Rattle.rules.specs.Codes.{classCode, strictClass}
 use Rattle.rules.specs.declared.Class.{Class}
-use Rattle.rules.specs.declared.Class.the-variants.{Carried}
+use Rattle.rules.specs.declared.Class.the-variants.{Unlisted}
 use Rattle.rules.specs.declared.Book.{Book}
 use Rattle.rules.specs.declared.Book.the-variants.{PresentStrict, PresentLenient, OldStrict, OldLenient}
 use Rattle.rules.proofs.Table.{tabled, at}
@@ -23,55 +23,15 @@ use Rattle.rules.proofs.Table.{tabled, at}
 same-table : (f g : ℕ → ℕ) (n k : ℕ) → tabled f 0 n ≡ tabled g 0 n → k < n → f k ≡ g k
 same-table f g n k e h = sym (at f n k h) ∙ ap (λ (l : List ℕ). getD l k 0) e ∙ at g n k h
 
-unfoldable pub code-of : Book → ℕ → ℕ
-code-of b t = classCode (classOf (rulesOf b) t)
-
-pub coded-type : (b : Book) (t : ℕ) → t < 32 → classCoded (getD (tabled (code-of b) 0 32) t 0) ≡ classOf (rulesOf b) t
-unfolding code-of
-coded-type b t h = ap classCoded (at (code-of b) 32 t h) ∙ coded-code _
-
-above : (b : Book) → tabled (code-of b) 0 256 ≡ tabled (λ (k : ℕ). pick (k ≤? 31) (code-of b k) 0) 0 256 →
-    (t : ℕ) → t < 256 → 32 ≤ t → Carried ≡ classOf (rulesOf b) t
-unfolding code-of classCoded laterClass pick _=?_
-above b d t h l =
-    let e : code-of b t ≡ pick (t ≤? 31) (code-of b t) 0 =
-    same-table (code-of b) (λ (k : ℕ). pick (k ≤? 31) (code-of b k) 0) 256 t d h in
-    let z : code-of b t ≡ 0 = e ∙ pick-not (t ≤? 31) (code-of b t) 0 (λ x. omega (arith, le-of t 31 x)) in
-    sym (ap classCoded z) ∙ coded-code (classOf (rulesOf b) t)
-
-pub carried-above : (t : ℕ) → t < 256 → 32 ≤ t → Carried ≡ classOf (rulesOf PresentLenient) t
-unfolding code-of tabled pick _≤?_ _=?_ classCode classOf rowOf rowIn rulesOf
-carried-above t h l = above PresentLenient refl t h l
-
-pub carried-above-old : (t : ℕ) → t < 256 → 32 ≤ t → Carried ≡ classOf (rulesOf OldLenient) t
-unfolding code-of tabled pick _≤?_ _=?_ classCode classOf rowOf rowIn rulesOf
-carried-above-old t h l = above OldLenient refl t h l
-
--- the strict way differs in the carried class alone
-both-ways : (a b : Book) →
-    tabled (λ (k : ℕ). classCode (strictClass (classOf (rulesOf a) k))) 0 256 ≡ tabled (code-of b) 0 256 → (t : ℕ) →
-    t < 256 → strictClass (classOf (rulesOf a) t) ≡ classOf (rulesOf b) t
-unfolding code-of
-both-ways a b d t h =
-    sym (coded-code _) ∙ ap classCoded
-    (same-table (λ (k : ℕ). classCode (strictClass (classOf (rulesOf a) k))) (code-of b) 256 t d h) ∙ coded-code _
-
-pub strict-present : (t : ℕ) → t < 256 →
-    strictClass (classOf (rulesOf PresentLenient) t) ≡ classOf (rulesOf PresentStrict) t
-unfolding code-of tabled pick _≤?_ _=?_ classCode strictClass classOf rowOf rowIn rulesOf
-strict-present t h = both-ways PresentLenient PresentStrict refl t h
-
-pub strict-old : (t : ℕ) → t < 256 → strictClass (classOf (rulesOf OldLenient) t) ≡ classOf (rulesOf OldStrict) t
-unfolding code-of tabled pick _≤?_ _=?_ classCode strictClass classOf rowOf rowIn rulesOf
-strict-old t h = both-ways OldLenient OldStrict refl t h
+-- a type that is not a row's has the class that the other rows give it
+pub row-past : (w : Class) (d r : Row) (rs : List Row) (t : ℕ) → (t ≡ r .kind → ⊥) → w ≡ rowIn d rs t .class →
+    w ≡ rowIn d (r ∷ rs) t .class
+unfolding rowIn
+row-past w d r rs t n e = e ∙ sym (ap (λ (q : Row). q .class) (pick-not _ _ _ (λ x. n (eq-of _ _ x))))
 
 -- ---- the types with a row: those whose class is neither carried nor unlisted
 unfoldable pub rowed : Class → Bool
 rowed c = pick (classCode c =? 0) false (pick (classCode c =? 15) false true)
-
-holds : (b : Bool) → T b → b ≡ true
-holds true t = refl
-holds false t = absurd t
 
 listed-in : (d : Row) (rs : List Row) (t : ℕ) → rowed (d .class) ≡ false →
     T (every (λ (r : Row). rowed (r .class)) rs) → rowed (rowIn d rs t .class) ≡ listedIn rs t
@@ -105,6 +65,44 @@ module _ (b : Book) (t k : ℕ) (e : k ≡ classCode (classOf (rulesOf b) t)) wh
   unfolding rowed
   with-row n u =
       pick-f _ _ _ _ (no-eq _ _ (λ x. n (e ∙ x))) (pick-f _ _ _ _ (no-eq _ _ (λ x. u (e ∙ x))) refl) ∙ listed-are b t
+
+-- ---- the strict way differs in the carried class alone, which no row has
+kept : (c : Class) → T (rowed c) → strictClass c ≡ c
+unfolding rowed strictClass pick
+kept c h = go (classCode c =? 0) _ h
+  where
+    go : (b x : Bool) → T (pick b false x) → pick b Unlisted c ≡ c
+    go true x h = absurd h
+    go false x h = refl
+
+strict-in : (d e : Row) (rs : List Row) (t : ℕ) → strictClass (d .class) ≡ e .class →
+    T (every (λ (r : Row). rowed (r .class)) rs) → strictClass (rowIn d rs t .class) ≡ rowIn e rs t .class
+unfolding rowIn every pick
+strict-in d e [] t q h = q
+strict-in d e (r ∷ rs) t q h = go (strict-in d e rs t q (both _ _ h .1)) (t =? r .kind)
+  where
+    go : strictClass (rowIn d rs t .class) ≡ rowIn e rs t .class → (b : Bool) →
+        strictClass (pick b r (rowIn d rs t) .class) ≡ pick b r (rowIn e rs t) .class
+    go ih true = kept _ (both _ _ h .0)
+    go ih false = ih
+
+strict-present : (t : ℕ) → strictClass (classOf (rulesOf PresentLenient) t) ≡ classOf (rulesOf PresentStrict) t
+unfolding rowed classCode strictClass classOf rowOf rulesOf every _and_ pick _=?_
+strict-present t = strict-in _ _ _ t refl tt
+
+strict-old : (t : ℕ) → strictClass (classOf (rulesOf OldLenient) t) ≡ classOf (rulesOf OldStrict) t
+unfolding rowed classCode strictClass classOf rowOf rulesOf every _and_ pick _=?_
+strict-old t = strict-in _ _ _ t refl tt
+
+-- a book's class is that of its edition, which the strict way takes what is carried out of
+pub book-class : (b : Book) (t : ℕ) (c r : Class) (o : Bool) → o ≡ oldBook b →
+    c ≡ pick o (classOf (rulesOf OldLenient) t) (classOf (rulesOf PresentLenient) t) →
+    r ≡ pick (classFault (rulesOf b .others) =? 10) (strictClass c) c → r ≡ classOf (rulesOf b) t
+unfolding oldBook rulesOf classFault someLength whole pick _=?_ _≤?_ _or_
+book-class PresentStrict t c r o d e q = q ∙ ap strictClass (rw d at e) ∙ strict-present t
+book-class PresentLenient t c r o d e q = q ∙ (rw d at e)
+book-class OldStrict t c r o d e q = q ∙ ap strictClass (rw d at e) ∙ strict-old t
+book-class OldLenient t c r o d e q = q ∙ (rw d at e)
 
 -- ---- the pairs as the code has them
 unfoldable pub rivals : ℕ → ℕ

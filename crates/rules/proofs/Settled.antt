@@ -17,6 +17,7 @@ use Rattle.rules.proofs.message_kind.Reads as message-kind
 use Rattle.rules.proofs.content_ok.Reads as content-ok
 use Rattle.rules.proofs.remember.Reads as remember
 use Rattle.rules.proofs.same_octets.Reads as same-octets
+use Rattle.rules.proofs.first_wrong.Reads as first-wrong
 
 pub class-coded-settled : (κs : _) (a : _) (r r' : _) (s s' : _) → class-coded.Post κs a r s →
     class-coded.Post κs a r' s' → r ≡ r'
@@ -45,6 +46,10 @@ content-ok-settled κs a r r' s s' p q = p ∙ sym q
 pub remember-settled : (κs : _) (a : _) (r r' : _) (s s' : _) → remember.Post κs a r s → remember.Post κs a r' s' →
     r ≡ r'
 remember-settled κs a r r' s s' p q = p ∙ sym q
+
+pub first-wrong-settled : (κs : _) (a : _) (r r' : _) (s s' : _) → first-wrong.Post κs a r s →
+    first-wrong.Post κs a r' s' → r ≡ r'
+first-wrong-settled κs a r r' s s' p q = p ∙ sym q
 
 pub code-of-settled : (κs : _) (a : _) (r r' : _) (s s' : _) → code-of.Post κs a r s → code-of.Post κs a r' s' → r ≡ r'
 code-of-settled κs a r r' s s' p q = p ∙ sym q

@@ -1,6 +1,5 @@
--- The table that a rule makes, entry after entry; and what stands at each of its places. A constant of the code is
--- such a table where antt computes the two alike: the rule is tested over the whole table at once and carried to each
--- entry.
+-- The table that a rule makes, entry after entry; and what stands at each of its places. Two rules are tested over
+-- the whole table at once, and what it says is carried to each entry.
 -- Assumes nothing.
 use mathlib.Core.Path.{_≡_, _∙_, ap, sym}
 use mathlib.Core.List.{List, [], _∷_}

@@ -1,5 +1,4 @@
--- What the code holds of a class: a number for each, in the table of types and in the record of a listener; and its
--- lengths.
+-- What the code holds of a class: a number for each, in the record of a listener; and its lengths.
 -- Assumes nothing.
 use Prim.Native.Nat.{ℕ}
 use mathlib.Core.List.{List, [], _∷_}

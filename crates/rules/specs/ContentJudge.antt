@@ -5,7 +5,8 @@
 use Prim.Native.Nat.{ℕ, zero, suc, _+_, _*_, _-_}
 use mathlib.Core.Bool.{Bool, true}
 use mathlib.Core.List.{List, [], _∷_}
-use Rattle.rules.specs.Tests.{_≤?_, _and_}
+use lib.ListN.{length}
+use Rattle.rules.specs.Tests.{_≤?_, _and_, pick}
 use Rattle.rules.specs.Contents.{Range, within, inSet, digit}
 use Rattle.rules.specs.Table.{dateRanges, numberSet, absentSet, nameSet, lampSet, identitySet, anyOctet, callTypeSet, forwardedSet, userSet, oldNumberSet, oldForwardedSet, oldUserSet}
 use Rattle.rules.specs.declared.Class.{Class}
@@ -20,6 +21,11 @@ pub record Judge : Type 0 where
 unfoldable pub passes : Judge → ℕ → ℕ → ℕ → List ℕ → Bool
 passes j n i m [] = true
 passes j n i m (x ∷ v) = j .ok n i m x and passes j n (suc i) (j .keep n i m x) v
+
+-- how many octets there are before the first that may not stand; all, where each may
+unfoldable pub passing : Judge → ℕ → ℕ → ℕ → List ℕ → ℕ
+passing j n i m [] = 0
+passing j n i m (x ∷ v) = pick (j .ok n i m x) (suc (passing j n (suc i) (j .keep n i m x) v)) 0
 
 -- ---- the judges of the three builders
 -- some number of the range has the tens m
@@ -39,6 +45,12 @@ pairAt [] i m x = x ≤? 255
 pairAt (r ∷ rs) zero m x = tensFit r x
 pairAt (r ∷ rs) (suc zero) m x = onesFit r m x
 pairAt (r ∷ rs) (suc (suc i)) m x = pairAt rs i m x
+
+-- how many of the two digits for a number out of the range may stand
+unfoldable pub pairStands : Range → List ℕ → ℕ
+pairStands r [] = 0
+pairStands r (a ∷ []) = pick (tensFit r a) 1 0
+pairStands r (a ∷ b ∷ v) = pick (tensFit r a) (pick (onesFit r (a - 48) b) 2 1) 0
 
 -- the tens are remembered
 abbrev pub pairsJudge : List Range → Judge
@@ -82,3 +94,7 @@ remember c n i m x = judgeOf c .keep n i m x
 
 abbrev pub fitsFrom : Class → ℕ → ℕ → ℕ → List ℕ → Bool
 fitsFrom c n i m v = passes (judgeOf c) n i m v
+
+-- of contents as a whole, how many octets from the first on may stand where they stand
+abbrev pub goodFront : Class → List ℕ → ℕ
+goodFront c v = passing (judgeOf c) (length v) 0 0 v

@@ -7,7 +7,7 @@ use Rattle.rules.specs.Contents.{Range, inSet, someLength, Whole, pairs,
 use Prim.Native.Nat.{ℕ}
 use Prim.Native.String.{String, [] as nil, _∷_ as _then_}
 use Prim.Native.Char as char
-use mathlib.Core.Bool.{Bool, false}
+use mathlib.Core.Bool.{Bool, true, false}
 use mathlib.Core.List.{List, [], _∷_}
 use Rattle.rules.specs.declared.Form.{Form}
 use Rattle.rules.specs.declared.Form.the-variants.{DateValue, CodeValue, StateValue, TextValue, CarriedValue}
@@ -229,3 +229,10 @@ rulesOf PresentStrict = record { rows = rows01; others = Unlisted }
 rulesOf PresentLenient = record { rows = rows01; others = Carried }
 rulesOf OldStrict = record { rows = rowsOld; others = Unlisted }
 rulesOf OldLenient = record { rows = rowsOld; others = Carried }
+
+-- the books of the old edition
+unfoldable pub oldBook : Book → Bool
+oldBook PresentStrict = false
+oldBook PresentLenient = false
+oldBook OldStrict = true
+oldBook OldLenient = true

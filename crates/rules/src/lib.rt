@@ -2,14 +2,15 @@
 // they fit, and the octets of contents (document 01, The message); and whether two texts are the same. Every function is total.
 ghost use mathlib.Core.Path.{_≡_};
 ghost use mathlib.Core.Bool.{true};
-ghost use Prim.Native.Nat.{_-_};
+ghost use Prim.Native.Nat.{_+_, _-_, _≤_};
+ghost use lib.ListN as list;
 ghost use Rattle.rules.specs.Tests.{_=?_, _and_, pick};
 ghost use Rattle.rules.specs.Pairwise.{sameOctets};
 ghost use Rattle.rules.specs.Contents.{within, inSet};
-ghost use Rattle.rules.specs.Table.{rulesOf, listed, classOf, classFault, rivalOf, formOf, whole, lengthFits, oldUserSet, numberSet, nameSet, absentSet, lampSet, identitySet, callTypeSet, forwardedSet, userSet};
+ghost use Rattle.rules.specs.Table.{rulesOf, oldBook, listed, classOf, classFault, rivalOf, formOf, whole, lengthFits, oldUserSet, numberSet, nameSet, absentSet, lampSet, identitySet, callTypeSet, forwardedSet, userSet};
 ghost use Rattle.rules.specs.Codes.{classCode, classCoded, laterClass, strictClass, ranges};
 ghost use Rattle.rules.specs.declared.Book.the-variants as book;
-ghost use Rattle.rules.specs.ContentJudge.{tensFit, onesFit, okAt};
+ghost use Rattle.rules.specs.ContentJudge.{tensFit, onesFit, okAt, pairStands, goodFront};
 ghost use Rattle.rules.specs.ContentJudge as content;
 ghost use Rattle.rules.specs.Message.{messageKind};
 ghost use Rattle.rules.specs.Judge.{roomFits, rangePossible};
@@ -109,78 +110,6 @@ pub fn noted(number: u8, place: u16) -> Fault
     Fault { number, place }
 }
 
-// The code of the class of each parameter type up to 1FH; 0 is carried, as is every type above.
-const CLASSES: [u8; 32] = [
-    0,
-    1,
-    2,
-    2,
-    3,
-    0,
-    0,
-    4,
-    3,
-    0,
-    0,
-    5,
-    0,
-    6,
-    2,
-    0,
-    0,
-    7,
-    2,
-    8,
-    0,
-    9,
-    10,
-    0,
-    0,
-    0,
-    0,
-    0,
-    0,
-    0,
-    0,
-    0,
-];
-
-// The same in the old edition.
-const OLD_CLASSES: [u8; 32] = [
-    0,
-    1,
-    11,
-    0,
-    3,
-    0,
-    0,
-    12,
-    0,
-    0,
-    0,
-    5,
-    0,
-    0,
-    0,
-    0,
-    0,
-    0,
-    11,
-    0,
-    0,
-    13,
-    14,
-    0,
-    0,
-    0,
-    0,
-    0,
-    0,
-    0,
-    0,
-    0,
-];
-
 // The class of a code; a code of none is read as carried.
 pub fn class_coded(code: u8) -> Class
     ensures { λ r. ⌜ r ≡ classCoded code ⌝ }
@@ -274,21 +203,63 @@ pub fn form_of(c: Class) -> Form
     }
 }
 
+// The classes of the present edition's types (document 01, The message); every other type is carried.
 fn present_class(t: u8) -> Class
     ensures { λ r. ⌜ r ≡ classOf (rulesOf book.PresentLenient) t ⌝ }
 {
-    if t < 32 {
-        class_coded(CLASSES[t as usize])
+    if t == 0x01 {
+        Class::Date
+    } else if t == 0x02 {
+        Class::Number
+    } else if t == 0x03 {
+        Class::Number
+    } else if t == 0x04 {
+        Class::Absent
+    } else if t == 0x07 {
+        Class::Name
+    } else if t == 0x08 {
+        Class::Absent
+    } else if t == 0x0B {
+        Class::Lamp
+    } else if t == 0x0D {
+        Class::Identity
+    } else if t == 0x0E {
+        Class::Number
+    } else if t == 0x11 {
+        Class::CallType
+    } else if t == 0x12 {
+        Class::Number
+    } else if t == 0x13 {
+        Class::Waiting
+    } else if t == 0x15 {
+        Class::Forwarded
+    } else if t == 0x16 {
+        Class::User
     } else {
         Class::Carried
     }
 }
 
+// The same in the old edition (document 02, Q-5).
 fn old_class(t: u8) -> Class
     ensures { λ r. ⌜ r ≡ classOf (rulesOf book.OldLenient) t ⌝ }
 {
-    if t < 32 {
-        class_coded(OLD_CLASSES[t as usize])
+    if t == 0x01 {
+        Class::Date
+    } else if t == 0x02 {
+        Class::OldNumber
+    } else if t == 0x04 {
+        Class::Absent
+    } else if t == 0x07 {
+        Class::ShortText
+    } else if t == 0x0B {
+        Class::Lamp
+    } else if t == 0x12 {
+        Class::OldNumber
+    } else if t == 0x15 {
+        Class::OldForwarded
+    } else if t == 0x16 {
+        Class::OldUser
     } else {
         Class::Carried
     }
@@ -305,15 +276,30 @@ fn strictly(c: Class) -> Class
     }
 }
 
+// The class where unlisted types are carried, of the old edition or of the present one.
+fn edition_class(old: bool, t: u8) -> Class
+    ensures { λ r. ⌜ r ≡ pick old (classOf (rulesOf book.OldLenient) t) (classOf (rulesOf book.PresentLenient) t) ⌝ }
+{
+    if old { old_class(t) } else { present_class(t) }
+}
+
+// Is it a book of the old edition?
+fn is_old(b: Book) -> bool
+    ensures { λ r. ⌜ r ≡ oldBook b ⌝ }
+{
+    match b {
+        Book::PresentStrict => false,
+        Book::PresentLenient => false,
+        Book::OldStrict => true,
+        Book::OldLenient => true,
+    }
+}
+
 pub fn class_of(b: Book, t: u8) -> Class
     ensures { λ r. ⌜ r ≡ classOf (rulesOf b) t ⌝ }
 {
-    match b {
-        Book::PresentStrict => strictly(present_class(t)),
-        Book::PresentLenient => present_class(t),
-        Book::OldStrict => strictly(old_class(t)),
-        Book::OldLenient => old_class(t),
-    }
+    let c = edition_class(is_old(b), t);
+    if is_strict(b) { strictly(c) } else { c }
 }
 
 // Has the type a row of the book? One that has none is carried, or refused.
@@ -787,6 +773,134 @@ pub fn remember(c: Class, n: u8, i: u8, m: u8, x: u8) -> u8
         Class::OldUser => 0,
         Class::Unlisted => 0,
         Class::Carried => 0,
+    }
+}
+
+// Octets of a number, as far as they go.
+fn number_along(v: &[u8]) -> usize
+    ensures { λ r. ⌜ r ≡ goodFront class.Number (now (v .entry)) ⌝ }
+{
+    let mut i = 0;
+    while i < v.len() {
+        if number_ok(v[i]) {
+            i += 1;
+        } else {
+            return i;
+        }
+    }
+    i
+}
+
+// Octets of a name, as far as they go.
+fn name_along(v: &[u8]) -> usize
+    ensures { λ r. ⌜ r ≡ goodFront class.Name (now (v .entry)) ⌝ }
+{
+    let mut i = 0;
+    while i < v.len() {
+        if name_ok(v[i]) {
+            i += 1;
+        } else {
+            return i;
+        }
+    }
+    i
+}
+
+// Digits, as far as they go.
+fn digits_along(v: &[u8]) -> usize
+    ensures { λ r. ⌜ r ≡ goodFront class.OldNumber (now (v .entry)) ⌝ }
+{
+    let mut i = 0;
+    while i < v.len() {
+        if among(0x30, 0x39, v[i]) {
+            i += 1;
+        } else {
+            return i;
+        }
+    }
+    i
+}
+
+// Two digits at a place for a number out of the range: the place behind those of them that may stand.
+fn pair_along(lo: u8, hi: u8, v: &[u8], at: usize) -> usize
+    requires { ⌜ at ≤ 6 ⌝ }
+    ensures { λ r. ⌜ r ≡ at + pairStands (lo, hi) (list.drop at (now (v .entry))) ⌝ }
+{
+    if v.len() <= at {
+        return at;
+    }
+    let x = v[at];
+    if tens_ok(lo, hi, x) {
+        if v.len() <= at + 1 {
+            return at + 1;
+        }
+        if ones_ok(lo, hi, x - 48, v[at + 1]) {
+            at + 2
+        } else {
+            at + 1
+        }
+    } else {
+        at
+    }
+}
+
+// The digits of a date, as far as they go: month, day, hour and minute.
+fn date_along(v: &[u8]) -> usize
+    ensures { λ r. ⌜ r ≡ goodFront class.Date (now (v .entry)) ⌝ }
+{
+    let month = pair_along(1, 12, v, 0);
+    if month < 2 {
+        return month;
+    }
+    let day = pair_along(1, 31, v, 2);
+    if day < 4 {
+        return day;
+    }
+    let hour = pair_along(0, 23, v, 4);
+    if hour < 6 {
+        return hour;
+    }
+    let minute = pair_along(0, 59, v, 6);
+    if minute < 8 {
+        return minute;
+    }
+    v.len()
+}
+
+// Where the first octet alone is judged: all of n, or none.
+fn by_first(ok: bool, n: usize) -> usize
+    ensures { λ r. ⌜ r ≡ pick ok n 0 ⌝ }
+{
+    if ok { n } else { 0 }
+}
+
+// How many octets of contents may stand where they stand (document 01, The message): all, or those before the first
+// that may not.
+pub fn first_wrong(c: Class, v: &[u8]) -> usize
+    ensures { λ r. ⌜ r ≡ goodFront c (now (v .entry)) ⌝ }
+{
+    let n = v.len();
+    if n == 0 {
+        return 0;
+    }
+    let x = v[0];
+    match c {
+        Class::Date => date_along(v),
+        Class::Number => number_along(v),
+        Class::Absent => by_first(absent_ok(x), n),
+        Class::Name => name_along(v),
+        Class::Lamp => by_first(lamp_ok(x), n),
+        Class::Identity => by_first(identity_ok(x), n),
+        Class::CallType => by_first(call_type_ok(x), n),
+        Class::Waiting => n,
+        Class::Forwarded => by_first(forwarded_ok(x), n),
+        Class::User => by_first(user_ok(x), n),
+        Class::OldNumber => digits_along(v),
+        Class::ShortText => name_along(v),
+        Class::OldForwarded => by_first(among(0x00, 0x06, x), n),
+        Class::OldUser => by_first(old_user_ok(x), n),
+        Class::Unlisted => n,
+        Class::Carried => n,
     }
 }
 

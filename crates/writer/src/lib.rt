@@ -13,7 +13,6 @@ ghost use lib.ListN as list;
 ghost use Rattle.rules.specs.Tests.{_≤?_, pick};
 ghost use Rattle.rules.specs.Octets.{total};
 ghost use Rattle.rules.specs.Table.{rulesOf};
-ghost use Rattle.rules.specs.ContentJudge.{fitsFrom};
 ghost use Rattle.rules.specs.Message.{front, octets, most};
 ghost use Rattle.draft.specs.Draft.{used, messageOf};
 ghost use Rattle.rules.specs.Laying.{laid};
@@ -106,25 +105,6 @@ fn spell(v: Value) -> Spelling
     }
 }
 
-// May each octet of contents of length n stand where it stands?
-fn octets_fit(class: Class, part: &[u8], n: u8) -> bool
-    requires { ⌜ list.length (now part) ≡ n ⌝ }
-    ensures { λ r. ⌜ r ≡ fitsFrom class n 0 0 (now (part .entry)) ⌝ }
-{
-    let mut memory: u8 = 0;
-    let mut index: u8 = 0;
-    while index < n {
-        let x = part[index as usize];
-        if rules::content_ok(class, n, index, memory, x) {
-            memory = rules::remember(class, n, index, memory, x);
-            index += 1;
-        } else {
-            return false;
-        }
-    }
-    true
-}
-
 // The length of contents that fit their class; 0, which no contents have, where they do not.
 fn fitting_length(class: Class, part: &[u8]) -> u8
     ensures { λ r. ⌜ r ≡ fitting class (now (part .entry)) ⌝ }
@@ -135,7 +115,11 @@ fn fitting_length(class: Class, part: &[u8]) -> u8
     let n = part.len() as u8;
     // in a room that the parameter fills
     if rules::length_fits(class, n + 2, n) {
-        if octets_fit(class, part, n) { n } else { 0 }
+        if rules::first_wrong(class, part) == part.len() {
+            n
+        } else {
+            0
+        }
     } else {
         0
     }

@@ -1,28 +1,57 @@
--- `firmware::read_into` meets its contract: the record is written where the texts were laid down.
+-- `firmware::read_into` meets its contract: record and texts are laid down where a read goes through, and there the
+-- texts take at most 253 octets.
 -- Assumes nothing.
 use mathlib.Core.Path.{sym, _∙_, ap}
+use native.Mathlib.Omega.{arith}
+use Rattle.rules.proofs.ContentLaw.{sound-rules}
+use Rattle.rules.proofs.Octets.{octets-known}
+use Rattle.rules.specs.Table.{rulesOf}
+use Rattle.rules.specs.declared.Book.the-variants.{PresentLenient}
+use Rattle.reader.specs.Told.{told}
+use Rattle.reader.proofs.Answered.{fits-small}
+use Rattle.reader.proofs.Area.{fits-whole, packs-whole, packs-refused}
 use Rattle.firmware.specs.Exports.{packedWord, recordFrom}
 use borrow.Author.Needs.{needs}
 use Rattle.firmware.proofs.read_into.Statement.{statement}
 use Rattle.firmware.proofs.read_into.Tie as tie
 
-pack-requires : tie.Need-pack-requires
-pack-requires c κs = search needs
+fits-requires : tie.Need-fits-requires
+fits-requires c κs = search needs
 
 enum-told : tie.Need-enum-told
 enum-told c = search needs
 
 lay-draft-requires : tie.Need-lay-draft-requires
-lay-draft-requires c κs = search needs
+lay-draft-requires c κs =
+    let told = c .before .before in
+    let after-fits = told .before .before in
+    let start = after-fits .before .before .before .before in (
+      start .pre,
+      fits-whole (rulesOf PresentLenient) _ _ (sym (told .enum-told .given .1) ∙ after-fits .fits2 .ensures) .enough,
+    )
 
-packed-word-requires : tie.Need-packed-word-requires
-packed-word-requires c κs = search needs
+cast-packed : tie.Need-cast-packed
+cast-packed c =
+    let laid = c .before .before .before .before in
+    let told = laid .before .before .before in
+    let after-fits = told .before .before in
+    let known = after-fits .before .before .before in
+    let octets = octets-known (known .before .args .octets .now) (known .shared-slice-known .given) in
+    omega (
+      arith,
+      laid .lay-draft .ensures .0,
+      fits-small (rulesOf PresentLenient) (sound-rules PresentLenient) _ octets _
+          (sym (told .enum-told .given .1) ∙ after-fits .fits2 .ensures),
+    )
 
-enum-told-2 : tie.Need-enum-told-2
-enum-told-2 c = search needs
+packed-requires : tie.Need-packed-requires
+packed-requires c κs = search needs
 
-packed-word-requires-2 : tie.Need-packed-word-requires-2
-packed-word-requires-2 c κs = search needs
+enum-known-fitting : tie.Need-enum-known-fitting
+enum-known-fitting c = search needs
+
+packed-requires-2 : tie.Need-packed-requires-2
+packed-requires-2 c κs = search needs
 
 same-length : tie.Need-same-length
 same-length c = search needs
@@ -31,47 +60,43 @@ same-length-2 : tie.Need-same-length-2
 same-length-2 c = search needs
 
 returns : tie.Need-returns
-unfolding recordFrom
+unfolding recordFrom packedWord told
 returns c =
-    let arm = c .before .before .before .before .before in
-    let after-pack = arm .before .before .before .before in
-    let start = after-pack .before .before .before .before .before in (
-      c .packed-word .ensures ∙ ap packedWord (after-pack .pack .ensures .0),
-      (
-        c .before .before .before .lay-draft .ensures ∙ ap (recordFrom (start .args .octets .now)
-            (start .args .cells .now)) (sym (arm .enum-told .given .1) ∙ after-pack .pack .ensures .0),
-        after-pack .pack .ensures .1,
-      ),
+    let laid = c .before .before .before .before .before .lay-draft .ensures in
+    let told = c .before .before .before .before .before .before .before .before in
+    let after-fits = told .before .before in
+    let start = after-fits .before .before .before .before in
+    let octets = start .args .octets .now in
+    let p = packs-whole (rulesOf PresentLenient) octets (start .args .texts .now)
+    (sym (told .enum-told .given .1) ∙ after-fits .fits2 .ensures) _ _ (laid .0) (laid .1 .1) in (
+      c .packed .ensures ∙ ap packedWord (p .answer),
+      (laid .1 .0 ∙ ap (recordFrom octets (start .args .cells .now)) (p .answer), p .area-is),
     )
 
-same-length-3 : tie.Need-same-length-3
-same-length-3 c = search needs
-
 returns-2 : tie.Need-returns-2
-unfolding recordFrom
+unfolding recordFrom packedWord told
 returns-2 c =
-    let after-pack = c .before .before .before .before .before in
-    let start = after-pack .before .before .before .before .before in (
-      c .packed-word2 .ensures ∙ ap packedWord (after-pack .pack .ensures .0),
-      (
-        ap (recordFrom (start .args .octets .now) (start .args .cells .now))
-            (sym (c .before .enum-told2 .given .1) ∙ after-pack .pack .ensures .0),
-        after-pack .pack .ensures .1,
-      ),
+    let after-fits = c .before .before .before .before in
+    let start = after-fits .before .before .before .before in
+    let octets = start .args .octets .now in
+    let p = packs-refused (rulesOf PresentLenient) octets (start .args .texts .now) _
+    (sym (c .before .before .fitting .given .1) ∙ after-fits .fits2 .ensures) in (
+      c .packed2 .ensures ∙ ap packedWord (p .answer),
+      (ap (recordFrom octets (start .args .cells .now)) (p .answer), p .area-is),
     )
 
 pub read-into-spec : {M : Type 1} → statement M
 read-into-spec =
     tie.close
     (tie.spec
-    pack-requires
+    fits-requires
     enum-told
     lay-draft-requires
-    packed-word-requires
-    enum-told-2
-    packed-word-requires-2
+    cast-packed
+    packed-requires
+    enum-known-fitting
+    packed-requires-2
     same-length
     same-length-2
     returns
-    same-length-3
     returns-2)

@@ -32,11 +32,21 @@ add-t22 c = search needs
 enum-known-stage : tie.Need-enum-known-stage
 enum-known-stage c = search needs
 
-at-header-requires : tie.Need-at-header-requires
-at-header-requires c κs = place-small _ (sound-rules _) _ _ (c .before .before .before .before .before .pre .0)
+sub-if1 : tie.Need-sub-if1
+sub-if1 c = search needs
 
-add-t24 : tie.Need-add-t24
-add-t24 c = search needs
+at-header-requires : tie.Need-at-header-requires
+at-header-requires c κs =
+    let start = c .before .before .before .before .before .before in
+    place-small _ (sound-rules _) _ _ (start .pre .0)
+
+add-t28 : tie.Need-add-t28
+add-t28 c = search needs
+
+by-turns-requires : tie.Need-by-turns-requires
+by-turns-requires c κs =
+    let start = c .before .before .before .before .before .before in
+    (rw (c .before .before .stage .given .1) at (start .pre .0), start .pre .1)
 
 enum-known-stage-2 : tie.Need-enum-known-stage-2
 enum-known-stage-2 c = search needs
@@ -44,8 +54,8 @@ enum-known-stage-2 c = search needs
 at-length-requires : tie.Need-at-length-requires
 at-length-requires c κs = place-small _ (sound-rules _) _ _ (c .before .before .before .before .before .pre .0)
 
-add-t26 : tie.Need-add-t26
-add-t26 c = search needs
+add-t30 : tie.Need-add-t30
+add-t30 c = search needs
 
 enum-known-stage-3 : tie.Need-enum-known-stage-3
 enum-known-stage-3 c = search needs
@@ -73,22 +83,25 @@ returns-2 c =
 
 returns-3 : tie.Need-returns-3
 returns-3 c =
-    let read = c .before .before .before .before .before in
+    let read = c .before .before .before .before .before .before in
     let start = read .before in
     one-step _ (sound-rules _) _ _ _ _ _ (start .pre .0) (start .pre .1)
     (omega (arith, read .shared-slice-known .given (start .args .i)))
-    (rw (c .before .before .stage .given .1) (c .at-header .ensures))
+    (rw (c .before .before .before .stage .given .1) (c .at-header .ensures))
 
 returns-4 : tie.Need-returns-4
-returns-4 c =
+returns-4 c = rw (c .before .before .before .stage .given .1) (c .by-turns .ensures)
+
+returns-5 : tie.Need-returns-5
+returns-5 c =
     let read = c .before .before .before .before .before in
     let start = read .before in
     one-step _ (sound-rules _) _ _ _ _ _ (start .pre .0) (start .pre .1)
     (omega (arith, read .shared-slice-known .given (start .args .i)))
     (rw (c .before .before .stage2 .given .1) (c .at-length .ensures))
 
-returns-5 : tie.Need-returns-5
-returns-5 c = rw (c .before .before .stage3 .given .1) (c .along .ensures)
+returns-6 : tie.Need-returns-6
+returns-6 c = rw (c .before .before .stage3 .given .1) (c .along .ensures)
 
 pub onward-spec : {M : Type 1} → statement M
 onward-spec =
@@ -102,15 +115,18 @@ onward-spec =
     at-size-requires
     add-t22
     enum-known-stage
+    sub-if1
     at-header-requires
-    add-t24
+    add-t28
+    by-turns-requires
     enum-known-stage-2
     at-length-requires
-    add-t26
+    add-t30
     enum-known-stage-3
     along-requires
     returns
     returns-2
     returns-3
     returns-4
-    returns-5)
+    returns-5
+    returns-6)

@@ -6,7 +6,7 @@ use mathlib.Core.Path.{sym, _∙_}
 use native.Mathlib.Omega.{arith}
 use Rattle.rules.specs.Message.{most}
 use Rattle.rules.specs.Table.{rulesOf}
-use Rattle.reader.proofs.Laying.{LaidTexts, laid-first, laid-room, laid-more, laid-end, left-none, left-full}
+use Rattle.reader.proofs.Laying.{LaidTexts, laid-first, laid-room, laid-more, laid-end, sized-end, left-none, left-full}
 use borrow.Author.Needs.{needs}
 use Rattle.reader.proofs.lay_texts.Statement.{statement}
 use Rattle.reader.proofs.lay_texts.Tie as tie
@@ -72,17 +72,21 @@ returns : tie.Need-returns Inv-loop μ-loop
 returns c =
     let turn = c .before .before .before .before in
     let start = turn .before .before .before in
-    laid-end _ _ _ (start .pre) _ _ _ _ (turn .loop .inv)
-    (left-none _ _ _ _ (c .before .before .before .loop-test .taken)
-    (sym (c .enum-told .given .1) ∙ c .before .before .text-at .ensures))
+    let ended = left-none _ _ _ _ (c .before .before .before .loop-test .taken)
+    (sym (c .enum-told .given .1) ∙ c .before .before .text-at .ensures) in (
+      sized-end _ _ _ _ _ (turn .loop .inv .sized) ended,
+      laid-end _ _ _ (start .pre) _ _ _ _ (turn .loop .inv) ended,
+    )
 
 same-length-2 : tie.Need-same-length-2 Inv-loop μ-loop
 same-length-2 c = c .before .loop .inv .long
 
 returns-2 : tie.Need-returns-2 Inv-loop μ-loop
 returns-2 c =
-    laid-end _ _ _ (c .before .before .before .before .pre) _ _ _ _ (c .before .loop .inv)
-    (left-full _ _ _ (c .loop-test .left))
+    let ended = left-full _ _ _ (c .loop-test .left) in (
+      sized-end _ _ _ _ _ (c .before .loop .inv .sized) ended,
+      laid-end _ _ _ (c .before .before .before .before .pre) _ _ _ _ (c .before .loop .inv) ended,
+    )
 
 pub lay-texts-spec : {M : Type 1} → statement M
 lay-texts-spec =

@@ -1,29 +1,60 @@
--- `rules::old_class` meets its contract: by the table.
+-- `rules::old_class` meets its contract: a type that a test names has the class of its row, and any other is
+-- carried.
 -- Assumes nothing.
-use mathlib.Core.Path.{_∙_}
-use native.Mathlib.Omega.{arith}
+use mathlib.Core.Path.{sym, ap}
 use Rattle.rules.specs.Tests.{_=?_, pick}
 use Rattle.rules.specs.Table.{rulesOf, classOf, rowOf, rowIn}
-use Rattle.rules.specs.Codes.{classCode}
 use Rattle.rules.specs.declared.Book.the-variants.{OldLenient}
-use Rattle.rules.proofs.Table.{tabled}
-use Rattle.rules.proofs.Rivals.{code-of, coded-type, carried-above-old}
-use borrow.Author.Needs.{needs}
+use Rattle.rules.proofs.Rivals.{row-past}
 use Rattle.rules.proofs.old_class.Statement.{statement}
 use Rattle.rules.proofs.old_class.Tie as tie
 
-array-read-class-coded : tie.Need-array-read-class-coded
-array-read-class-coded c = search needs
-
-class-coded-requires : tie.Need-class-coded-requires
-class-coded-requires c κs = search needs
-
 returns : tie.Need-returns
-unfolding code-of tabled pick _=?_ classCode classOf rowOf rowIn rulesOf
-returns c = c .class-coded .ensures ∙ coded-type OldLenient (c .before .before .args .t) (c .before .if1 .taken)
+unfolding classOf rowOf rowIn rulesOf pick _=?_
+returns c = sym (ap (classOf (rulesOf OldLenient)) (c .if1 .taken))
 
 returns-2 : tie.Need-returns-2
-returns-2 c = carried-above-old (c .before .args .t) (omega arith) (c .if1 .left)
+unfolding classOf rowOf rowIn rulesOf pick _=?_
+returns-2 c = sym (ap (classOf (rulesOf OldLenient)) (c .if2 .taken))
+
+returns-3 : tie.Need-returns-3
+unfolding classOf rowOf rowIn rulesOf pick _=?_
+returns-3 c = sym (ap (classOf (rulesOf OldLenient)) (c .if3 .taken))
+
+returns-4 : tie.Need-returns-4
+unfolding classOf rowOf rowIn rulesOf pick _=?_
+returns-4 c = sym (ap (classOf (rulesOf OldLenient)) (c .if4 .taken))
+
+returns-5 : tie.Need-returns-5
+unfolding classOf rowOf rowIn rulesOf pick _=?_
+returns-5 c = sym (ap (classOf (rulesOf OldLenient)) (c .if5 .taken))
+
+returns-6 : tie.Need-returns-6
+unfolding classOf rowOf rowIn rulesOf pick _=?_
+returns-6 c = sym (ap (classOf (rulesOf OldLenient)) (c .if6 .taken))
+
+returns-7 : tie.Need-returns-7
+unfolding classOf rowOf rowIn rulesOf pick _=?_
+returns-7 c = sym (ap (classOf (rulesOf OldLenient)) (c .if7 .taken))
+
+returns-8 : tie.Need-returns-8
+unfolding classOf rowOf rowIn rulesOf pick _=?_
+returns-8 c = sym (ap (classOf (rulesOf OldLenient)) (c .if8 .taken))
+
+returns-9 : tie.Need-returns-9
+unfolding classOf rowOf rowIn rulesOf
+returns-9 c = search row-past depth 14
 
 pub old-class-spec : {M : Type 1} → statement M
-old-class-spec = tie.close (tie.spec array-read-class-coded class-coded-requires returns returns-2)
+old-class-spec =
+    tie.close
+    (tie.spec
+    returns
+    returns-2
+    returns-3
+    returns-4
+    returns-5
+    returns-6
+    returns-7
+    returns-8
+    returns-9)

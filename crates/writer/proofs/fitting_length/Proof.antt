@@ -1,7 +1,7 @@
 -- `writer::fitting_length` meets its contract: the length is one of the class's, and each octet may stand where it
 -- stands.
 -- Assumes nothing.
-use mathlib.Core.Path.{refl}
+use mathlib.Core.Path.{sym, _∙_}
 use Rattle.rules.proofs.Returns.{via}
 use Rattle.writer.proofs.Contents.{too-long, length-not, octets-not, both-fit}
 use borrow.Author.Needs.{needs}
@@ -20,21 +20,20 @@ add-length-fits c = search needs
 length-fits-requires : tie.Need-length-fits-requires
 length-fits-requires c κs = search needs
 
-octets-fit-requires : tie.Need-octets-fit-requires
-octets-fit-requires c κs = refl
+first-wrong-requires : tie.Need-first-wrong-requires
+first-wrong-requires c κs = search needs
 
 returns-2 : tie.Need-returns-2
 returns-2 c =
-    both-fit _ _ _ refl (via _ _ _ (c .before .before .before .length-fits .ensures)
-    (c .before .before .if2 .taken)) (via _ _ _ (c .before .octets-fit .ensures) (c .if3 .taken))
+    let p = c .before .before in
+    both-fit _ _ (via _ _ _ (p .before .length-fits .ensures) (p .if2 .taken))
+    (sym (c .before .first-wrong .ensures) ∙ c .if3 .taken)
 
 returns-3 : tie.Need-returns-3
-returns-3 c =
-    octets-not _ _ _ refl (via _ _ _ (c .before .before .before .length-fits .ensures)
-    (c .before .before .if2 .taken)) (via _ _ _ (c .before .octets-fit .ensures) (c .if3 .left))
+returns-3 c = octets-not _ _ (λ e. c .if3 .left (c .before .first-wrong .ensures ∙ e))
 
 returns-4 : tie.Need-returns-4
-returns-4 c = length-not _ _ _ refl (via _ _ _ (c .before .length-fits .ensures) (c .if2 .left))
+returns-4 c = length-not _ _ (via _ _ _ (c .before .length-fits .ensures) (c .if2 .left))
 
 pub fitting-length-spec : {M : Type 1} → statement M
 fitting-length-spec =
@@ -44,7 +43,7 @@ fitting-length-spec =
     cast-n
     add-length-fits
     length-fits-requires
-    octets-fit-requires
+    first-wrong-requires
     returns-2
     returns-3
     returns-4)

@@ -1,4 +1,4 @@
--- `firmware::lay_draft` meets its contract: cleared, the entries, then the header.
+-- `firmware::lay_draft` meets its contract: cleared, the entries and texts, then the header.
 -- Assumes nothing.
 use Prim.Native.Nat.{ℕ}
 use mathlib.Core.Path.{_∙_, ap}
@@ -18,8 +18,9 @@ clear-requires c κs = search needs
 
 lay-entries-requires : tie.Need-lay-entries-requires
 lay-entries-requires c κs =
-    let start = c .before .before .before .before .before .before .before in
-    c .before .before .before .clear .ensures ∙ ap (λ (k : ℕ). replicate {A = ℕ} k 0) (start .pre)
+    let after-clear = c .before .before .before .before in
+    let start = after-clear .before .before .before .before .before in
+    (after-clear .clear .ensures ∙ ap (λ (k : ℕ). replicate {A = ℕ} k 0) (start .pre .0), start .pre .1)
 
 octet-requires : tie.Need-octet-requires
 octet-requires c κs = search needs
@@ -29,21 +30,31 @@ slice-write-cells c = search needs
 
 cast-cells : tie.Need-cast-cells
 cast-cells c =
-    let start = c .before .before .before .before .before .before .before .before .before .before .before in
-    omega (arith, count-small (start .args .octets .now), c .before .before .before .lay-entries .ensures .0)
+    let after-entries = c .before .before .before .before .before .before in
+    let start = after-entries .before .before .before .before .before .before .before .before .before .before in
+    omega (arith, count-small (start .args .octets .now), after-entries .lay-entries .ensures .0)
 
 slice-write-cells-2 : tie.Need-slice-write-cells-2
 slice-write-cells-2 c = simp length-set (omega arith)
 
 same-length : tie.Need-same-length
-same-length c = search needs
+same-length c = simp length-set (search needs)
+
+same-length-2 : tie.Need-same-length-2
+same-length-2 c = search needs
 
 returns : tie.Need-returns
 returns c =
-    let start = c .before .before .before .before .before .before .before .before .before .before .before in
-    headed (draftOf (rulesOf PresentLenient) (messageIn (start .args .octets .now))) _ _ _
-    (c .octet .ensures ∙ draft-kind (start .args .octets .now))
-    (c .before .before .before .lay-entries .ensures .0) (c .before .before .before .lay-entries .ensures .1)
+    let after-entries = c .before .before .before .before .before .before in
+    let start = after-entries .before .before .before .before .before .before .before .before .before .before in
+    let laid = after-entries .lay-entries .ensures in (
+      laid .1 .0,
+      (
+        headed (draftOf (rulesOf PresentLenient) (messageIn (start .args .octets .now))) _ _ _
+            (c .before .octet .ensures ∙ draft-kind (start .args .octets .now)) (laid .0) (laid .1 .1 .0),
+        laid .1 .1 .1,
+      ),
+    )
 
 pub lay-draft-spec : {M : Type 1} → statement M
 lay-draft-spec =
@@ -56,4 +67,5 @@ lay-draft-spec =
     cast-cells
     slice-write-cells-2
     same-length
+    same-length-2
     returns)

@@ -1,5 +1,6 @@
--- `firmware::lay_entries` meets its contract. The loop's invariant: the record is that of the entries taken so far.
--- The measure is the turns left.
+-- `firmware::lay_entries` meets its contract. The loop's invariant: the record is that of the entries taken so far,
+-- and the texts laid down are theirs; a text stands two octets behind its parameter's place. The measure is the turns
+-- left.
 -- Assumes nothing.
 use Prim.Native.Nat.{ℕ, _+_, _*_, _-_}
 use mathlib.Core.Path.{sym, _∙_, ap}
@@ -8,21 +9,25 @@ use lib.ListN.{length, length-take, length-drop, length-replicate}
 use Rattle.rules.specs.Message.{most}
 use Rattle.rules.specs.Table.{rulesOf}
 use Rattle.rules.specs.declared.Book.the-variants.{PresentLenient}
-use Rattle.reader.proofs.Laying.{left-ended, left-full}
-use Rattle.firmware.proofs.DraftRecord.{Recorded, recorded-first, recorded-long, recorded-small, recorded-more, recorded-end}
 use Rattle.rules.proofs.Laying.{rest-laid}
+use Rattle.reader.proofs.Laying.{left-ended, left-full}
+use Rattle.reader.proofs.Copies.{put-is}
+use Rattle.firmware.proofs.DraftRecord.{Recorded, recorded-first, recorded-long, recorded-room, recorded-more, recorded-end}
 use borrow.Author.Needs.{needs}
 use Rattle.firmware.proofs.drafts.lay_entries.Statement.{statement}
 use Rattle.firmware.proofs.drafts.lay_entries.Tie as tie
 
 abbrev Inv-loop : tie.InvT-loop
-Inv-loop octets cells₀ at₀ used₀ count₀ cells at used count = Recorded octets count at used cells
+Inv-loop octets cells₀ texts₀ at₀ used₀ count₀ cells texts at used count =
+    Recorded octets texts₀ count at used cells texts
 
 abbrev μ-loop : tie.MeasureT-loop
-μ-loop octets cells₀ at₀ used₀ count₀ cells at used count = most - count
+μ-loop octets cells₀ texts₀ at₀ used₀ count₀ cells texts at used count = most - count
 
 loop-holds : tie.Need-loop-holds Inv-loop μ-loop
-loop-holds c = recorded-first _ (c .before .before .args .cells .now) (c .before .before .pre)
+loop-holds c =
+    let start = c .before .before .before in
+    recorded-first _ _ (start .pre .1) (start .args .cells .now) (start .pre .0)
 
 entry-requires : tie.Need-entry-requires Inv-loop μ-loop
 entry-requires c κs = search needs
@@ -38,13 +43,15 @@ add-lay-entry c = search needs
 
 sub-lay-entry : tie.Need-sub-lay-entry Inv-loop μ-loop
 sub-lay-entry c =
-    let turn = c .before .before .before .before .before in
-    omega (arith, recorded-long _ _ _ _ _ (turn .loop .inv))
+    let turn = c .before .before .before .before in
+    let start = turn .before .before .before .before .before in
+    omega (arith, recorded-long _ _ (start .pre .1) _ _ _ _ _ (turn .before .loop .inv))
 
 part-lay-entry-start : tie.Need-part-lay-entry-start Inv-loop μ-loop
 part-lay-entry-start c =
-    let turn = c .before .before .before .before .before in
-    omega (arith, recorded-long _ _ _ _ _ (turn .loop .inv))
+    let turn = c .before .before .before .before in
+    let start = turn .before .before .before .before .before in
+    omega (arith, recorded-long _ _ (start .pre .1) _ _ _ _ _ (turn .before .loop .inv))
 
 part-lay-entry-end : tie.Need-part-lay-entry-end Inv-loop μ-loop
 part-lay-entry-end c = search needs
@@ -52,18 +59,81 @@ part-lay-entry-end c = search needs
 lay-entry-requires : tie.Need-lay-entry-requires Inv-loop μ-loop
 lay-entry-requires c κs =
     let turn = c .before .before .before .before .before in
+    let start = turn .before .before .before .before .before in
     simp (length-take, length-drop)
-    (omega (arith, recorded-long _ _ _ _ _ (turn .before .loop .inv), turn .loop-test .taken))
+    (omega (arith, recorded-long _ _ (start .pre .1) _ _ _ _ _ (turn .before .loop .inv), turn .loop-test .taken))
+
+add-start : tie.Need-add-start Inv-loop μ-loop
+add-start c =
+    let after-taken = c .before .before .before .before .before in
+    let turn = after-taken .before .before .before in
+    let start = turn .before .before .before .before .before in
+    let room = recorded-room _ _ (start .pre .1) _ _ _ _ _ (turn .before .loop .inv) (turn .loop-test .taken) _ _ _
+    (sym (after-taken .taken .given .1) ∙ after-taken .before .before .entry .ensures) in
+    omega (arith, room .0)
+
+add-end : tie.Need-add-end Inv-loop μ-loop
+add-end c =
+    let after-taken = c .before .before .before .before .before in
+    let turn = after-taken .before .before .before in
+    let start = turn .before .before .before .before .before in
+    let room = recorded-room _ _ (start .pre .1) _ _ _ _ _ (turn .before .loop .inv) (turn .loop-test .taken) _ _ _
+    (sym (after-taken .taken .given .1) ∙ after-taken .before .before .entry .ensures) in
+    omega (arith, room .0)
+
+sub-copy : tie.Need-sub-copy Inv-loop μ-loop
+sub-copy c = search needs
+
+part-copy-start : tie.Need-part-copy-start Inv-loop μ-loop
+part-copy-start c = search needs
+
+part-copy-end : tie.Need-part-copy-end Inv-loop μ-loop
+part-copy-end c =
+    let after-taken = c .before .before .before .before .before in
+    let turn = after-taken .before .before .before in
+    let start = turn .before .before .before .before .before in
+    let room = recorded-room _ _ (start .pre .1) _ _ _ _ _ (turn .before .loop .inv) (turn .loop-test .taken) _ _ _
+    (sym (after-taken .taken .given .1) ∙ after-taken .before .before .entry .ensures) in
+    omega (arith, room .0)
+
+sub-copy-2 : tie.Need-sub-copy-2 Inv-loop μ-loop
+sub-copy-2 c =
+    let after-taken = c .before .before .before .before .before .before in
+    let turn = after-taken .before .before .before in
+    let start = turn .before .before .before .before .before in
+    let room = recorded-room _ _ (start .pre .1) _ _ _ _ _ (turn .before .loop .inv) (turn .loop-test .taken) _ _ _
+    (sym (after-taken .taken .given .1) ∙ after-taken .before .before .entry .ensures) in
+    omega (arith, room .1)
+
+part-copy-start-2 : tie.Need-part-copy-start-2 Inv-loop μ-loop
+part-copy-start-2 c =
+    let after-taken = c .before .before .before .before .before .before in
+    let turn = after-taken .before .before .before in
+    let start = turn .before .before .before .before .before in
+    let room = recorded-room _ _ (start .pre .1) _ _ _ _ _ (turn .before .loop .inv) (turn .loop-test .taken) _ _ _
+    (sym (after-taken .taken .given .1) ∙ after-taken .before .before .entry .ensures) in
+    omega (arith, room .1)
+
+part-copy-end-2 : tie.Need-part-copy-end-2 Inv-loop μ-loop
+part-copy-end-2 c = search needs
+
+copy-requires : tie.Need-copy-requires Inv-loop μ-loop
+copy-requires c κs =
+    let after-taken = c .before .before .before .before .before .before .before in
+    let turn = after-taken .before .before .before in
+    let start = turn .before .before .before .before .before in
+    let room = recorded-room _ _ (start .pre .1) _ _ _ _ _ (turn .before .loop .inv) (turn .loop-test .taken) _ _ _
+    (sym (after-taken .taken .given .1) ∙ after-taken .before .before .entry .ensures) in
+    simp (length-take, length-drop) (omega (arith, room .1))
 
 add-used : tie.Need-add-used Inv-loop μ-loop
 add-used c =
-    let after-taken = c .before .before .before .before .before in
+    let after-taken = c .before .before .before .before .before .before .before .before .before .before in
     let turn = after-taken .before .before .before in
-    omega (
-      arith,
-      recorded-small _ _ _ _ _ (turn .before .loop .inv) (turn .loop-test .taken) _ _ _
-          (sym (after-taken .taken .given .1) ∙ after-taken .before .before .entry .ensures),
-    )
+    let start = turn .before .before .before .before .before in
+    let room = recorded-room _ _ (start .pre .1) _ _ _ _ _ (turn .before .loop .inv) (turn .loop-test .taken) _ _ _
+    (sym (after-taken .taken .given .1) ∙ after-taken .before .before .entry .ensures) in
+    omega (arith, room .1)
 
 add-count : tie.Need-add-count Inv-loop μ-loop
 add-count c = search needs
@@ -73,37 +143,52 @@ loop-less c = search needs
 
 loop-again : tie.Need-loop-again Inv-loop μ-loop
 loop-again c =
-    let after-taken = c .before .before .before .before .before in
+    let after-copy = c .before .before in
+    let after-entry = after-copy .before .before .before .before .before in
+    let after-taken = after-entry .before .before .before in
     let turn = after-taken .before .before .before in
-    let start = turn .before in
-    recorded-more _ _ _ _ _ (start .loop .inv) (turn .loop-test .taken) _ _ _
-    (sym (after-taken .taken .given .1) ∙ after-taken .before .before .entry .ensures) _
-    (rest-laid _ _ _ (8 + 8 * start .loop .count) (c .before .before .lay-entry .ensures))
+    let loop = turn .before in
+    let start = loop .before .before .before .before in
+    recorded-more _ _ (start .pre .1) _ _ _ _ _ (loop .loop .inv) (turn .loop-test .taken) _ _ _
+    (sym (after-taken .taken .given .1) ∙ after-taken .before .before .entry .ensures) _ _
+    (rest-laid _ _ _ (8 + 8 * loop .loop .count) (after-entry .lay-entry .ensures))
+    (put-is (start .args .octets .now) (loop .loop .texts) _ (loop .loop .at + 2) _ (loop .loop .used)
+    (after-copy .copy .ensures .1))
 
 enum-told : tie.Need-enum-told Inv-loop μ-loop
 enum-told c = search needs
 
 same-length : tie.Need-same-length Inv-loop μ-loop
 same-length c =
-    let turn = c .before .before .before .before in
-    let start = turn .before .before .before in
-    recorded-long _ _ _ _ _ (turn .loop .inv) ∙ sym (ap length (start .pre) ∙ length-replicate {A = ℕ} 688 0)
+    let loop = c .before .before .before .before in
+    let start = loop .before .before .before .before in
+    recorded-long _ _ (start .pre .1) _ _ _ _ _ (loop .loop .inv)
+    ∙ sym (ap length (start .pre .0) ∙ length-replicate {A = ℕ} 688 0)
+
+same-length-2 : tie.Need-same-length-2 Inv-loop μ-loop
+same-length-2 c = let loop = c .before .before .before .before in loop .loop .inv .laid-down .long
 
 returns : tie.Need-returns Inv-loop μ-loop
 returns c =
-    let turn = c .before .before .before .before in
-    recorded-end _ _ _ _ _ (turn .loop .inv)
+    let loop = c .before .before .before .before in
+    let start = loop .before .before .before .before in
+    recorded-end _ _ (start .pre .1) _ _ _ _ _ (loop .loop .inv)
     (left-ended (rulesOf PresentLenient) _ _ _ _ (c .before .before .before .loop-test .taken)
     (sym (c .enum-told .given .1) ∙ c .before .before .entry .ensures))
 
-same-length-2 : tie.Need-same-length-2 Inv-loop μ-loop
-same-length-2 c =
-    let start = c .before .before .before .before in
-    recorded-long _ _ _ _ _ (c .before .loop .inv)
-    ∙ sym (ap length (start .pre) ∙ length-replicate {A = ℕ} 688 0)
+same-length-3 : tie.Need-same-length-3 Inv-loop μ-loop
+same-length-3 c =
+    let start = c .before .before .before .before .before in
+    recorded-long _ _ (start .pre .1) _ _ _ _ _ (c .before .loop .inv)
+    ∙ sym (ap length (start .pre .0) ∙ length-replicate {A = ℕ} 688 0)
+
+same-length-4 : tie.Need-same-length-4 Inv-loop μ-loop
+same-length-4 c = c .before .loop .inv .laid-down .long
 
 returns-2 : tie.Need-returns-2 Inv-loop μ-loop
-returns-2 c = recorded-end _ _ _ _ _ (c .before .loop .inv) (left-full _ _ _ (c .loop-test .left))
+returns-2 c =
+    let start = c .before .before .before .before .before in
+    recorded-end _ _ (start .pre .1) _ _ _ _ _ (c .before .loop .inv) (left-full _ _ _ (c .loop-test .left))
 
 pub lay-entries-spec : {M : Type 1} → statement M
 lay-entries-spec =
@@ -120,12 +205,23 @@ lay-entries-spec =
     part-lay-entry-start
     part-lay-entry-end
     lay-entry-requires
+    add-start
+    add-end
+    sub-copy
+    part-copy-start
+    part-copy-end
+    sub-copy-2
+    part-copy-start-2
+    part-copy-end-2
+    copy-requires
     add-used
     add-count
     loop-less
     loop-again
     enum-told
     same-length
-    returns
     same-length-2
+    returns
+    same-length-3
+    same-length-4
     returns-2)

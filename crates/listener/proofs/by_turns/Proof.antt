@@ -1,0 +1,143 @@
+-- `listener::by_turns` meets its contract: the run jumps to where the turns came, or goes one octet further.
+-- Assumes nothing.
+use Prim.Native.Nat.{_-_}
+use mathlib.Core.Path.{refl}
+use native.Mathlib.Omega.{arith}
+use native.Mathlib.Nat.{add-assoc}
+use lib.ListN.{length, take, drop, length-drop}
+use lib.Seq.{length-take-le}
+use Rattle.rules.specs.Table.{rulesOf}
+use Rattle.rules.proofs.ContentLaw.{sound-rules}
+use Rattle.rules.proofs.Octets.{octets-known, octets-take, octets-drop}
+use Rattle.turns.proofs.Between.{stop-inside}
+use Rattle.listener.proofs.Bounds.{place-small}
+use Rattle.listener.proofs.Going.{one-step}
+use Rattle.listener.proofs.Headers.{jumped, near-place, there-place, to-message, to-header, to-refusal}
+use borrow.Author.Needs.{needs}
+use Rattle.listener.proofs.by_turns.Statement.{statement}
+use Rattle.listener.proofs.by_turns.Tie as tie
+
+sub-through : tie.Need-sub-through
+sub-through c = search needs
+
+part-through-start : tie.Need-part-through-start
+part-through-start c = search needs
+
+part-through-end : tie.Need-part-through-end
+part-through-end c = search needs
+
+through-requires : tie.Need-through-requires
+through-requires c κs = search needs
+
+cast-gone : tie.Need-cast-gone
+cast-gone c = search needs
+
+add-gone : tie.Need-add-gone
+add-gone c =
+    let came = c .before in
+    let start = came .before .before .before in
+    let known = came .before .before .shared-slice-known in
+    let a = start .args in
+    omega (
+      arith,
+      there-place (rulesOf (a .book)) (sound-rules (a .book)) (a .octets .now) (a .i) (a .room) (a .q) (start .pre .1)
+          (octets-known (a .octets .now) (known .given)) (start .pre .0) _ (came .through .ensures),
+    )
+
+add-place : tie.Need-add-place
+add-place c =
+    let came = c .before .before .before in
+    let start = came .before .before .before in
+    let known = came .before .before .shared-slice-known in
+    let a = start .args in
+    omega (
+      arith,
+      near-place (rulesOf (a .book)) (sound-rules (a .book)) (a .octets .now) (a .i) (a .room) (a .q) (start .pre .1)
+          (octets-known (a .octets .now) (known .given)) (start .pre .0) _ (came .through .ensures)
+          (omega arith),
+    )
+
+shared-slice-read-x : tie.Need-shared-slice-read-x
+shared-slice-read-x c = search needs
+
+at-header-requires : tie.Need-at-header-requires
+at-header-requires c κs =
+    let came = c .before .before .before .before .before .before .before .before .before .before in
+    let start = came .before .before .before in
+    place-small _ (sound-rules _) _ _ (start .pre .0)
+
+add-t26 : tie.Need-add-t26
+add-t26 c = search needs
+
+add-t30 : tie.Need-add-t30
+add-t30 c =
+    let came = c .before .before .before .before .before .before .before in
+    let start = came .before .before .before in
+    let known = came .before .before .shared-slice-known in
+    let a = start .args in
+    omega (
+      arith,
+      there-place (rulesOf (a .book)) (sound-rules (a .book)) (a .octets .now) (a .i) (a .room) (a .q) (start .pre .1)
+          (octets-known (a .octets .now) (known .given)) (start .pre .0) _ (came .through .ensures),
+    )
+
+returns : tie.Need-returns
+returns c =
+    let came = c .before .before .before .before .before in
+    let start = came .before .before .before in
+    let known = came .before .before .shared-slice-known in
+    let a = start .args in
+    let octets = octets-known (a .octets .now) (known .given) in
+    jumped _ (sound-rules _) _ _ _ _ _ _
+    (to-message _ (sound-rules _) _ _ _ _ (start .pre .1) octets (start .pre .0) _
+    (came .through .ensures) (c .if1 .taken)) _ refl
+
+returns-2 : tie.Need-returns-2
+returns-2 c =
+    let read = c .before in
+    let came = read .before .before .before .before .before .before .before .before .before .before in
+    let start = came .before .before .before in
+    one-step _ (sound-rules _) _ _ _ _ _ (start .pre .0) (start .pre .1)
+    (omega (arith, read .shared-slice-known2 .given (start .args .i))) (c .at-header .ensures)
+
+returns-3 : tie.Need-returns-3
+returns-3 c =
+    let came = c .before .before .before .before .before .before .before .before .before in
+    let start = came .before .before .before in
+    let known = came .before .before .shared-slice-known in
+    let a = start .args in
+    let octets = octets-known (a .octets .now) (known .given) in
+    jumped _ (sound-rules _) _ _ _ _ _ _
+    (to-header _ (sound-rules _) _ _ _ _ (start .pre .1) octets (start .pre .0) _
+    (came .through .ensures) (c .before .before .if2 .taken) (c .if3 .left)) _ refl
+
+returns-4 : tie.Need-returns-4
+returns-4 c =
+    let came = c .before .before .before .before .before .before .before in
+    let start = came .before .before .before in
+    let known = came .before .before .shared-slice-known in
+    let a = start .args in
+    let octets = octets-known (a .octets .now) (known .given) in
+    jumped _ (sound-rules _) _ _ _ _ _ _
+    (to-refusal _ (sound-rules _) _ _ _ _ (start .pre .1) octets (start .pre .0) _
+    (came .through .ensures) (c .before .before .if1 .left) (c .if2 .left)) _ (add-assoc (a .i) _ 1)
+
+pub by-turns-spec : {M : Type 1} → statement M
+by-turns-spec =
+    tie.close
+    (tie.spec
+    sub-through
+    part-through-start
+    part-through-end
+    through-requires
+    cast-gone
+    add-gone
+    add-place
+    shared-slice-read-x
+    at-header-requires
+    add-t26
+    add-t30
+    returns
+    returns-2
+    returns-3
+    returns-4)

@@ -1,0 +1,56 @@
+-- `reader::text_of` meets its contract: one kind of value after the other.
+-- Assumes nothing.
+use Rattle.reader.specs.Read.{textLong}
+use borrow.Author.Needs.{needs}
+use Rattle.reader.proofs.text_of.Statement.{statement}
+use Rattle.reader.proofs.text_of.Tie as tie
+
+enum-told : tie.Need-enum-told
+enum-told c = search needs
+
+enum-told-2 : tie.Need-enum-told-2
+enum-told-2 c = search needs
+
+enum-told-3 : tie.Need-enum-told-3
+enum-told-3 c = search needs
+
+enum-known-v : tie.Need-enum-known-v
+enum-known-v c = search needs
+
+enum-known-v-2 : tie.Need-enum-known-v-2
+enum-known-v-2 c = search needs
+
+returns : tie.Need-returns
+unfolding textLong
+returns c = rw (c .enum-told .given .1)
+
+returns-2 : tie.Need-returns-2
+unfolding textLong
+returns-2 c = rw (c .enum-told2 .given .1)
+
+returns-3 : tie.Need-returns-3
+unfolding textLong
+returns-3 c = rw (c .enum-told3 .given .1)
+
+returns-4 : tie.Need-returns-4
+unfolding textLong
+returns-4 c = rw (c .before .v .given .1)
+
+returns-5 : tie.Need-returns-5
+unfolding textLong
+returns-5 c = rw (c .before .v2 .given .1)
+
+pub text-of-spec : {M : Type 1} → statement M
+text-of-spec =
+    tie.close
+    (tie.spec
+    enum-told
+    enum-told-2
+    enum-told-3
+    enum-known-v
+    enum-known-v-2
+    returns
+    returns-2
+    returns-3
+    returns-4
+    returns-5)

@@ -1,0 +1,206 @@
+-- How many octets of contents may stand where they stand: never more than there are, and all exactly where each
+-- passes. A text is gone along octet by octet, a date pair by pair; where only the first octet is judged, it decides.
+-- Assumes nothing.
+use Prim.Native.Nat.{ℕ, zero, suc, _+_, _-_, _≤_, _<_}
+use mathlib.Core.Path.{_≡_, refl, sym, _∙_, ap, ap₂}
+use mathlib.Core.Bool.{Bool, true, false}
+use mathlib.Core.List.{List, [], _∷_}
+use native.Mathlib.Numerals.{add-one}
+use native.Mathlib.Omega.{arith}
+use lib.ListN.{length, drop, getD, length-drop, drop-of-length-le}
+use lib.Seq.{drop-cons, drop-drop}
+use Rattle.rules.specs.Tests.{_≤?_, _=?_, _and_, pick}
+use Rattle.rules.specs.Octets.{Octets}
+use Rattle.rules.specs.Contents.{Range, within, inSet, digit}
+use Rattle.rules.specs.ContentJudge.{Judge, passes, passing, tensFit, onesFit, pairAt, pairStands, columnAt, pairsJudge, columnsJudge, textJudge, fitsFrom, goodFront}
+use Rattle.rules.proofs.Octets.{octets-drop}
+use Rattle.rules.proofs.Tests.{both, eq-of, of-eq, le-of, of-le, pick-yes, pick-not}
+use Rattle.rules.proofs.Returns.{T-of, yes-eq, no-eq, same-truth}
+use Rattle.rules.proofs.AtIndex.{anyColumns, any-columns, pair-late}
+use Rattle.rules.specs.declared.Class.{Class}
+
+-- ---- any judge
+module _ (j : Judge) (n : ℕ) where
+  pub passing-most : (i m : ℕ) (v : List ℕ) → passing j n i m v ≤ length v
+  unfolding passing pick
+  passing-most i m [] = omega arith
+  passing-most i m (x ∷ v) = go (j .ok n i m x) (passing-most (suc i) (j .keep n i m x) v)
+    where
+      go : (b : Bool) {k : ℕ} → k ≤ length v → pick b (suc k) 0 ≤ suc (length v)
+      go true h = omega arith
+      go false h = omega arith
+
+  -- all may stand exactly where each passes
+  pub passing-all : (i m : ℕ) (v : List ℕ) → (passing j n i m v =? length v) ≡ passes j n i m v
+  unfolding passing passes pick _and_
+  passing-all i m [] = yes-eq 0 0 refl
+  passing-all i m (x ∷ v) = go (j .ok n i m x) _ (passing-all (suc i) (j .keep n i m x) v)
+    where
+      go : (b : Bool) (k : ℕ) {p : Bool} → (k =? length v) ≡ p → (pick b (suc k) 0 =? suc (length v)) ≡ (b and p)
+      go true k e =
+          same-truth (suc k =? suc (length v)) (k =? length v)
+          (λ t. of-eq _ _ (let q = eq-of _ _ t in omega arith)) (λ t. of-eq _ _ (ap suc (eq-of _ _ t))) ∙ e
+      go false k e = no-eq 0 (suc (length v)) (λ q. omega arith)
+
+  -- where any octet may stand from an index on, all do
+  pub any-stand : (k : ℕ) → ((i m x : ℕ) → k ≤ i → x < 256 → true ≡ j .ok n i m x) → (i m : ℕ) (v : List ℕ) → k ≤ i →
+      Octets v → length v ≡ passing j n i m v
+  unfolding passing pick
+  any-stand k f i m [] h o = refl
+  any-stand k f i m (x ∷ v) h o = rw (← f i m x h (o .0)) (ap suc (any-stand k f (suc i) _ v (omega arith) (o .1)))
+
+  pub none-stand : (i m : ℕ) (v : List ℕ) → length v ≡ 0 → 0 ≡ passing j n i m v
+  none-stand i m v e = omega (arith, passing-most i m v)
+
+-- ---- contents of a class
+module _ (c : Class) (v : List ℕ) where
+  pub good-front-most : goodFront c v ≤ length v
+  good-front-most = passing-most _ _ 0 0 v
+
+  pub fits-iff : (goodFront c v =? length v) ≡ fitsFrom c (length v) 0 0 v
+  fits-iff = passing-all _ _ 0 0 v
+
+  pub stands-all : goodFront c v ≡ length v → fitsFrom c (length v) 0 0 v ≡ true
+  stands-all e = sym fits-iff ∙ yes-eq _ _ e
+
+  pub all-stand : fitsFrom c (length v) 0 0 v ≡ true → goodFront c v ≡ length v
+  all-stand e = eq-of _ _ (T-of _ (fits-iff ∙ e))
+
+-- ---- a text: the octets before i are of the set, so those from i on decide
+unfoldable pub TextSoFar : List Range → List ℕ → ℕ → Type 0
+TextSoFar s v i = i + passing (textJudge s) (length v) i 0 (drop i v) ≡ passing (textJudge s) (length v) 0 0 v
+
+pub text-starts : (s : List Range) (v : List ℕ) → TextSoFar s v 0
+unfolding TextSoFar
+text-starts s v = omega arith
+
+module _ (s : List Range) (v : List ℕ) (i : ℕ) (inv : TextSoFar s v i) where
+  pub text-ends : length v ≤ i → i ≡ passing (textJudge s) (length v) 0 0 v
+  unfolding TextSoFar
+  text-ends h = omega (arith, passing-most (textJudge s) (length v) i 0 (drop i v), length-drop i v)
+
+  module _ (h : i < length v) where
+    here : passing (textJudge s) (length v) i 0 (drop i v) ≡
+        pick (inSet s (getD v i 0)) (suc (passing (textJudge s) (length v) (suc i) 0 (drop (suc i) v))) 0
+    unfolding passing
+    here = ap (passing (textJudge s) (length v) i 0) (drop-cons v i 0 h)
+
+    pub text-goes : inSet s (getD v i 0) ≡ true → TextSoFar s v (i + 1)
+    unfolding TextSoFar
+    text-goes e = let q = here ∙ pick-yes _ _ _ (T-of _ e) in rw (add-one i) (omega arith)
+
+    pub text-stops : inSet s (getD v i 0) ≡ false → i ≡ passing (textJudge s) (length v) 0 0 v
+    unfolding TextSoFar
+    text-stops e = let q = here ∙ pick-not _ _ _ (λ t. rw e at t) in omega arith
+
+-- ---- columns of which only the first is narrow
+behind : (k : ℕ) (s : List Range) (i x : ℕ) → 1 ≤ i → x < 256 → true ≡ columnAt (s ∷ anyColumns k) i x
+unfolding columnAt
+behind k s zero x h l = absurd (omega arith)
+behind k s (suc i) x h l = any-columns k i x l
+
+pub by-first : (k : ℕ) (s : List Range) (v : List ℕ) (o : Bool) (r : ℕ) → (length v ≡ 0 → ⊥) → Octets v →
+    o ≡ inSet s (getD v 0 0) → r ≡ pick o (length v) 0 →
+    r ≡ passing (columnsJudge (s ∷ anyColumns k)) (length v) 0 0 v
+unfolding passing columnAt
+by-first k s [] o r z f p q = absurd (z refl)
+by-first k s (x ∷ v) o r z f p q =
+    q ∙ ap₂ (λ (b : Bool) (l : ℕ). pick b (suc l) 0) p
+    (any-stand (columnsJudge (s ∷ anyColumns k)) _ 1 (λ i m x h l. behind k s i x h l) 1 0 v (omega arith) (f .1))
+
+-- ---- a date
+module _ (n : ℕ) where
+  -- the digits of a pair have no part in the next
+  fresh : (rs : List Range) (m : ℕ) (v : List ℕ) →
+      passing (pairsJudge rs) n 0 m v ≡ passing (pairsJudge rs) n 0 0 v
+  unfolding passing pairAt
+  fresh rs m [] = refl
+  fresh [] m (x ∷ v) = refl
+  fresh (r ∷ rs) m (x ∷ v) = refl
+
+  later : (r : Range) (rs : List Range) (i m : ℕ) (v : List ℕ) →
+      passing (pairsJudge (r ∷ rs)) n (suc (suc i)) m v ≡ passing (pairsJudge rs) n i m v
+  unfolding passing pairAt
+  later r rs i m [] = refl
+  later r rs i m (x ∷ v) =
+      ap (λ (k : ℕ). pick (pairAt rs i m x) (suc k) 0) (later r rs (suc i) (x - 48) v)
+
+  -- the next pair is judged where both digits of this one may stand
+  pair-first : (r : Range) (rs : List Range) (v : List ℕ) → passing (pairsJudge (r ∷ rs)) n 0 0 v ≡
+      pick (2 ≤? pairStands r v) (suc (suc (passing (pairsJudge rs) n 0 0 (drop 2 v)))) (pairStands r v)
+  unfolding passing pairAt pairStands pick _≤?_
+  pair-first r rs [] = refl
+  pair-first r rs (a ∷ []) = one (tensFit r a)
+    where
+      one : (t : Bool) → pick t 1 0 ≡
+          pick (2 ≤? pick t 1 0) (suc (suc (passing (pairsJudge rs) n 0 0 []))) (pick t 1 0)
+      one true = refl
+      one false = refl
+  pair-first r rs (a ∷ b ∷ v) =
+      two (tensFit r a) (onesFit r (a - 48) b) (later r rs 0 (b - 48) v ∙ fresh rs (b - 48) v)
+    where
+      two : (t o : Bool) {k l : ℕ} → k ≡ l → pick t (suc (pick o (suc k) 0)) 0 ≡
+          pick (2 ≤? pick t (pick o 2 1) 0) (suc (suc l)) (pick t (pick o 2 1) 0)
+      two true true e = ap (λ (k : ℕ). suc (suc k)) e
+      two true false e = refl
+      two false true e = refl
+      two false false e = refl
+
+  -- a pair at a place, of which so much stands that the code has come to got
+  module _ (v : List ℕ) (r : Range) (rs : List Range) (at got : ℕ) (e : got ≡ at + pairStands r (drop at v)) where
+    pub pair-stops : got < at + 2 → got ≡ at + passing (pairsJudge (r ∷ rs)) n 0 0 (drop at v)
+    pair-stops h =
+        let q = pair-first r rs (drop at v) ∙ pick-not _ _ _ (λ t. omega (arith, le-of _ _ t)) in
+        omega arith
+
+    pub pair-goes : at + 2 ≤ got → at + 2 + passing (pairsJudge rs) n 0 0 (drop (at + 2) v) ≡
+        at + passing (pairsJudge (r ∷ rs)) n 0 0 (drop at v)
+    pair-goes h =
+        let q = pair-first r rs (drop at v) ∙ pick-yes _ _ _ (of-le _ _ (omega arith)) in
+        rw (← drop-drop 2 at v) (omega arith)
+
+  -- behind the last pair any octet may stand
+  pub pair-ends : (v : List ℕ) (r : Range) (at got : ℕ) → Octets v → got ≡ at + pairStands r (drop at v) →
+      at + 2 ≤ got → length v ≡ at + passing (pairsJudge (r ∷ [])) n 0 0 (drop at v)
+  pair-ends v r at got o e h =
+      let a = any-stand (pairsJudge []) n 0 (λ i m x h l. pair-late [] i m x (omega arith) l) 0 0 (drop (at + 2) v)
+      (omega arith) (octets-drop (at + 2) v o) in
+      omega (
+        arith,
+        pair-goes v r [] at got e h,
+        passing-most (pairsJudge (r ∷ [])) n 0 0 (drop at v),
+        length-drop at v,
+        length-drop (at + 2) v,
+      )
+
+-- ---- a pair in the code: none, one or two octets from a place on
+pub tens-digit : (r : Range) (x : ℕ) → tensFit r x ≡ true → 48 ≤ x
+unfolding tensFit digit within
+tens-digit r x e = le-of _ _ (both _ _ (both _ _ (T-of _ e) .0) .0)
+
+wrong-first : (r : Range) (x : ℕ) (w : List ℕ) → tensFit r x ≡ false → pairStands r (x ∷ w) ≡ 0
+unfolding pairStands pick
+wrong-first r x [] e = rw e
+wrong-first r x (y ∷ w) e = rw e
+
+module _ (r : Range) (v : List ℕ) (at : ℕ) where
+  pub none-left : length v ≤ at → at ≡ at + pairStands r (drop at v)
+  unfolding pairStands
+  none-left h = rw (drop-of-length-le v h) (omega arith)
+
+  module _ (h : at < length v) where
+    cut : drop at v ≡ getD v at 0 ∷ drop (at + 1) v
+    cut = rw (add-one at) (drop-cons v at 0 h)
+
+    pub wrong-tens : tensFit r (getD v at 0) ≡ false → at ≡ at + pairStands r (drop at v)
+    wrong-tens e = rw (cut, wrong-first r _ _ e) (omega arith)
+
+    module _ (e : tensFit r (getD v at 0) ≡ true) where
+      pub one-left : length v ≤ at + 1 → at + 1 ≡ at + pairStands r (drop at v)
+      unfolding pairStands pick
+      one-left l = rw (cut, drop-of-length-le v l, e)
+
+      pub two-left : at + 1 < length v → (o : Bool) → onesFit r (getD v at 0 - 48) (getD v (at + 1) 0) ≡ o →
+          at + pick o 2 1 ≡ at + pairStands r (drop at v)
+      unfolding pairStands pick
+      two-left l o q = rw (cut, drop-cons v (at + 1) 0 l, e, q)

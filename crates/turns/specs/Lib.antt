@@ -1,0 +1,2 @@
+-- The root of what is promised of parameters in turn.
+pub mod Turns
