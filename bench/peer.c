@@ -18,6 +18,7 @@ static const uint8_t class_of[256] = {
 static const uint8_t least[11] = {1, 8, 1, 1, 1, 1, 3, 1, 1, 1, 1};
 static const uint8_t most[11] = {253, 8, 20, 1, 50, 1, 3, 1, 1, 1, 1};
 static const uint8_t from[4] = {1, 1, 0, 0}, to[4] = {12, 31, 23, 59};
+static const uint8_t days[13] = {31, 31, 29, 31, 30, 31, 30, 31, 31, 30, 31, 30, 31};
 
 static uint64_t word(unsigned number, unsigned place, unsigned size, size_t taken) {
     return number | (uint64_t)place << 8 | (uint64_t)size << 24 | (uint64_t)taken << 40;
@@ -79,10 +80,24 @@ static int room_left(unsigned n, unsigned room) { return room == n + 2 || room >
 
 static int possible(unsigned c, unsigned room) { return room >= least[c] + 2u && (room <= most[c] + 2u || room >= least[c] + 5u); }
 
+/* document 02, Q-2: the days of a month; what is no month has 31 */
+static unsigned days_in(unsigned month) { return month <= 12 ? days[month] : 31; }
+
+/* of a date the tens of the month are remembered, then its days, then what is left of them from the tens of the day on;
+ * after that the last digit */
+static unsigned remember(unsigned index, unsigned memory, unsigned x) {
+    unsigned v = x >= '0' ? x - '0' : 0;
+    if (index == 1) return days_in(10 * memory + v);
+    if (index == 2) return 10 * v <= memory ? memory - 10 * v : 0;
+    return v;
+}
+
 static int date_octet(const struct state *s, unsigned x) {
     if (s->index >= 8) return 1;
     unsigned pair = s->index >> 1, v = x - '0';
     if (v > 9) return 0;
+    if (s->index == 2) return 10 * v <= s->memory;
+    if (s->index == 3) return v <= s->memory && (s->memory <= 21 || v > 0);
     if (s->index & 1) return among(from[pair], to[pair], 10 * s->memory + v);
     return from[pair] <= 10 * v + 9 && 10 * v <= to[pair];
 }
@@ -136,7 +151,7 @@ static unsigned judge(struct state *s, unsigned x) {
         return 0;
     default:
         if (!content_octet(s, x)) return 5;
-        s->memory = s->class == DATE && x >= '0' ? x - '0' : 0;
+        s->memory = s->class == DATE ? remember(s->index, s->memory, x) : 0;
         s->index++;
         at_content(s);
         return 0;

@@ -176,7 +176,7 @@ int main(int argc, char **argv)
     anthercup_new_desk(a, sizeof a);
     tuned_new_desk(b, sizeof b);
     for (int i = 0; i < MESSAGES; i++) {
-        size_t n = traffic_next(&t, o);
+        size_t n = i % 8 ? traffic_next(&t, o) : traffic_dated(&t, o);
 
         one_message(&t, a, b, o, n);
         for (int k = 0; k < 5; k++)

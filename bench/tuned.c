@@ -127,17 +127,58 @@ static int possible(struct rule c, unsigned room)
     return over <= c.span || over - 3 < 253;
 }
 
+/* The days of a month (document 02, Q-2); what is no month has 31. */
+static unsigned days_in(unsigned month)
+{
+    static const uint8_t days[13] = {31, 31, 29, 31, 30, 31, 30,
+                                     31, 31, 30, 31, 30, 31};
+    return month <= 12 ? days[month] : 31;
+}
+
 static int date_octet(unsigned index, unsigned memory, unsigned x)
 {
-    static const uint8_t from[4] = {1, 1, 0, 0}, to[4] = {12, 31, 23, 59};
-    unsigned pair = index >> 1, v = x - '0';
-    if (index >= 8)
+    unsigned v = x - '0';
+    switch (index) {
+    case 0:
+        return v <= 1;
+    case 1:
+        return v <= 9 && 10 * memory + v - 1 <= 11;
+    case 2:
+        return v <= 9 && 10 * v <= memory;
+    case 3:
+        return v <= 9 && v <= memory && (memory <= 21 || v);
+    case 4:
+        return v <= 2;
+    case 5:
+        return v <= 9 && 10 * memory + v <= 23;
+    case 6:
+        return v <= 5;
+    case 7:
+        return v <= 9 && 10 * memory + v <= 59;
+    default:
         return 1;
-    if (v > 9)
-        return 0;
-    if (index & 1)
-        return 10 * memory + v - from[pair] <= (unsigned)to[pair] - from[pair];
-    return from[pair] <= 10 * v + 9 && 10 * v <= to[pair];
+    }
+}
+
+/* What is remembered of a date behind the octet x at `index`: the tens of the
+ * month, its days, what is left of them from the tens of the day on; after that
+ * the last digit. */
+static unsigned remember(unsigned index, unsigned memory, unsigned x)
+{
+    unsigned v = x >= '0' ? x - '0' : 0;
+    if (index == 1)
+        return days_in(10 * memory + v);
+    if (index == 2)
+        return 10 * v <= memory ? memory - 10 * v : 0;
+    return v;
+}
+
+static unsigned remember_all(const uint8_t *p, const uint8_t *end,
+                             unsigned index, unsigned memory)
+{
+    while (p < end)
+        memory = remember(index++, memory, *p++);
+    return memory;
 }
 
 /* The first place from p on whose octet may not stand there, or the end; the
@@ -153,9 +194,9 @@ static const uint8_t *fine(struct rule c, const uint8_t *p, const uint8_t *end,
     }
     if (c.form == DATE_VALUE) {
         for (; p < end; p++) {
-            if (!date_octet(index++, memory, *p))
+            if (!date_octet(index, memory, *p))
                 break;
-            memory = *p >= '0' ? *p - '0' : 0;
+            memory = remember(index++, memory, *p);
         }
         return p;
     }
@@ -234,6 +275,8 @@ static uint64_t run_on(uint8_t *r, uint64_t low, unsigned room,
         number = 5;
         stop = (size_t)(end - p) < length - index ? end : p + (length - index);
         good = fine(rules[class], p, stop, index, memory);
+        if (class == DATE)
+            memory = remember_all(p, good, index, memory);
         index += (unsigned)(stop - p);
         p = good;
         if (good < stop)
@@ -287,8 +330,6 @@ static uint64_t run_on(uint8_t *r, uint64_t low, unsigned room,
            room);
     return word(0, 0, 0, count);
 cut:
-    if (class == DATE && index)
-        memory = p[-1] >= '0' ? p[-1] - '0' : 0;
     record(r,
            CONTENT | (uint64_t)sum_of(o, p, sum) << 8
                | (uint64_t)(place + count) << 16 | (uint64_t) class << 32
@@ -359,7 +400,7 @@ uint64_t tuned_listen(uint8_t *r, size_t size, const uint8_t *o, size_t count)
         if (r[4] == DATE) {
             if (!date_octet(r[6], r[7], x))
                 return refused(r, 5, place, 1);
-            r[7] = (uint8_t)(x >= '0' ? x - '0' : 0);
+            r[7] = (uint8_t)remember(r[6], r[7], x);
         } else {
             struct rule c = rules[r[4]];
             if (c.kinds && (r[6] == 0 || c.form == TEXT_VALUE)

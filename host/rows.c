@@ -37,6 +37,11 @@ static const struct row {
     {"800404", 3, 2, 0},
     {"800405", 0, 0, 0},
     {"80030500", 4, 3, 0},
+    /* document 02, Q-2: a 3 in February, a 31 April, a 29 February cut behind the day and whole */
+    {"800A0108303233", 5, 6, 0},
+    {"800A010830343331", 5, 7, 0},
+    {"800A010830323239", 0, 0, 0},
+    {"800A01083032323930303030E0", 0, 0, 13},
 };
 
 static unsigned long compared;

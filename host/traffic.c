@@ -3,7 +3,8 @@
  * call, and records of random octets are refused with 17 as they were, or are stepped. Each is read whole, with areas on both sides of what its texts need
  * and records of other sizes: every entry, every text and all that must stay.
  * Where what counts stands is asked for some types, and the caption with directories of many kinds. Each is settled on a desk, twice, and so is a history of messages about a few
- * references, of which the last word on each is kept here too. Says how many answers it compared; a difference ends it with status 1. */
+ * references, of which the last word on each is kept here too. Messages with dates at the limits of their months
+ * follow. Says how many answers it compared; a difference ends it with status 1. */
 #include <stdio.h>
 #include <stdlib.h>
 #include <string.h>
@@ -287,6 +288,42 @@ static void history(struct traffic *t, long messages) {
     printf("history: %ld messages about references, %lu of them without a place\n", messages, full);
 }
 
+/* one message through everything; every eighth octet by octet too */
+static void one_message(struct traffic *t, const uint8_t *o, size_t n, uint8_t *desk, long i) {
+    struct second_answer whole = second_listen(o, n);
+    struct second_draft s;
+    in_runs(t, o, n, whole, 0);
+    in_runs(t, o, n, whole, 40);
+    if (i % 8 == 0) in_runs(t, o, n, whole, 1);
+    any_record(t);
+    reads(t, o, n);
+    counts(t, o, n, second_read(o, n, ANTHERCUP_TEXTS_OCTETS, &s));
+    caption(t, o, n);
+    settles(o, n, desk);
+    any_desk(t, o, n);
+    if (i % 64 == 0) anthercup_new_desk(desk, ANTHERCUP_DESK_OCTETS);
+}
+
+/* messages with dates at the limits of their months and beside them; some must be taken, and some spoilt at each of
+ * the day's two digits */
+static void dated(struct traffic *t, long messages) {
+    uint8_t o[TRAFFIC_OCTETS], desk[ANTHERCUP_DESK_OCTETS];
+    unsigned long taken = 0, spoilt[2] = {0, 0};
+    anthercup_new_desk(desk, sizeof desk);
+    for (long i = 0; i < messages; i++) {
+        size_t n = traffic_dated(t, o), date = 0;
+        struct second_answer s = second_listen(o, n);
+        one_message(t, o, n, desk, i);
+        if (s.answer == SECOND_MESSAGE) taken++;
+        if (s.number != 5) continue;
+        for (size_t place = 2; place < s.place; place += 2u + o[place + 1]) date = place;
+        if (s.place == date + 4 || s.place == date + 5) spoilt[s.place - date - 4]++;
+    }
+    if (!taken || !spoilt[0] || !spoilt[1]) differ("dated: no message on one side of a day", o, 0, 0, 1);
+    printf("dated: %ld messages with dates at limits, %lu taken, %lu and %lu spoilt at a day's two digits\n", messages,
+           taken, spoilt[0], spoilt[1]);
+}
+
 int main(int argc, char **argv) {
     struct traffic t;
     uint8_t o[TRAFFIC_OCTETS], desk[ANTHERCUP_DESK_OCTETS];
@@ -295,21 +332,11 @@ int main(int argc, char **argv) {
     anthercup_new_desk(desk, sizeof desk);
     for (long i = 0; i < messages; i++) {
         size_t n = traffic_next(&t, o);
-        struct second_answer whole = second_listen(o, n);
-        in_runs(&t, o, n, whole, 0);
-        in_runs(&t, o, n, whole, 40);
-        if (i % 8 == 0) in_runs(&t, o, n, whole, 1);
-        any_record(&t);
-        reads(&t, o, n);
-        struct second_draft s;
-        counts(&t, o, n, second_read(o, n, ANTHERCUP_TEXTS_OCTETS, &s));
-        caption(&t, o, n);
-        settles(o, n, desk);
-        any_desk(&t, o, n);
-        if (i % 64 == 0) anthercup_new_desk(desk, sizeof desk);
+        one_message(&t, o, n, desk, i);
     }
     if (by_line == 0) differ("caption: no line of a directory", o, 0, 0, 1);
     history(&t, messages / 4);
+    dated(&t, messages / 8);
     printf("traffic: %ld messages, %lu answers as the second reader has them\n", messages, compared);
     return 0;
 }

@@ -185,8 +185,9 @@ static inline int anthercup_listen_waits(uint64_t answer)
  *            forwarded, 10 calling user
  *    5, 6    with 4 the length of the contents, and the index of the octet to
  *            come
- *    7       with 4 what is remembered of the contents: of a date the last
- *            digit heard, else 0
+ *    7       with 4 what is remembered of the contents: of a date the tens of
+ *            the month; then its days; then how many of them are left from the
+ *            tens of the day on; after the day the last digit heard; else 0
  *    8       the room: with 2 what is left of the message's length, with 3 what
  *            was left as the parameter began, its type counted, with 4 what is
  *            left behind these contents

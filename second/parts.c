@@ -15,6 +15,7 @@
 #define MESSAGES 420
 #define CALLERS 140
 #define LONGEST 4
+#define DATED 60
 #define SHORT 48
 #define LONG_EVERY 16
 #define DIRECTORY 200
@@ -226,6 +227,17 @@ static const struct {
      "read 82 2 0\n13 0 2 0 0 0\n13 0 5 0 0 0\n" TWICE(WRITTEN("9", "same"))
      "room 0: texts 0\nstep 13 4 1\nstep 13 7 1\nstep none\nstep none\n"
      "begins 2\nfind message 0 0\ncaption 0=\n"},
+    /* 02, Q-2: 29 February, 30 February and 31 April */
+    {"80 0A 01 08 30 32 32 39 30 30 30 30 E0", "", 0,
+     "read 80 1 0\n01 1 2 29 0 0\n" TWICE(WRITTEN("13", "same"))
+     "room 0: texts 0\nstep 01 4 8\nstep none\nstep none\nbegins 1\n"
+     "find message 0 0\ncaption 0=\n"},
+    {"80 0A 01 08 30 32 33 30 30 30 30 30 E8", "", 0,
+     "read 5 at 6\nroom 0: 5 at 6\n" TWICE("step 5 at 6\n")
+     "begins 0\nfind 5 at 6\ncaption 7=\n"},
+    {"80 0A 01 08 30 34 33 31 30 30 30 30 E5", "", 0,
+     "read 5 at 7\nroom 0: 5 at 7\n" TWICE("step 5 at 7\n")
+     "begins 0\nfind 5 at 7\ncaption 7=\n"},
 };
 
 /* the octets of "80 0B 01" */
@@ -376,6 +388,10 @@ static void put_messages(void)
         if (n != 258 || !second_is_message(o, n))
             continue;
         kept++;
+        put_traffic(&t, o, n);
+    }
+    for (kept = 0; kept < DATED; kept++) {
+        size_t n = traffic_dated(&t, o);
         put_traffic(&t, o, n);
     }
 }

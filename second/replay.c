@@ -1,8 +1,9 @@
 /*
  * Writes what the program `replay` reads and what it must print: seeded
- * traffic, then some accepted messages with one wrong octet at every place;
- * each message behind its length in two octets, and the second reader's
- * listing of each. Usage: replay MESSAGES LISTINGS
+ * traffic, then some accepted messages with one wrong octet at every place,
+ * then both again with dates at the limits of their months; each message
+ * behind its length in two octets, and the second reader's listing of each.
+ * Usage: replay MESSAGES LISTINGS
  */
 #include <stdio.h>
 #include <string.h>
@@ -15,6 +16,9 @@
 #define SHORT 40
 #define LONG_EVERY 40
 #define SPOILT 12
+#define DATED 400
+#define DATED_SPOILT 8
+#define DATE_ALONE 13
 
 static FILE *messages, *listings;
 
@@ -62,6 +66,17 @@ int main(int argc, char **argv)
     for (kept = 0; kept < SPOILT;) {
         size_t n = traffic_next(&t, o);
         if (n > SHORT || !second_is_message(o, n))
+            continue;
+        kept++;
+        put_spoilt(o, n);
+    }
+    for (kept = 0; kept < DATED; kept++) {
+        size_t n = traffic_dated(&t, o);
+        put(o, n);
+    }
+    for (kept = 0; kept < DATED_SPOILT;) {
+        size_t n = traffic_dated(&t, o);
+        if (n != DATE_ALONE || !second_is_message(o, n))
             continue;
         kept++;
         put_spoilt(o, n);

@@ -1,7 +1,8 @@
 /*
  * Writes what the program `rows` reads and what it must print: the rows of
- * 01's table and those of the other books, whose outcomes stand here by hand,
- * and both sides of every limit, with what the second reader says. Each case
+ * 01's table, of 02's calendar (Q-2) and of the other books, whose outcomes
+ * stand here by hand, and both sides of every limit, with what the second
+ * reader says; of the calendar's limits the places stand here too. Each case
  * is octets behind their length in two octets, whose two upper bits are the
  * book. Usage: rows CASES LINES
  */
@@ -105,6 +106,51 @@ static const char *const table[][2] = {
      "| read size 20"},
 };
 
+/* ---- 02, Q-2: the day exists in its month ---- */
+
+static const char *const calendar_table[][2] = {
+    /* in February a 3 spoils the message, and 29 is a day of it */
+    {"80 0A 01 08 30 32 33",
+     "refused=5 at=6 | L 5 at 6, took 7 | read 5 at 6"},
+    {"80 0A 01 08 30 32 32 39",
+     "refused=8 at=8 | L waits, took 8 | read 8 at 8"},
+    {"80 0A 01 08 30 32 32 39 30 30 30 30 E0",
+     "kind=call time=02-29 00:00 carried=0 | L size 13, took 13 | "
+     "read size 13"},
+    {"80 0A 01 08 30 32 33 30 30 30 30 30 E8",
+     "refused=5 at=6 | L 5 at 6, took 7 | read 5 at 6"},
+    {"80 0A 01 08 30 32 30 30",
+     "refused=5 at=7 | L 5 at 7, took 8 | read 5 at 7"},
+    /* in April a 3 does not, but a 1 after it does */
+    {"80 0A 01 08 30 34 33",
+     "refused=8 at=7 | L waits, took 7 | read 8 at 7"},
+    {"80 0A 01 08 30 34 33 31",
+     "refused=5 at=7 | L 5 at 7, took 8 | read 5 at 7"},
+    {"80 0A 01 08 30 34 33 30 32 33 35 39 D3",
+     "kind=call time=04-30 23:59 carried=0 | L size 13, took 13 | "
+     "read size 13"},
+    {"80 0A 01 08 30 34 33 31 32 33 35 39 D2",
+     "refused=5 at=7 | L 5 at 7, took 8 | read 5 at 7"},
+    /* in January neither does */
+    {"80 0A 01 08 30 31 33 31",
+     "refused=8 at=8 | L waits, took 8 | read 8 at 8"},
+    {"80 0A 01 08 30 31 33 32",
+     "refused=5 at=7 | L 5 at 7, took 8 | read 5 at 7"},
+    {"80 0A 01 08 30 31 30 30",
+     "refused=5 at=7 | L 5 at 7, took 8 | read 5 at 7"},
+    /* the month bears on its own day alone: not on the hour, the minute, a
+     * number or the next date */
+    {"82 18 01 08 30 32 32 39 32 33 33 31 02 02 33 31 "
+     "01 08 30 31 33 31 30 33 33 31 CA",
+     "kind=notice time=02-29 23:31 caller=31 carried=0 | L size 27, took 27 | "
+     "read size 27"},
+    {"82 14 01 08 30 31 33 31 30 33 33 31 01 08 30 32 33",
+     "refused=5 at=16 | L 5 at 16, took 17 | read 5 at 16"},
+    /* a date that does not count is judged too */
+    {"80 14 01 08 30 34 33 30 30 30 30 30 01 08 30 34 33 31",
+     "refused=5 at=17 | L 5 at 17, took 18 | read 5 at 17"},
+};
+
 /* ---- The other books: 1 the present edition with unlisted types refused, 2
  * the old edition (source 001), 3 the old one with unlisted types refused. The
  * second reader does not know them: number and place stand here by hand, 0
@@ -134,6 +180,31 @@ static const struct {
     {1, "80 03 16 01 01", 0, 0},
     {1, "82 03 13 01 02 65", SIZE, 0},
     {1, "82 03 13 01 02 66", 6, 5},
+    /* dates by the calendar (02, Q-2) in every book */
+    {1, "80 0A 01 08 30 32 32 39", 0, 0},
+    {1, "80 0A 01 08 30 32 33", 5, 6},
+    {1, "80 0A 01 08 30 34 33 30", 0, 0},
+    {1, "80 0A 01 08 30 34 33 31", 5, 7},
+    {1, "80 0A 01 08 31 32 33 31", 0, 0},
+    {1, "80 0A 01 08 31 32 33 32", 5, 7},
+    {1, "80 0A 01 08 30 32 30 30", 5, 7},
+    {1, "80 0A 01 08 30 32 32 39 30 30 30 30 E0", SIZE, 0},
+    {2, "80 0A 01 08 30 32 32 39", 0, 0},
+    {2, "80 0A 01 08 30 32 33", 5, 6},
+    {2, "80 0A 01 08 30 34 33 30", 0, 0},
+    {2, "80 0A 01 08 30 34 33 31", 5, 7},
+    {2, "80 0A 01 08 31 32 33 31", 0, 0},
+    {2, "80 0A 01 08 31 32 33 32", 5, 7},
+    {2, "80 0A 01 08 30 32 30 30", 5, 7},
+    {2, "80 0A 01 08 30 32 32 39 30 30 30 30 E0", SIZE, 0},
+    {3, "80 0A 01 08 30 32 32 39", 0, 0},
+    {3, "80 0A 01 08 30 32 33", 5, 6},
+    {3, "80 0A 01 08 30 34 33 30", 0, 0},
+    {3, "80 0A 01 08 30 34 33 31", 5, 7},
+    {3, "80 0A 01 08 31 32 33 31", 0, 0},
+    {3, "80 0A 01 08 31 32 33 32", 5, 7},
+    {3, "80 0A 01 08 30 32 30 30", 5, 7},
+    {3, "80 0A 01 08 30 32 32 39 30 30 30 30 E0", SIZE, 0},
     /* numbers of 1 to 18 digits */
     {2, "80 03 02 00", 4, 3},
     {2, "80 14 02 12", 0, 0},
@@ -357,6 +428,77 @@ static void limits(void)
     }
 }
 
+/* ---- 02, Q-2: every month's days ---- */
+
+/* By month: its last day and the day after, and the octet of the message that
+ * spoils the day after. */
+static const struct {
+    const char *last, *after;
+    size_t spoilt;
+} months[] = {
+    {"0131", "0132", 7}, {"0229", "0230", 6}, {"0331", "0332", 7},
+    {"0430", "0431", 7}, {"0531", "0532", 7}, {"0630", "0631", 7},
+    {"0731", "0732", 7}, {"0831", "0832", 7}, {"0930", "0931", 7},
+    {"1031", "1032", 7}, {"1130", "1131", 7}, {"1231", "1232", 7},
+};
+
+/* The first n octets of a call message with this date and its right sum; the
+ * octet at `spoilt` spoils it, none if that is 0 or not among them. */
+static void date_case(const char *month_day, const char *hour_minute, size_t n,
+                      size_t spoilt)
+{
+    uint8_t o[13] = {0x80, 0x0A, 0x01, 0x08};
+    struct second_answer heard;
+    unsigned sum = 0;
+
+    memcpy(o + 4, month_day, 4);
+    memcpy(o + 8, hour_minute, 4);
+    for (size_t i = 0; i < 12; i++)
+        sum += o[i];
+    o[12] = (uint8_t)(256 - sum % 256);
+    put_case(o, n, NULL);
+    heard = second_listen(o, n);
+    if (spoilt >= n)
+        spoilt = 0;
+    if (heard.number != (spoilt ? 5 : 0) || heard.place != spoilt) {
+        printf("rows: %s, %zu octets: the second reader says %u at %zu\n",
+               month_day, n, heard.number, heard.place);
+        wrong = 1;
+    }
+}
+
+static void calendar(void)
+{
+    for (size_t i = 0; i < 12; i++) {
+        const char *last = months[i].last, *after = months[i].after;
+        char day[5] = {last[0], last[1], '0', '0', '\0'};
+
+        /* whole, then cut behind a digit of the day */
+        date_case(last, "2359", 13, 0);
+        date_case(after, "0000", 13, months[i].spoilt);
+        date_case(last, "0000", 7, 0);
+        date_case(last, "0000", 8, 0);
+        date_case(after, "0000", 8, months[i].spoilt);
+        /* 00, 01, and each tens digit that no day of the month has */
+        date_case(day, "0000", 13, 7);
+        date_case(day, "0000", 8, 7);
+        day[3] = '1';
+        date_case(day, "0000", 13, 0);
+        for (day[2] = (char)(last[2] + 1); day[2] <= '9'; day[2]++)
+            date_case(day, "0000", 7, 6);
+    }
+    /* a 3 and each digit after it, in months of 29, 30 and 31 days */
+    for (char units = '0'; units <= '9'; units++) {
+        char day[5] = {'0', '2', '3', units, '\0'};
+
+        date_case(day, "0000", 13, 6);
+        day[1] = '9';
+        date_case(day, "0000", 13, units == '0' ? 0 : 7);
+        day[1] = '1';
+        date_case(day, "0000", 13, units <= '1' ? 0 : 7);
+    }
+}
+
 /* ---- What counts, and long messages ---- */
 
 static uint8_t built[300];
@@ -432,9 +574,12 @@ int main(int argc, char **argv)
         return 2;
     for (size_t i = 0; i < sizeof table / sizeof *table; i++)
         hex_case(table[i][0], table[i][1]);
+    for (size_t i = 0; i < sizeof calendar_table / sizeof *calendar_table; i++)
+        hex_case(calendar_table[i][0], calendar_table[i][1]);
     for (size_t i = 0; i < sizeof by_book / sizeof *by_book; i++)
         book_case(i);
     limits();
+    calendar();
     whole();
     wrong |= ferror(cases) | ferror(lines);
     wrong |= fclose(cases) | fclose(lines);

@@ -4,7 +4,8 @@
  * a message or can still become one; the read, the desk, the caption and the
  * listing look only at octets that are known to be a message. No state is
  * handed from octet to octet. -DSECOND_WRONG=N makes it wrong on
- * purpose: 1 in a limit, 2 in the line for a caller, 3 in what counts.
+ * purpose: 1 in a limit, 2 in the line for a caller, 3 in what counts, 4 in
+ * the days of February, 5 in where a 30th of February is refused.
  */
 #include "second.h"
 
@@ -17,6 +18,12 @@
 #define NUMBER_LIMIT 18 /* a comparison with this must fail */
 #else
 #define NUMBER_LIMIT 20
+#endif
+
+#if SECOND_WRONG == 4
+#define FEBRUARY 28 /* likewise */
+#else
+#define FEBRUARY 29 /* no year is sent (02, Q-2) */
 #endif
 
 #define SHOWMSG_LOOKS_AT 259
@@ -114,9 +121,23 @@ static unsigned two_digits(const uint8_t *c)
     return (c[0] - (unsigned)'0') * 10u + (c[1] - (unsigned)'0');
 }
 
+/* The last day of a month from 1 to 12 (02, Q-2). */
+static unsigned last_day(unsigned month)
+{
+    switch (month) {
+    case 2:
+        return FEBRUARY;
+    case 4: case 6: case 9: case 11:
+        return 30;
+    default:
+        return 31;
+    }
+}
+
 static int legal_date(const uint8_t *c)
 {
     static const struct range field[4] = {{1, 12}, {1, 31}, {0, 23}, {0, 59}};
+    const uint8_t *month = c, *day = c + 2;
 
     for (size_t i = 0; i < 4; i++, c += 2) {
         if (!in_set(DIGIT, c[0]) || !in_set(DIGIT, c[1]))
@@ -124,7 +145,7 @@ static int legal_date(const uint8_t *c)
         if (two_digits(c) < field[i].low || two_digits(c) > field[i].high)
             return 0;
     }
-    return 1;
+    return two_digits(day) <= last_day(two_digits(month));
 }
 
 static int legal_contents(uint8_t type, const uint8_t *c, size_t n)
@@ -225,7 +246,8 @@ static void sample(uint8_t type, uint8_t *c, size_t n)
 /*
  * Some legal whole contents of n octets begins with c[0..heard): a sample is
  * taken whose first octets are those heard. Only in a date does an octet hang
- * on the one before it, so every digit is tried in the next place too.
+ * on those before it, so every digit is tried in the next place too; that is
+ * enough, since every month has the sample's day 01, and every day its hour.
  */
 static int begins_contents(uint8_t type, const uint8_t *c, size_t heard,
                            size_t n)
@@ -234,7 +256,8 @@ static int begins_contents(uint8_t type, const uint8_t *c, size_t heard,
 
     sample(type, whole, n);
     memcpy(whole, c, heard);
-    if (legal_contents(type, whole, n))
+    if (legal_contents(type, whole, n)
+        || (SECOND_WRONG == 5 && heard == 3 && c[2] == '3'))
         return 1;
     for (uint8_t digit = '0'; digit <= '9'; digit++) {
         whole[heard] = digit;

@@ -110,16 +110,24 @@ static uint8_t octet_of(struct traffic *t, const struct make *make)
     return (uint8_t)near_limits(t, range[0], range[1]);
 }
 
+/* The days of the months (02, Q-2). */
+static const uint8_t days[12] = {31, 29, 31, 30, 31, 30,
+                                 31, 31, 30, 31, 30, 31};
+
+static void put_pair(uint8_t *c, size_t value)
+{
+    c[0] = (uint8_t)('0' + value / 10);
+    c[1] = (uint8_t)('0' + value % 10);
+}
+
 static void make_date(struct traffic *t, uint8_t *c)
 {
-    static const uint8_t pair[4][2] = {{1, 12}, {1, 31}, {0, 23}, {0, 59}};
+    size_t month = near_limits(t, 1, 12);
 
-    for (size_t i = 0; i < 4; i++) {
-        size_t value = near_limits(t, pair[i][0], pair[i][1]);
-
-        c[2 * i] = (uint8_t)('0' + value / 10);
-        c[2 * i + 1] = (uint8_t)('0' + value % 10);
-    }
+    put_pair(c, month);
+    put_pair(c + 2, near_limits(t, 1, days[month - 1]));
+    put_pair(c + 4, near_limits(t, 0, 23));
+    put_pair(c + 6, near_limits(t, 0, 59));
 }
 
 static void make_contents(struct traffic *t, const struct make *make,
@@ -515,4 +523,92 @@ size_t traffic_about(struct traffic *t, uint8_t out[TRAFFIC_OCTETS])
         change(t, &out[n - 1]);
     }
     return n;
+}
+
+/* A date whose month is often February or one of 30 days and whose day is
+ * often its last, or the one after it. Says whether the month has the day. */
+static int limit_date(struct traffic *t, uint8_t *c)
+{
+    static const uint8_t often[] = {2, 2, 2, 4, 6, 9, 11};
+    size_t month = from_to(t, 1, 12), day;
+
+    if (traffic_number(t, 2) == 0)
+        month = often[traffic_number(t, sizeof often)];
+    switch (traffic_number(t, 8)) {
+    case 0:
+        day = 0;
+        break;
+    case 1:
+    case 2:
+        day = days[month - 1];
+        break;
+    case 3:
+    case 4:
+        day = days[month - 1] + 1u;
+        break;
+    case 5:
+        day = from_to(t, 28, 32);
+        break;
+    case 6:
+        day = from_to(t, 0, 49);
+        break;
+    default:
+        day = from_to(t, 1, days[month - 1]);
+        break;
+    }
+    make_date(t, c);
+    put_pair(c, month);
+    put_pair(c + 2, day);
+    return day >= 1 && day <= days[month - 1];
+}
+
+/* Beside the date: nothing, another one, or a number that looks like a day. */
+static size_t put_neighbour(struct traffic *t, uint8_t *out, size_t n)
+{
+    switch (traffic_number(t, 4)) {
+    case 0:
+        out[n] = 0x01;
+        out[n + 1] = 8;
+        make_date(t, out + n + 2);
+        return n + 10;
+    case 1:
+        out[n] = 0x02;
+        out[n + 1] = 2;
+        put_pair(out + n + 2, from_to(t, 28, 32));
+        return n + 4;
+    default:
+        return n;
+    }
+}
+
+size_t traffic_dated(struct traffic *t, uint8_t out[TRAFFIC_OCTETS])
+{
+    size_t n = 2, date;
+
+    out[0] = traffic_number(t, 2) == 0 ? 0x80 : 0x82;
+    n = put_neighbour(t, out, n);
+    out[n++] = 0x01;
+    out[n++] = 8;
+    date = n;
+    t->sort = limit_date(t, out + n) ? TRAFFIC_VALID : TRAFFIC_BAD_CONTENTS;
+    n = put_neighbour(t, out, n + 8);
+    out[1] = (uint8_t)(n - 2);
+    set_sum(out);
+    n++;
+    switch (traffic_number(t, 8)) {
+    case 0:
+        t->sort = TRAFFIC_TRUNCATED;
+        return from_to(t, date, date + 8);
+    case 1:
+        t->sort = TRAFFIC_CHANGED_SUMMED;
+        change(t, &out[from_to(t, date, date + 7)]);
+        set_sum(out);
+        return n;
+    case 2:
+        t->sort = TRAFFIC_WRONG_SUM;
+        change(t, &out[n - 1]);
+        return n;
+    default:
+        return n;
+    }
 }

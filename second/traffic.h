@@ -49,4 +49,9 @@ size_t traffic_next(struct traffic *t, uint8_t out[TRAFFIC_OCTETS]);
  * number; now and then a second reference, a call message, or a wrong sum. */
 size_t traffic_about(struct traffic *t, uint8_t out[TRAFFIC_OCTETS]);
 
+/* Likewise a message with a date at a limit of its month or beside it (02,
+ * Q-2), February and the months of 30 days more often than the others; now
+ * and then cut inside the date, changed in it, or with a wrong sum. */
+size_t traffic_dated(struct traffic *t, uint8_t out[TRAFFIC_OCTETS]);
+
 #endif

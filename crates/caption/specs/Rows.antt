@@ -7,11 +7,11 @@ use Prim.Native.Nat.{ℕ}
 use Rattle.rules.specs.Tests.{_≤?_, _=?_, _and_, _or_, pick}
 use Rattle.rules.specs.Pairwise.{pairwise}
 use Rattle.rules.specs.Octets.{checksum}
-use Rattle.rules.specs.Contents.{within, inSet, digit, someLength}
+use Rattle.rules.specs.Contents.{within, inSet, digit, someLength, shortMonth, days}
 use Rattle.rules.specs.Table.{ascii, rulesOf, classFault, rowIn, rowOf, listedIn, listed, classOf, rivalOf, typeFault, whole}
 use Rattle.rules.specs.declared.Book.the-variants.{PresentLenient}
 use Rattle.rules.specs.Message.{messageKind}
-use Rattle.rules.specs.ContentJudge.{opens, tensFit, onesFit, pairAt, columnAt, judgeOf}
+use Rattle.rules.specs.ContentJudge.{opens, tensFit, onesFit, pairAt, dayFits, calendarAt, calendarKeep, columnAt, judgeOf}
 use Rattle.rules.specs.Refusals.{noted}
 use Rattle.rules.specs.Machine.{step, run}
 use Rattle.rules.specs.Judge.{roomFits, rangePossible, somePossible, possible, final, fits, contents, after, fault, machine}
@@ -56,7 +56,7 @@ pub record Claim : Type 0 where
   pub too-short : findOf (rulesOf PresentLenient) [] [] ≡ Refused (noted 8 0)
 
 pub rows : Claim
-unfolding _≤?_ _=?_ _and_ _or_ pick checksum within inSet whole digit ascii rowIn rowOf listedIn listed classOf rivalOf typeFault rulesOf classFault someLength messageKind opens tensFit onesFit pairAt columnAt judgeOf step run roomFits rangePossible somePossible possible final fits contents after fault machine judged verdictOf parameterAt matched searchFrom countedAt onFirst linesOf indexOf before behind pairwise names lookupFrom byEntry byCaller byName findUnder findOf
+unfolding _≤?_ _=?_ _and_ _or_ pick checksum within inSet whole digit ascii rowIn rowOf listedIn listed classOf rivalOf typeFault rulesOf classFault someLength messageKind opens tensFit onesFit pairAt shortMonth days dayFits calendarAt calendarKeep columnAt judgeOf step run roomFits rangePossible somePossible possible final fits contents after fault machine judged verdictOf parameterAt matched searchFrom countedAt onFirst linesOf indexOf before behind pairwise names lookupFrom byEntry byCaller byName findUnder findOf
 rows = record {
   first-line = refl;
   last-line = refl;

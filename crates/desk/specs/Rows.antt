@@ -7,11 +7,11 @@ use mathlib.Core.List.{List, [], _∷_}
 use lib.ListN.{replicate}
 use Rattle.rules.specs.Tests.{_≤?_, _=?_, _and_, _or_, pick}
 use Rattle.rules.specs.Octets.{checksum}
-use Rattle.rules.specs.Contents.{within, inSet, digit, someLength}
+use Rattle.rules.specs.Contents.{within, inSet, digit, someLength, shortMonth, days}
 use Rattle.rules.specs.Table.{rulesOf, classFault, rowIn, rowOf, listedIn, listed, classOf, rivalOf, typeFault, whole}
 use Rattle.rules.specs.declared.Book.the-variants.{PresentLenient}
 use Rattle.rules.specs.Message.{messageKind}
-use Rattle.rules.specs.ContentJudge.{opens, tensFit, onesFit, pairAt, columnAt, judgeOf}
+use Rattle.rules.specs.ContentJudge.{opens, tensFit, onesFit, pairAt, dayFits, calendarAt, calendarKeep, columnAt, judgeOf}
 use Rattle.rules.specs.Machine.{step, run}
 use Rattle.rules.specs.Judge.{roomFits, rangePossible, somePossible, possible, final, fits, contents, after, fault, machine}
 use Rattle.rules.specs.Refusals.{noted}
@@ -98,7 +98,7 @@ pub record Claim : Type 0 where
       (0x82 ∷ 0x05 ∷ 0x0D ∷ 0x03 ∷ 0x00 ∷ 0xFF ∷ 0xFF ∷ 0x6B ∷ []) ≡ settled newDesk
 
 pub rows : Claim
-unfolding _≤?_ _=?_ _and_ _or_ pick checksum within inSet whole digit rowIn rowOf listedIn listed classOf rivalOf typeFault rulesOf classFault someLength messageKind opens tensFit onesFit pairAt columnAt judgeOf step run roomFits rangePossible somePossible possible final fits contents after fault machine judged verdictOf parameterAt matched searchFrom countedAt partOf waitingAfter lampAfter changeIn changeOf noticed countedIn settledNotice settledMessage settledUnder refusedWith settleOf placeWith absent mayStand placesFit changeBy isFull placesAfter
+unfolding _≤?_ _=?_ _and_ _or_ pick checksum within inSet whole digit rowIn rowOf listedIn listed classOf rivalOf typeFault rulesOf classFault someLength messageKind opens tensFit onesFit pairAt shortMonth days dayFits calendarAt calendarKeep columnAt judgeOf step run roomFits rangePossible somePossible possible final fits contents after fault machine judged verdictOf parameterAt matched searchFrom countedAt partOf waitingAfter lampAfter changeIn changeOf noticed countedIn settledNotice settledMessage settledUnder refusedWith settleOf placeWith absent mayStand placesFit changeBy isFull placesAfter
 rows = record {
   lamp-on = refl;
   lamp-off = refl;

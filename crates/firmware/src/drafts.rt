@@ -1,4 +1,5 @@
-// The draft's record (document 01, Drafts), laid down entry by entry from the octets of an accepted message: no draft by value stands on the stack.
+// The draft's record (document 01, Drafts), laid down entry by entry from the octets of an accepted message: no draft
+// by value stands on the stack.
 use draft::Entry;
 use draft::Value;
 use reader::Taken;

@@ -2,7 +2,6 @@
 -- Assumes nothing.
 use Prim.Native.Nat.{ℕ, _+_, _-_, _≤_, _<_}
 use mathlib.Core.Path.{_≡_, refl, sym, _∙_, ap, subst}
-use mathlib.Core.Bool.{Bool, true, false}
 use mathlib.Core.List.{List, [], _∷_}
 use native.Mathlib.Omega.{arith}
 use native.Mathlib.Nat.{add-zero}
@@ -14,8 +13,10 @@ use Rattle.rules.specs.Octets.{Octets}
 use Rattle.rules.proofs.Octets.{octets-take, octets-drop}
 use Rattle.rules.specs.Table.{Rules}
 use Rattle.rules.proofs.ContentLaw.{SoundRules}
-use Rattle.rules.specs.Machine.{Machine, run, place, Waits}
+use Rattle.rules.specs.Machine.{Machine, run, place}
 use Rattle.rules.specs.Judge.{machine, inRange}
+use Rattle.rules.proofs.Language.{in-range-run}
+use Rattle.rules.proofs.Grammar.{spoken}
 use Rattle.rules.proofs.InRange.{low, high, inside}
 use Rattle.rules.proofs.Listening.{message-stays, refused-stays}
 use Rattle.rules.specs.declared.Spot.{Spot}
@@ -23,10 +24,9 @@ use Rattle.rules.specs.declared.Stage.the-variants.{Header}
 use Rattle.rules.specs.declared.State.{State}
 use Rattle.rules.specs.declared.State.the-variants.{Waiting, Message, Refused}
 use Rattle.turns.specs.declared.Stop.{Stop}
-use Rattle.turns.specs.Turns.{Along, Turned, from}
-use Rattle.turns.proofs.Between.{along-from, along-room, along-inside, in-range-run, near, stop-inside}
+use Rattle.turns.specs.Turns.{Turned, from}
+use Rattle.turns.proofs.Between.{along-from, along-room, along-inside, near, stop-inside}
 use Rattle.listener.specs.Heard.{stopped, taken, runFrom, Onward}
-use Rattle.listener.specs.declared.Ran.{Ran}
 use Rattle.listener.proofs.Runs.{place-taken, taken-most}
 
 module _ (R : Rules) (S : SoundRules R) (o : List ℕ) (i : ℕ) (room : ℕ) (q : Spot) where
@@ -70,7 +70,7 @@ module _ (R : Rules) (S : SoundRules R) (o : List ℕ) (i : ℕ) (room : ℕ) (q
     begins = λ z. run M (Waiting (Header room) (record { sum = q .sum; place = add-zero (q .place) z })) (all-there z)
 
     ends-in : T (inRange R (run M w (drop i o)))
-    ends-in = in-range-run R o S w (drop i o) (octets-drop i o b) g
+    ends-in = in-range-run (spoken R S) w (drop i o) (octets-drop i o b) g
 
     first-taken : (v : List ℕ) → 1 ≤ length v → 1 ≤ taken M w v
     unfolding taken stopped pick

@@ -1,5 +1,5 @@
-// The listener: it takes octets in runs of any cut, and waits, has a message of a stated size, or refuses (document 01, Listening).
-// It goes in by value and comes back by value, and keeps no octets.
+// The listener: it takes octets in runs of any cut, and waits, has a message of a stated size, or refuses (document
+// 01, Listening). It goes in by value and comes back by value, and keeps no octets.
 use rules::Book;
 use rules::Class;
 use rules::Fault;
@@ -228,7 +228,8 @@ fn along(book: Book, f: Frame, first: u8, kept: u8, spot: Spot, octets: &[u8], f
     }
 }
 
-// Parameters from a header on: to the message or the refusal that they come to, or to the last header on the way; one octet where that is this one.
+// Parameters from a header on: to the message or the refusal that they come to, or to the last header on the way; one
+// octet where that is this one.
 fn by_turns(book: Book, room: u8, q: Spot, octets: &[u8], i: usize) -> Ran
     requires { ⌜ T (inRange (rulesOf book) (state.Waiting (stage.Header room) q)) × (i < list.length (now octets)) ⌝ }
     ensures { λ r. ⌜ Onward (rulesOf book) (state.Waiting (stage.Header room) q) (now (octets .entry)) i r ⌝ }

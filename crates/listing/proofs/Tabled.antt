@@ -1,28 +1,13 @@
 -- Tests over lists and over numbers below a bound, for tables that antt computes; and what each of them tells.
 -- Assumes nothing.
 use Prim.Native.Nat.{ℕ, zero, suc, _<_}
-use mathlib.Core.Path.{_≡_, subst}
-use mathlib.Core.Bool.{Bool, true, false}
+use mathlib.Core.Path.{_≡_}
+use mathlib.Core.Bool.{Bool, true}
 use mathlib.Core.Logic.{_⊎_, inl, inr}
-use mathlib.Core.List.{List}
 use native.Mathlib.Omega.{arith}
 use lib.Dec.{T}
-use Rattle.rules.specs.Tests.{_=?_, _and_, pick}
+use Rattle.rules.specs.Tests.{_=?_, _and_}
 use Rattle.rules.proofs.Tests.{both, eq-of, of-eq, decide}
-use Rattle.rules.specs.Pairwise.{sameOctets}
-use Rattle.rules.proofs.Pairwise.{octets-self}
-
--- two lists differ
-unfoldable pub differ : List ℕ → List ℕ → Bool
-differ a b = pick (sameOctets a b) false true
-
-pub differ-is : (a b : List ℕ) → T (differ a b) → a ≡ b → ⊥
-unfolding differ pick
-differ-is a b t e = go (sameOctets a b) (subst (λ (x : List ℕ). T (sameOctets a x)) e (octets-self a)) t
-  where
-    go : (s : Bool) → T s → T (pick s false true) → ⊥
-    go true s u = u
-    go false s u = s
 
 -- a test of each number below n
 unfoldable pub below : (ℕ → Bool) → ℕ → Bool

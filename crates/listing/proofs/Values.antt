@@ -14,7 +14,7 @@ use Rattle.rules.proofs.Tests.{pick-case, every-head, every-tail, both, join, e
 use Rattle.rules.specs.Octets.{Octets, referenceOf}
 use Rattle.rules.proofs.Octets.{octet-at}
 use Rattle.rules.specs.Contents.{Range, within, inSet, digit, pairFits, pairsFit, columnsFit, allIn}
-use Rattle.rules.specs.Table.{dateRanges, numberSet, absentSet, nameSet, oldNumberSet, whole, contentsFit, styleOf, ascii}
+use Rattle.rules.specs.Table.{numberSet, absentSet, nameSet, oldNumberSet, whole, contentsFit, styleOf, ascii}
 use Rattle.rules.proofs.ClassLaw.{fit-octets}
 use Rattle.rules.proofs.ContentLaw.{lawful}
 use Rattle.rules.specs.declared.Class.{Class}
@@ -155,7 +155,7 @@ plain-at [] i p h = absurd (omega arith)
 plain-at (x ∷ v) zero p h = le-of 0x20 x (both _ _ p .0)
 plain-at (x ∷ v) (suc i) p h = plain-at v i (both _ _ p .1) (omega arith)
 
-eight : (v : List ℕ) → T (pairsFit dateRanges v) → 8 ≤ length v
+eight : (v : List ℕ) → T (contentsFit Date v) → 8 ≤ length v
 unfolding whole
 eight v t = up-from 8 8 (length v) (lawful Date .fit-length v t)
 
@@ -181,10 +181,10 @@ reference-wide v o =
       length-append (stateWord (getD v 0 0)) (ascii " "),
     )
 
-clock-plain : (v : List ℕ) → T (pairsFit dateRanges v) → T (plain (clock v))
-unfolding clock
+clock-plain : (v : List ℕ) → T (contentsFit Date v) → T (plain (clock v))
+unfolding whole clock
 clock-plain v t =
-    let p = pairs-plain dateRanges v t in
+    let p = pairs-plain _ v t in
     let l = eight v t in
     plain-append (half v 0 0x2D ++ ascii " ") (half v 4 0x3A)
     (plain-append (half v 0 0x2D) (ascii " ") (plain-half v 0 0x2D p (omega arith) (omega arith)) blank)

@@ -7,12 +7,12 @@ use mathlib.Core.List.{List, [], _∷_}
 use lib.ListN.{length, replicate}
 use Rattle.rules.specs.Tests.{_≤?_, _=?_, _and_, _or_, pick}
 use Rattle.rules.specs.Octets.{total, checksum}
-use Rattle.rules.specs.Contents.{within, inSet, digit, someLength}
+use Rattle.rules.specs.Contents.{within, inSet, digit, someLength, shortMonth, days}
 use Rattle.rules.specs.Table.{ascii, rowIn, rowOf, listedIn, listed, classOf, rivalOf, typeFault, classFault, styleOf, rulesOf, whole}
 use Rattle.rules.specs.declared.Book.the-variants.{PresentLenient}
 use Rattle.rules.specs.Message.{Parameter, Message, body, octets, messageKind}
 use Rattle.rules.specs.Counting.{firstOf, counted, carriedIn}
-use Rattle.rules.specs.ContentJudge.{opens, tensFit, onesFit, pairAt, columnAt, judgeOf}
+use Rattle.rules.specs.ContentJudge.{opens, tensFit, onesFit, pairAt, dayFits, calendarAt, calendarKeep, columnAt, judgeOf}
 use Rattle.rules.specs.Machine.{step, run}
 use Rattle.rules.specs.Judge.{roomFits, rangePossible, somePossible, possible, final, fits, contents, after, fault, machine}
 use Rattle.message.specs.Verdict.{judged, verdictOf}
@@ -83,5 +83,5 @@ pub record Claim : Type 0 where
   pub longest : length (listingOf (rulesOf PresentLenient) (octets long)) ≡ bufferSize
 
 pub examples : Claim
-unfolding ascii _≤?_ _=?_ _and_ _or_ pick total checksum within inSet whole digit rowIn rowOf listedIn listed classOf rivalOf typeFault classFault someLength styleOf rulesOf body octets messageKind firstOf counted carriedIn opens tensFit onesFit pairAt columnAt judgeOf step run roomFits rangePossible somePossible possible final fits contents after fault machine judged verdictOf parameterAt found parametersFrom parametersIn messageIn digitsBy decimal hexDigit hex half clock lampWord stateWord reference printed lineText written lineOf linesFor rowLines kindLine carriedLine messageLines refusalLines listing.verdictLines listingOf listings texts
+unfolding ascii _≤?_ _=?_ _and_ _or_ pick total checksum within inSet whole digit rowIn rowOf listedIn listed classOf rivalOf typeFault classFault someLength styleOf rulesOf body octets messageKind firstOf counted carriedIn opens tensFit onesFit pairAt shortMonth days dayFits calendarAt calendarKeep columnAt judgeOf step run roomFits rangePossible somePossible possible final fits contents after fault machine judged verdictOf parameterAt found parametersFrom parametersIn messageIn digitsBy decimal hexDigit hex half clock lampWord stateWord reference printed lineText written lineOf linesFor rowLines kindLine carriedLine messageLines refusalLines listing.verdictLines listingOf listings texts
 examples = record { printed = refl; longest = refl }

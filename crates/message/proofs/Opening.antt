@@ -1,15 +1,14 @@
 -- The opening of a message, its type and L, and the verdict from where the parameters behind them came to.
 -- Assumes nothing.
-use Prim.Native.Nat.{ℕ, suc, _+_, _-_, _%_, _≤_, _<_}
+use Prim.Native.Nat.{ℕ, _+_, _-_, _%_, _≤_, _<_}
 use mathlib.Core.Path.{_≡_, refl, sym, _∙_, ap, subst}
-use mathlib.Core.Bool.{Bool, true, false}
+use mathlib.Core.Bool.{true, false}
 use mathlib.Core.List.{List, [], _∷_}
 use native.Mathlib.Omega.{arith}
-use native.Mathlib.Nat.{add-zero}
 use lib.ListN.{length, take, drop, getD, length-drop}
-use lib.Seq.{drop-cons, take-all}
-use Rattle.rules.specs.Tests.{_≤?_, _=?_, pick}
-use Rattle.rules.proofs.Tests.{of-eq, eq-of, pick-yes, pick-not}
+use lib.Seq.{take-all}
+use Rattle.rules.specs.Tests.{_=?_, pick}
+use Rattle.rules.proofs.Tests.{eq-of, pick-not}
 use Rattle.rules.proofs.Returns.{yes-le, no-le}
 use Rattle.rules.specs.Octets.{Octets}
 use Rattle.rules.specs.Message.{messageKind}
@@ -18,17 +17,15 @@ use Rattle.rules.proofs.Grammar.{spoken}
 use Rattle.rules.specs.Table.{Rules}
 use Rattle.rules.proofs.ContentLaw.{SoundRules}
 use Rattle.rules.specs.Refusals.{noted}
-use Rattle.rules.specs.Machine.{Machine, moved, step, run, answer, fresh, Waits}
+use Rattle.rules.specs.Machine.{Machine, run, answer, fresh, Waits}
 use Rattle.rules.specs.Judge.{machine, final, fits, after, fault}
 use Rattle.rules.proofs.Listening.{refused-stays}
 use Rattle.rules.proofs.Steps.{takes, declines}
-use Rattle.rules.specs.declared.Spot.{Spot}
 use Rattle.rules.specs.declared.Stage.the-variants.{Kind, Size, Header}
 use Rattle.rules.specs.declared.State.{State}
 use Rattle.rules.specs.declared.State.the-variants.{Waiting, Message, Refused}
 use Rattle.turns.specs.declared.Stop.{Stop}
 use Rattle.turns.specs.Turns.{Turned, from}
-use Rattle.message.specs.declared.Verdict.{Verdict}
 use Rattle.message.specs.declared.Verdict.the-variants.{Accepted, Declined}
 use Rattle.message.specs.Verdict.{judged, verdictAt, verdictOf}
 

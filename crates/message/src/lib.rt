@@ -1,5 +1,5 @@
-// Whole messages on a slice: the verdict on any octets (document 01, The message and Numbers), whose parameters `turns` goes along; what stands at a place; and
-// where what counts stands.
+// Whole messages on a slice: the verdict on any octets (document 01, The message and Numbers), whose parameters
+// `turns` goes along; what stands at a place; and where what counts stands.
 use rules::Book;
 use rules::Fault;
 ghost use mathlib.Core.Path.{_≡_};
@@ -16,7 +16,8 @@ pub enum Verdict {
     Declined { fault: Fault },
 }
 
-// Where the parameters came to, as a verdict: 8 at the number of octets where these end early, 7 where octets follow the message.
+// Where the parameters came to, as a verdict: 8 at the number of octets where these end early, 7 where octets follow
+// the message.
 fn verdict_at(s: &[u8], number: u8, place: u16) -> Verdict
     requires { ⌜ (number ≡ 8 → length (now s) < 258) ⌝ }
     ensures { λ r. ⌜ r ≡ verdictAt (now (s .entry)) number place ⌝ }
@@ -62,7 +63,8 @@ fn sized(book: Book, s: &[u8]) -> Verdict
     verdict_at(s, stop.number, stop.place + 2)
 }
 
-// The verdict on any octets: 1 to 6 and 10 as the listener gives them; 8 where they end early; 7 where octets follow the message.
+// The verdict on any octets: 1 to 6 and 10 as the listener gives them; 8 where they end early; 7 where octets follow
+// the message.
 pub fn judge(book: Book, s: &[u8]) -> Verdict
     ensures { λ r. ⌜ r ≡ verdictOf (rulesOf book) (now (s .entry)) ⌝ }
 {
@@ -80,7 +82,8 @@ pub fn judge(book: Book, s: &[u8]) -> Verdict
     }
 }
 
-// What stands at a place of a message: the type of a parameter, where its contents start and how long they are; the next place is behind them.
+// What stands at a place of a message: the type of a parameter, where its contents start and how long they are; the
+// next place is behind them.
 pub enum Found {
     Parameter { kind: u8, start: usize, length: u8 },
     Nothing,

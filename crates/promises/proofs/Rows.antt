@@ -1,5 +1,5 @@
--- Document 01's rows marked P (Octets on each side of the line), one list under one claim over the promises of
--- `listen`, `read`, `settle` and `counted`, whatever outcomes they allow.
+-- Document 01's rows marked P (Octets on each side of the line) and those of document 02, Q-2, one list under one
+-- claim over the promises of `listen`, `read`, `write`, `settle` and `counted`, whatever outcomes they allow.
 -- Assumes nothing.
 use Prim.Native.Nat.{ℕ}
 use mathlib.Core.Path.{_≡_, refl, _∙_, ap}
@@ -7,12 +7,12 @@ use mathlib.Core.List.{List, [], _∷_}
 use mathlib.Core.Option.{Option, none, some}
 use lib.ListN.{length, replicate}
 use Rattle.rules.specs.Tests.{_≤?_, _=?_, _and_, _or_, pick}
-use Rattle.rules.specs.Octets.{checksum}
-use Rattle.rules.specs.Contents.{within, inSet, digit, someLength}
-use Rattle.rules.specs.Table.{rulesOf, classFault, rowIn, rowOf, listedIn, listed, classOf, rivalOf, typeFault, whole}
+use Rattle.rules.specs.Octets.{total, checksum}
+use Rattle.rules.specs.Contents.{within, inSet, digit, pairFits, pairsFit, someLength, shortMonth, days, monthOf}
+use Rattle.rules.specs.Table.{rulesOf, classFault, rowIn, rowOf, listedIn, listed, classOf, rivalOf, typeFault, formOf, whole}
 use Rattle.rules.specs.declared.Book.the-variants.{PresentLenient}
-use Rattle.rules.specs.Message.{messageKind}
-use Rattle.rules.specs.ContentJudge.{opens, tensFit, onesFit, pairAt, columnAt, judgeOf}
+use Rattle.rules.specs.Message.{body, octets, messageKind}
+use Rattle.rules.specs.ContentJudge.{opens, tensFit, onesFit, pairAt, dayFits, calendarAt, calendarKeep, columnAt, judgeOf}
 use Rattle.rules.specs.Refusals.{noted}
 use Rattle.rules.specs.Machine.{step, run}
 use Rattle.rules.specs.Judge.{roomFits, rangePossible, somePossible, possible, final, fits, contents, after, fault, machine, inRange}
@@ -30,6 +30,15 @@ use Rattle.reader.specs.declared.Packed.the-variants as packed
 use Rattle.reader.specs.declared.Reading.{Reading}
 use Rattle.reader.proofs.Promised as reader
 use Rattle.reader.specs.Read.{packFrom, packOf, readOf}
+use Rattle.draft.specs.Meaning.{formNumber, kindOf, formIs, tens, ones, spelled}
+use Rattle.draft.specs.Draft.{meaningOf, inside, parameterOf, parametersOf, messageOf}
+use Rattle.draft.specs.declared.Value.the-variants.{Date}
+use Rattle.draft.specs.declared.Draft.{Draft}
+use Rattle.writer.specs.declared.Written.{Written}
+use Rattle.writer.specs.Told.{Told, told, success, refusal}
+use Rattle.writer.specs.Writing.{legalEntry, legalBefore, sized, measuredOf, writeOf}
+use Rattle.writer.specs.Rows.{one}
+use Rattle.writer.proofs.Promised as writer
 use Rattle.desk.specs.declared.Desk.{Desk}
 use Rattle.desk.specs.declared.Outcome.{Outcome}
 use Rattle.desk.proofs.Promised as desk
@@ -51,6 +60,8 @@ pub data Outcomes : Type 0 where
   counts : ℕ → Option (List ℕ) → Outcomes
   -- settled on a new desk, they are done and leave this desk
   settles : Desk → Outcomes
+  -- a draft without texts says them, and written into an output as long as they are it is answered so
+  writes : Draft → Told → Outcomes
 
 pub record Example : Type 0 where
   pub octets : List ℕ
@@ -72,6 +83,10 @@ Holds o (refused k p) = Heard-as o (answer.Refused (noted k p)) × Read-as o k p
 Holds o (counts t v) = (p : Part) → message.counted-gives PresentLenient o t p → partOf o p ≡ v
 Holds o (settles d) =
     (r : Outcome) → desk.settle-gives PresentLenient newDesk o r → r ≡ record { desk = d; answer = settled.Done }
+Holds o (writes d a) =
+    (octets (messageOf d []) ≡ o)
+    × ((old : List ℕ) (w : Written) (out : List ℕ) → length old ≡ length o →
+    writer.write-gives PresentLenient d [] old w out → told w ≡ a)
 
 abbrev pub All : List Example → Type 0
 All [] = Unit {0}
@@ -90,8 +105,21 @@ twice-waiting = 0x82 ∷ 0x06 ∷ 0x13 ∷ 0x01 ∷ 0x02 ∷ 0x13 ∷ 0x01 ∷ 0
 abbrev no-caller : List ℕ
 no-caller = 0x80 ∷ 0x06 ∷ 0x04 ∷ 0x01 ∷ 0x50 ∷ 0x02 ∷ 0x01 ∷ 0x37 ∷ 0xEB ∷ []
 
-abbrev pub document01 : List Example
-document01 =
+-- document 02, Q-2: a call message with a date alone, 0:00 on a day
+abbrev midnight : ℕ → ℕ → Draft
+midnight month day = one 0x01 (Date month day 0 0)
+
+abbrev april-31 : List ℕ
+april-31 = 0x80 ∷ 0x0A ∷ 0x01 ∷ 0x08 ∷ 0x30 ∷ 0x34 ∷ 0x33 ∷ 0x31 ∷ 0x30 ∷ 0x30 ∷ 0x30 ∷ 0x30 ∷ 0xE5 ∷ []
+
+abbrev february-30 : List ℕ
+february-30 = 0x80 ∷ 0x0A ∷ 0x01 ∷ 0x08 ∷ 0x30 ∷ 0x32 ∷ 0x33 ∷ 0x30 ∷ 0x30 ∷ 0x30 ∷ 0x30 ∷ 0x30 ∷ 0xE8 ∷ []
+
+abbrev february-29 : List ℕ
+february-29 = 0x80 ∷ 0x0A ∷ 0x01 ∷ 0x08 ∷ 0x30 ∷ 0x32 ∷ 0x32 ∷ 0x39 ∷ 0x30 ∷ 0x30 ∷ 0x30 ∷ 0x30 ∷ 0xE0 ∷ []
+
+abbrev pub documents : List Example
+documents =
     says [] (heard answer.Waits) ∷
     says [] (unread 8 0) ∷
     says (0x81 ∷ []) (refused 1 0) ∷
@@ -113,6 +141,12 @@ document01 =
     says no-caller (counts 0x04 (some (0x50 ∷ []))) ∷
     says no-caller (counts 0x02 none) ∷
     says no-caller (settles newDesk) ∷
+    says (0x80 ∷ 0x0A ∷ 0x01 ∷ 0x08 ∷ 0x30 ∷ 0x32 ∷ 0x33 ∷ []) (refused 5 6) ∷
+    says (0x80 ∷ 0x0A ∷ 0x01 ∷ 0x08 ∷ 0x30 ∷ 0x34 ∷ 0x33 ∷ 0x31 ∷ []) (refused 5 7) ∷
+    says (0x80 ∷ 0x0A ∷ 0x01 ∷ 0x08 ∷ 0x30 ∷ 0x32 ∷ 0x32 ∷ 0x39 ∷ []) (heard answer.Waits) ∷
+    says april-31 (writes (midnight 4 31) (refusal 12 0)) ∷
+    says february-30 (writes (midnight 2 30) (refusal 12 0)) ∷
+    says february-29 (writes (midnight 2 29) (success 13)) ∷
     []
 
 -- ---- a row is true where its outcome is computed
@@ -133,8 +167,17 @@ leaves : (o : List ℕ) (d : Desk) →
     settleOf (rulesOf PresentLenient) newDesk o ≡ (record { desk = d; answer = settled.Done }) → Holds o (settles d)
 leaves o d e r h = desk.settle-is PresentLenient newDesk o r h ∙ e
 
-pub rows : All document01
-unfolding _≤?_ _=?_ _and_ _or_ pick checksum within inSet whole digit rowIn rowOf listedIn listed classOf rivalOf typeFault classFault someLength rulesOf messageKind opens tensFit onesFit pairAt columnAt judgeOf step run roomFits rangePossible somePossible possible final fits contents after fault machine inRange newListener heardIn answerOf taken stopped judged verdictOf parameterAt matched searchFrom countedAt partOf waitingAfter lampAfter changeIn changeOf noticed countedIn settledNotice settledMessage settledUnder refusedWith settleOf placeWith absent mayStand placesFit changeBy isFull placesAfter
+written : (o : List ℕ) (d : Draft) (a : Told) → octets (messageOf d []) ≡ o →
+    told (writeOf (rulesOf PresentLenient) d [] (length o)) ≡ a → Holds o (writes d a)
+written o d a p e = (
+  p,
+  λ old w out l h. ap told (writer.write-is PresentLenient d [] old w out h)
+      ∙ ap (λ (n : ℕ). told (writeOf (rulesOf PresentLenient) d [] n)) l
+      ∙ e,
+)
+
+pub rows : All documents
+unfolding _≤?_ _=?_ _and_ _or_ pick total checksum body octets within inSet whole digit pairFits pairsFit monthOf formOf rowIn rowOf listedIn listed classOf rivalOf typeFault classFault someLength rulesOf messageKind opens tensFit onesFit pairAt shortMonth days dayFits calendarAt calendarKeep columnAt judgeOf step run roomFits rangePossible somePossible possible final fits contents after fault machine inRange newListener heardIn answerOf taken stopped judged verdictOf parameterAt matched searchFrom countedAt partOf waitingAfter lampAfter changeIn changeOf noticed countedIn settledNotice settledMessage settledUnder refusedWith settleOf placeWith absent mayStand placesFit changeBy isFull placesAfter told writeOf measuredOf sized legalBefore legalEntry messageOf parametersOf parameterOf spelled meaningOf inside formIs formNumber kindOf tens ones
 rows = (
   hears _ _ refl,
   (
@@ -177,7 +220,25 @@ rows = (
                                         finds _ _ _ refl,
                                         (
                                           leaves _ _ refl,
-                                          tt,
+                                          (
+                                            (hears _ _ refl, reads _ _ _ refl),
+                                            (
+                                              (hears _ _ refl, reads _ _ _ refl),
+                                              (
+                                                hears _ _ refl,
+                                                (
+                                                  written _ _ _ refl refl,
+                                                  (
+                                                    written _ _ _ refl refl,
+                                                    (
+                                                      written _ _ _ refl refl,
+                                                      tt,
+                                                    ),
+                                                  ),
+                                                ),
+                                              ),
+                                            ),
+                                          ),
                                         ),
                                       ),
                                     ),

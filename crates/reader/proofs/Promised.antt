@@ -38,11 +38,11 @@ fits-gives b o room w =
     (κs : _) × (a : _) × (s : _) × fits.Post κs a w s × (a .0 ≡ b) × (a .1 .0 .now ≡ o) × (a .1 .1 .0 ≡ room)
 
 -- whether a read goes through tells its number and place
-pub fits-tells : (p : Packed) →
+same-refusal : (p : Packed) →
     (toldFitting (fittingOf p) .number ≡ told p .number) × (toldFitting (fittingOf p) .place ≡ told p .place)
 unfolding toldFitting fittingOf told
-fits-tells (Texts n) = (refl, refl)
-fits-tells (Refused f) = (refl, refl)
+same-refusal (Texts n) = (refl, refl)
+same-refusal (Refused f) = (refl, refl)
 
 module _ (b : Book) (o old : List ℕ) where
   pub read-is : (r : Reading) (area : List ℕ) → read-gives b o old r area →
@@ -79,3 +79,15 @@ module _ (b : Book) (o old : List ℕ) where
   fits-so w h q =
       let e = h .3 ∙ (λ i. fittingOf (packOf (rulesOf (h .4 i)) (h .5 i) (h .6 i))) in
       (readOf (rulesOf b) o (length old), sym e, (areaAfter (rulesOf b) o old, reads-so _ _ refl refl q))
+
+  -- and tells the number and the place that the read does
+  pub fits-tells : (w : Fitting) → fits-gives b o (length old) w → Octets o →
+      (r : Reading) × (toldFitting w .number ≡ told (r .answer) .number)
+      × (toldFitting w .place ≡ told (r .answer) .place) × ((area : List ℕ) × Reads (rulesOf b) o old r area)
+  fits-tells w h q =
+      let x = fits-so w h q in
+      let n = subst (λ (z : Fitting). toldFitting z .number ≡ told (x .0 .answer) .number) (x .1)
+      (same-refusal (x .0 .answer) .0) in
+      let p = subst (λ (z : Fitting). toldFitting z .place ≡ told (x .0 .answer) .place) (x .1)
+      (same-refusal (x .0 .answer) .1) in
+      (x .0, n, p, x .2)

@@ -1,5 +1,5 @@
-// Reading whole messages (document 01, Drafts): the draft of an accepted message and its texts, packed into a lent area. Nothing is written before the
-// verdict is known.
+// Reading whole messages (document 01, Drafts): the draft of an accepted message and its texts, packed into a lent
+// area. Nothing is written before the verdict is known.
 use draft::Draft;
 use draft::Entry;
 use draft::Value;
@@ -21,10 +21,6 @@ ghost use Rattle.draft.specs.Meaning.{kindOf, numberOf, digitsAt, meant};
 ghost use Rattle.rules.specs.Laying.{laid, laidAt};
 ghost use Rattle.draft.specs.Packing.{valueAt, draftOf, textsOf};
 ghost use Rattle.reader.specs.Read.{hasText, textLong, textSize, textAt, takenAt, roomFor, fittingOf, packOf, areaAfter, readOf};
-
-// Text octets that are enough for every message: of L, at most 255, two are a parameter's type and length (document 01,
-// The message).
-const ENOUGH: usize = 253;
 
 // What becomes of the octets: how many text octets were laid down; or a number from 1 to 10 with its place.
 pub enum Packed {
@@ -239,7 +235,7 @@ fn lay_texts(book: Book, octets: &[u8], area: &mut [u8]) -> usize
 }
 
 // An accepted message's texts in an area of so many octets: 9 with the octets that they need, where it has fewer.
-fn room_for(book: Book, octets: &[u8], room: usize) -> Fitting
+fn short_of(book: Book, octets: &[u8], room: usize) -> Fitting
     requires { ⌜ length (now octets) ≤ 258 ⌝ }
     ensures { λ r. ⌜ r ≡ roomFor (rulesOf book) (now (octets .entry)) room ⌝ }
 {
@@ -261,8 +257,8 @@ pub fn fits(book: Book, octets: &[u8], room: usize) -> Fitting
     let verdict = message::judge(book, octets);
     match verdict {
         Verdict::Accepted { size: _ } => {
-            if room < ENOUGH {
-                room_for(book, octets, room)
+            if room < rules::LONGEST {
+                short_of(book, octets, room)
             } else {
                 Fitting::Fits
             }
@@ -289,7 +285,7 @@ pub fn pack(book: Book, octets: &[u8], area: &mut [u8]) -> Packed
 }
 
 // How long the text of a value is.
-fn text_of(v: Value) -> usize
+fn text_long(v: Value) -> usize
     ensures { λ r. ⌜ r ≡ textLong v ⌝ }
 {
     match v {
@@ -324,7 +320,7 @@ pub fn entry(book: Book, octets: &[u8], at: usize, used: usize) -> Taken
             let value = value_of(form_at(book, kind), &octets[start..place], used);
             Taken::Next {
                 entry: Entry { kind, value },
-                text: text_of(value),
+                text: text_long(value),
                 place,
             }
         }

@@ -1,17 +1,17 @@
 -- Contents at an index, as the code judges them: columns of which only the first is narrow, digits pair by pair; past
 -- the last octet any may stand.
 -- Assumes nothing.
-use mathlib.Core.Path.{_≡_, sym, _∙_}
+use mathlib.Core.Path.{_≡_, refl, sym, _∙_}
 use mathlib.Core.Bool.{Bool, true}
-use Prim.Native.Nat.{ℕ, zero, suc, _+_, _*_, _≤_, _<_}
+use Prim.Native.Nat.{ℕ, zero, suc, _+_, _*_, _-_, _≤_, _<_}
 use mathlib.Core.List.{List, [], _∷_}
 use lib.ListN.{length, drop}
 use native.Mathlib.Omega.{arith}
 use Rattle.rules.specs.Tests.{_=?_, pick}
 use Rattle.rules.proofs.Tests.{clash}
-use Rattle.rules.specs.Contents.{Range, within, inSet}
+use Rattle.rules.specs.Contents.{Range, within, inSet, days}
 use Rattle.rules.specs.Table.{anyOctet}
-use Rattle.rules.specs.ContentJudge.{columnAt, tensFit, onesFit, pairAt}
+use Rattle.rules.specs.ContentJudge.{columnAt, tensFit, onesFit, pairAt, dayFits, calendarAt, calendarKeep}
 use Rattle.rules.proofs.Returns.{or-last, and-t, yes-le, no-eq}
 
 pub any-in : (x : ℕ) → x < 256 → true ≡ inSet anyOctet x
@@ -55,3 +55,53 @@ pair-within [] (suc k) i j m x r rest e l h = clash cc
 pair-within (q ∷ rs) (suc k) zero j m x r rest e l h = absurd (omega arith)
 pair-within (q ∷ rs) (suc k) (suc zero) j m x r rest e l h = absurd (omega arith)
 pair-within (q ∷ rs) (suc k) (suc (suc i)) j m x r rest e l h = pair-within rs k i j m x r rest e (omega arith) h
+
+-- ---- a date, whose index the code tells apart
+pub at-month : (rs : List Range) (i m x : ℕ) → i < 2 →
+    pick (i =? 0) (tensFit (1, 12) x) (onesFit (1, 12) m x) ≡ calendarAt rs i m x
+unfolding calendarAt pick _=?_
+at-month rs zero m x h = refl
+at-month rs (suc zero) m x h = refl
+at-month rs (suc (suc i)) m x h = absurd (omega arith)
+
+pub at-day-tens : (rs : List Range) (i m x : ℕ) → i ≡ 2 → tensFit (1, m) x ≡ calendarAt rs i m x
+unfolding calendarAt
+at-day-tens rs i m x e = rw e
+
+pub at-day-ones : (rs : List Range) (i m x : ℕ) → i ≡ 3 → dayFits m x ≡ calendarAt rs i m x
+unfolding calendarAt
+at-day-ones rs i m x e = rw e
+
+-- digit j of pair k behind the day
+pub at-pair : (rs : List Range) (k i j m x : ℕ) (r : Range) (rest : List Range) → drop k rs ≡ r ∷ rest →
+    4 + 2 * k + j ≡ i → j < 2 → pick (j =? 0) (tensFit r x) (onesFit r m x) ≡ calendarAt rs i m x
+unfolding calendarAt
+at-pair rs k zero j m x r rest e l h = absurd (omega arith)
+at-pair rs k (suc zero) j m x r rest e l h = absurd (omega arith)
+at-pair rs k (suc (suc zero)) j m x r rest e l h = absurd (omega arith)
+at-pair rs k (suc (suc (suc zero))) j m x r rest e l h = absurd (omega arith)
+at-pair rs k (suc (suc (suc (suc i)))) j m x r rest e l h = pair-within rs k i j m x r rest e (omega arith) h
+
+pub past-date : (rs : List Range) (i m x : ℕ) → 4 + 2 * length rs ≤ i → x < 256 → true ≡ calendarAt rs i m x
+unfolding calendarAt
+past-date rs zero m x h l = absurd (omega arith)
+past-date rs (suc zero) m x h l = absurd (omega arith)
+past-date rs (suc (suc zero)) m x h l = absurd (omega arith)
+past-date rs (suc (suc (suc zero))) m x h l = absurd (omega arith)
+past-date rs (suc (suc (suc (suc i)))) m x h l = pair-late rs i m x (omega arith) l
+
+-- and what is remembered of it
+pub kept-month : (i m x : ℕ) → i ≡ 1 → days (10 * m + (x - 48)) ≡ calendarKeep i m x
+unfolding calendarKeep
+kept-month i m x e = rw e
+
+pub kept-tens : (i m x : ℕ) → i ≡ 2 → m - 10 * (x - 48) ≡ calendarKeep i m x
+unfolding calendarKeep
+kept-tens i m x e = rw e
+
+pub kept-digit : (i m x : ℕ) → (i ≡ 1 → ⊥) → (i ≡ 2 → ⊥) → x - 48 ≡ calendarKeep i m x
+unfolding calendarKeep
+kept-digit zero m x p q = refl
+kept-digit (suc zero) m x p q = absurd (p refl)
+kept-digit (suc (suc zero)) m x p q = absurd (q refl)
+kept-digit (suc (suc (suc i))) m x p q = refl

@@ -1,5 +1,5 @@
--- Each of the three builders of classes (pairs, columns, text) makes a lawful class; and what a class written by hand
--- needs of sets and lengths.
+-- Three of the builders of classes (pairs, columns, text) make lawful classes; and what other classes need of sets,
+-- lengths and pairs.
 -- Assumes nothing.
 use Prim.Native.Nat.{ℕ, zero, suc, _+_, _*_, _-_, _/_, _≤_, _<_}
 use mathlib.Core.Path.{_≡_, refl, ap}
@@ -137,24 +137,24 @@ from-pairs (r ∷ rs) n m (a ∷ b ∷ v) l t =
     (from-pairs rs n (b - 48) v (omega arith) (rw (pairs-on r rs n 0 (b - 48) v) at (d .1)))
 
 -- what is remembered at an index is the tens of some number of the range
-abbrev PairMem : List Range → ℕ → ℕ → Type 0
+abbrev pub PairMem : List Range → ℕ → ℕ → Type 0
 PairMem [] i m = Unit {0}
 PairMem (r ∷ rs) zero m = Unit {0}
 PairMem (r ∷ rs) (suc zero) m = T (opens r m)
 PairMem (r ∷ rs) (suc (suc i)) m = PairMem rs i m
 
-pair-start : (rs : List Range) (m : ℕ) → PairMem rs 0 m
+pub pair-start : (rs : List Range) (m : ℕ) → PairMem rs 0 m
 pair-start [] m = tt
 pair-start (r ∷ rs) m = tt
 
-pair-push : (rs : List Range) (i m x : ℕ) → T (pairAt rs i m x) → PairMem rs (suc i) (x - 48)
+pub pair-push : (rs : List Range) (i m x : ℕ) → T (pairAt rs i m x) → PairMem rs (suc i) (x - 48)
 unfolding pairAt tensFit
 pair-push [] i m x t = tt
 pair-push (r ∷ rs) zero m x t = both _ _ t .1
 pair-push (r ∷ rs) (suc zero) m x t = pair-start rs (x - 48)
 pair-push (r ∷ rs) (suc (suc i)) m x t = pair-push rs i m x t
 
-range-tens : (r : Range) → T (soundRange r) → T (tensFit r (48 + r .0 / 10))
+pub range-tens : (r : Range) → T (soundRange r) → T (tensFit r (48 + r .0 / 10))
 unfolding tensFit opens digit within
 range-tens r t =
     let a = le-of _ _ (both _ _ t .0) in
@@ -162,7 +162,7 @@ range-tens r t =
     join _ _ (join _ _ (of-le _ _ (omega arith)) (of-le _ _ (omega arith)))
     (join _ _ (of-le _ _ (omega arith)) (of-le _ _ (omega arith)))
 
-range-ones : (r : Range) (m : ℕ) → T (soundRange r) → T (opens r m) → T (onesFit r m (48 + (r .0 - 10 * m)))
+pub range-ones : (r : Range) (m : ℕ) → T (soundRange r) → T (opens r m) → T (onesFit r m (48 + (r .0 - 10 * m)))
 unfolding opens onesFit digit within
 range-ones r m t o =
     let a = le-of _ _ (both _ _ t .0) in
@@ -171,18 +171,18 @@ range-ones r m t o =
     join _ _ (join _ _ (of-le _ _ (omega arith)) (of-le _ _ (omega arith)))
     (join _ _ (of-le _ _ (omega arith)) (of-le _ _ (omega arith)))
 
-pair-next : (rs : List Range) (i m : ℕ) → T (every soundRange rs) → PairMem rs i m → (x : ℕ) × T (pairAt rs i m x)
+pub pair-next : (rs : List Range) (i m : ℕ) → T (every soundRange rs) → PairMem rs i m → (x : ℕ) × T (pairAt rs i m x)
 unfolding pairAt
 pair-next [] i m s k = (0, of-le _ _ (omega arith))
 pair-next (r ∷ rs) zero m s k = (48 + r .0 / 10, range-tens r (every-head _ r rs s))
 pair-next (r ∷ rs) (suc zero) m s k = (48 + (r .0 - 10 * m), range-ones r m (every-head _ r rs s) k)
 pair-next (r ∷ rs) (suc (suc i)) m s k = pair-next rs i m (every-tail _ r rs s) k
 
-digit-octet : (x : ℕ) → T (digit x) → x < 256
+pub digit-octet : (x : ℕ) → T (digit x) → x < 256
 unfolding digit within
 digit-octet x t = omega (arith, le-of _ _ (both _ _ t .1))
 
-pair-octet : (rs : List Range) (i m x : ℕ) → T (pairAt rs i m x) → x < 256
+pub pair-octet : (rs : List Range) (i m x : ℕ) → T (pairAt rs i m x) → x < 256
 unfolding pairAt tensFit onesFit
 pair-octet [] i m x t = omega (arith, le-of _ _ t)
 pair-octet (r ∷ rs) zero m x t = digit-octet x (both _ _ t .0)

@@ -18,12 +18,13 @@ use Rattle.rules.specs.ContentJudge.{judgeOf}
 use Rattle.rules.proofs.ClassLaw.{Lawful}
 use Rattle.rules.specs.declared.Class.{Class}
 use Rattle.rules.specs.declared.Class.the-variants.{Date, Number, Absent, Name, Lamp, Identity, CallType, Waiting, Forwarded, User, Carried, OldNumber, ShortText, OldForwarded, OldUser, Unlisted}
-use Rattle.rules.proofs.BuilderLaw.{anyIn, pairs-lawful, columns-lawful, text-lawful}
+use Rattle.rules.proofs.BuilderLaw.{anyIn, columns-lawful, text-lawful}
+use Rattle.rules.proofs.CalendarLaw.{calendar-lawful}
 
 -- ---- each class is lawful
 pub lawful : (c : Class) → Lawful (whole c) (judgeOf c)
 unfolding whole judgeOf every anyIn _and_ _≤?_
-lawful Date = pairs-lawful _ tt
+lawful Date = calendar-lawful _ tt
 lawful Number = text-lawful _ _ tt
 lawful Absent = columns-lawful _ tt
 lawful Name = text-lawful _ _ tt

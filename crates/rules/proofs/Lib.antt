@@ -10,6 +10,7 @@ pub mod Counting
 pub mod Endings
 pub mod ClassLaw
 pub mod BuilderLaw
+pub mod CalendarLaw
 pub mod ContentLaw
 pub mod Sizes
 pub mod Remaining

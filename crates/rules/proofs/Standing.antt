@@ -54,9 +54,6 @@ module _ (j : Judge) (n : ℕ) where
 
 -- ---- contents of a class
 module _ (c : Class) (v : List ℕ) where
-  pub good-front-most : goodFront c v ≤ length v
-  good-front-most = passing-most _ _ 0 0 v
-
   pub fits-iff : (goodFront c v =? length v) ≡ fitsFrom c (length v) 0 0 v
   fits-iff = passing-all _ _ 0 0 v
 
@@ -172,6 +169,17 @@ module _ (n : ℕ) where
         length-drop at v,
         length-drop (at + 2) v,
       )
+
+-- two digits that stand are there
+pub pair-whole : (r : Range) (v : List ℕ) (got : ℕ) → got ≡ 0 + pairStands r (drop 0 v) → 2 ≤ got → 2 ≤ length v
+unfolding pairStands pick
+pair-whole r [] got e h = omega arith
+pair-whole r (a ∷ []) got e h = one (tensFit r a) e
+  where
+    one : (t : Bool) → got ≡ 0 + pick t 1 0 → 2 ≤ 1
+    one true e = omega arith
+    one false e = omega arith
+pair-whole r (a ∷ b ∷ v) got e h = omega arith
 
 -- ---- a pair in the code: none, one or two octets from a place on
 pub tens-digit : (r : Range) (x : ℕ) → tensFit r x ≡ true → 48 ≤ x

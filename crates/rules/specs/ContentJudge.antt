@@ -1,14 +1,14 @@
 -- The judge of single content octets: whether octet x may stand at index i of n where m is remembered, and what is
--- remembered then; one for each class. What is remembered is a code, the tens digit of a pair, and never an octet for
--- its own sake.
+-- remembered then; one for each class. What is remembered is a code, the tens digit of a pair or the days that are
+-- left of a month, and never an octet for its own sake.
 -- Assumes nothing.
 use Prim.Native.Nat.{ℕ, zero, suc, _+_, _*_, _-_}
 use mathlib.Core.Bool.{Bool, true}
 use mathlib.Core.List.{List, [], _∷_}
 use lib.ListN.{length}
-use Rattle.rules.specs.Tests.{_≤?_, _and_, pick}
-use Rattle.rules.specs.Contents.{Range, within, inSet, digit}
-use Rattle.rules.specs.Table.{dateRanges, numberSet, absentSet, nameSet, lampSet, identitySet, anyOctet, callTypeSet, forwardedSet, userSet, oldNumberSet, oldForwardedSet, oldUserSet}
+use Rattle.rules.specs.Tests.{_≤?_, _and_, _or_, pick}
+use Rattle.rules.specs.Contents.{Range, within, inSet, digit, days}
+use Rattle.rules.specs.Table.{timeRanges, numberSet, absentSet, nameSet, lampSet, identitySet, anyOctet, callTypeSet, forwardedSet, userSet, oldNumberSet, oldForwardedSet, oldUserSet}
 use Rattle.rules.specs.declared.Class.{Class}
 use Rattle.rules.specs.declared.Class.the-variants.{Date, Number, Absent, Name, Lamp, Identity, CallType, Waiting, Forwarded, User, Carried, OldNumber, ShortText, OldForwarded, OldUser, Unlisted}
 
@@ -27,7 +27,7 @@ unfoldable pub passing : Judge → ℕ → ℕ → ℕ → List ℕ → ℕ
 passing j n i m [] = 0
 passing j n i m (x ∷ v) = pick (j .ok n i m x) (suc (passing j n (suc i) (j .keep n i m x) v)) 0
 
--- ---- the judges of the three builders
+-- ---- the judges of the four builders
 -- some number of the range has the tens m
 unfoldable pub opens : Range → ℕ → Bool
 opens r m = r .0 ≤? 10 * m + 9 and 10 * m ≤? r .1
@@ -56,6 +56,28 @@ pairStands r (a ∷ b ∷ v) = pick (tensFit r a) (pick (onesFit r (a - 48) b) 2
 abbrev pub pairsJudge : List Range → Judge
 pairsJudge rs = record { ok = λ n i m x. pairAt rs i m x; keep = λ n i m x. x - 48 }
 
+-- a digit that makes a day of the m that are left from the tens on; more than 21 are left only after the tens 0, where
+-- 0 makes none
+unfoldable pub dayFits : ℕ → ℕ → Bool
+dayFits m x = digit x and (x - 48 ≤? m and (m ≤? 21 or 49 ≤? x))
+
+-- the tens of the month are remembered; then its days; then those that are left from the tens on; then nothing of it
+unfoldable pub calendarAt : List Range → ℕ → ℕ → ℕ → Bool
+calendarAt rs zero m x = tensFit (1, 12) x
+calendarAt rs (suc zero) m x = onesFit (1, 12) m x
+calendarAt rs (suc (suc zero)) m x = tensFit (1, m) x
+calendarAt rs (suc (suc (suc zero))) m x = dayFits m x
+calendarAt rs (suc (suc (suc (suc i)))) m x = pairAt rs i m x
+
+unfoldable pub calendarKeep : ℕ → ℕ → ℕ → ℕ
+calendarKeep zero m x = x - 48
+calendarKeep (suc zero) m x = days (10 * m + (x - 48))
+calendarKeep (suc (suc zero)) m x = m - 10 * (x - 48)
+calendarKeep (suc (suc (suc i))) m x = x - 48
+
+abbrev pub calendarJudge : List Range → Judge
+calendarJudge rs = record { ok = λ n i m x. calendarAt rs i m x; keep = λ n i m x. calendarKeep i m x }
+
 unfoldable pub columnAt : List (List Range) → ℕ → ℕ → Bool
 columnAt [] i x = x ≤? 255
 columnAt (s ∷ ss) zero x = inSet s x
@@ -69,7 +91,7 @@ textJudge s = record { ok = λ n i m x. inSet s x; keep = λ n i m x. 0 }
 
 -- ---- the judge of each class
 unfoldable pub judgeOf : Class → Judge
-judgeOf Date = pairsJudge dateRanges
+judgeOf Date = calendarJudge timeRanges
 judgeOf Number = textJudge numberSet
 judgeOf Absent = columnsJudge (absentSet ∷ [])
 judgeOf Name = textJudge nameSet

@@ -1,11 +1,11 @@
--- What the contents of a parameter may be (document 01, The message). A class of contents is the lengths that they
--- have and a rule over whole contents; three builders make such classes.
+-- What the contents of a parameter may be (document 01, The message; of a date, document 02, Q-2). A class of contents
+-- is the lengths that they have and a rule over whole contents; four builders make such classes.
 -- Assumes nothing.
-use Rattle.rules.specs.Tests.{_≤?_, _and_, _or_}
-use Prim.Native.Nat.{ℕ, _+_, _*_, _-_}
+use Rattle.rules.specs.Tests.{_≤?_, _=?_, _and_, _or_, pick}
+use Prim.Native.Nat.{ℕ, suc, _+_, _*_, _-_}
 use mathlib.Core.Bool.{Bool, true, false}
 use mathlib.Core.List.{List, [], _∷_}
-use lib.ListN.{length}
+use lib.ListN.{length, getD}
 
 -- the numbers from the first to the second
 abbrev pub Range : Type 0
@@ -50,6 +50,26 @@ pairsFit (r ∷ rs) (a ∷ b ∷ v) = pairFits r a b and pairsFit rs v
 -- two digits for a number out of each range
 abbrev pub pairs : List Range → Whole
 pairs rs = record { lengths = only (2 * length rs); fits = pairsFit rs }
+
+-- April, June, September or November
+unfoldable pub shortMonth : ℕ → Bool
+shortMonth m = m =? 4 or m =? 6 or m =? 9 or m =? 11
+
+-- the days of a month; February has 29, since no year is sent (document 02, Q-2)
+unfoldable pub days : ℕ → ℕ
+days m = pick (m =? 2) 29 (pick (shortMonth m) 30 31)
+
+-- the number that the first two digits make
+unfoldable pub monthOf : List ℕ → ℕ
+monthOf v = 10 * (getD v 0 0 - 48) + (getD v 1 0 - 48)
+
+-- a month, a day that it has, and numbers out of the ranges
+abbrev pub dated : ℕ → List Range → List Range
+dated m rs = (1, 12) ∷ (1, days m) ∷ rs
+
+-- two digits each for a month, a day of that month, and a number out of each range
+abbrev pub calendar : List Range → Whole
+calendar rs = record { lengths = only (2 * suc (suc (length rs))); fits = λ v. pairsFit (dated (monthOf v) rs) v }
 
 unfoldable pub columnsFit : List (List Range) → List ℕ → Bool
 columnsFit [] [] = true

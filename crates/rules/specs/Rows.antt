@@ -7,13 +7,13 @@ use mathlib.Core.List.{List, [], _∷_}
 use mathlib.Core.Option.{none, some}
 use Rattle.rules.specs.Tests.{_≤?_, _=?_, _and_, _or_, pick}
 use Rattle.rules.specs.Octets.{total, checksum}
-use Rattle.rules.specs.Contents.{within, inSet, digit, someLength}
+use Rattle.rules.specs.Contents.{within, inSet, digit, someLength, shortMonth, days}
 use Rattle.rules.specs.Table.{Rules, rowIn, rowOf, listedIn, listed, classOf, rivalOf, typeFault, classFault, rulesOf, whole}
 use Rattle.rules.specs.declared.Book.the-variants.{PresentStrict, PresentLenient, OldStrict, OldLenient}
 use Rattle.rules.specs.Message as message
 use Rattle.rules.specs.Message.{Parameter, body, octets, messageKind}
 use Rattle.rules.specs.Counting.{firstOf, counted, carriedIn}
-use Rattle.rules.specs.ContentJudge.{opens, tensFit, onesFit, pairAt, columnAt, judgeOf}
+use Rattle.rules.specs.ContentJudge.{opens, tensFit, onesFit, pairAt, dayFits, calendarAt, calendarKeep, columnAt, judgeOf}
 use Rattle.rules.specs.Machine.{step, run, answer}
 use Rattle.rules.specs.Judge.{roomFits, rangePossible, somePossible, possible, final, fits, contents, after, fault, machine}
 use Rattle.rules.specs.declared.State.{State}
@@ -43,7 +43,8 @@ unfoldable pub expected : List Example → List RowAnswer
 expected [] = []
 expected (r ∷ rs) = r .1 ∷ expected rs
 
--- the listener's column, all rows
+-- the listener's column, all rows; and those of document 02, Q-2: a 3 in February, a 31st of April, a 29th of
+-- February, a day 00
 abbrev pub listenerRows : List Example
 listenerRows =
     ([], waits) ∷
@@ -60,6 +61,10 @@ listenerRows =
     (0x80 ∷ 0xFF ∷ 0x05 ∷ 0xFD ∷ [], waits) ∷
     (0x80 ∷ 0xFF ∷ 0x05 ∷ 0xFC ∷ [], refused 4 at 3) ∷
     (0x80 ∷ 0x0A ∷ 0x01 ∷ 0x08 ∷ 0x31 ∷ 0x33 ∷ [], refused 5 at 5) ∷
+    (0x80 ∷ 0x0A ∷ 0x01 ∷ 0x08 ∷ 0x30 ∷ 0x32 ∷ 0x33 ∷ [], refused 5 at 6) ∷
+    (0x80 ∷ 0x0A ∷ 0x01 ∷ 0x08 ∷ 0x30 ∷ 0x34 ∷ 0x33 ∷ 0x31 ∷ [], refused 5 at 7) ∷
+    (0x80 ∷ 0x0A ∷ 0x01 ∷ 0x08 ∷ 0x30 ∷ 0x32 ∷ 0x32 ∷ 0x39 ∷ [], waits) ∷
+    (0x80 ∷ 0x0A ∷ 0x01 ∷ 0x08 ∷ 0x30 ∷ 0x31 ∷ 0x30 ∷ 0x30 ∷ [], refused 5 at 7) ∷
     (0x82 ∷ 0x03 ∷ 0x0B ∷ 0x01 ∷ 0x80 ∷ [], refused 5 at 4) ∷
     (0x82 ∷ 0x03 ∷ 0x0B ∷ 0x01 ∷ 0xFF ∷ 0x70 ∷ [], size 6) ∷
     (0x82 ∷ 0x03 ∷ 0x0B ∷ 0x01 ∷ 0xFF ∷ 0x71 ∷ [], refused 6 at 5) ∷
@@ -146,7 +151,7 @@ pub record Claim : Type 0 where
   pub carried-never : counted (rulesOf PresentLenient) (call (parameter 0x05 (1 ∷ []) ∷ [])) 0x05 ≡ none
 
 pub rows : Claim
-unfolding _≤?_ _=?_ _and_ _or_ pick total checksum within inSet whole digit rowIn rowOf listedIn listed classOf rivalOf typeFault classFault someLength rulesOf body octets messageKind firstOf counted carriedIn opens tensFit onesFit pairAt columnAt judgeOf step run roomFits rangePossible somePossible possible final fits contents after fault machine rowAnswer answers expected
+unfolding _≤?_ _=?_ _and_ _or_ pick total checksum within inSet whole digit rowIn rowOf listedIn listed classOf rivalOf typeFault classFault someLength rulesOf body octets messageKind firstOf counted carriedIn opens tensFit onesFit pairAt dayFits calendarAt calendarKeep shortMonth days columnAt judgeOf step run roomFits rangePossible somePossible possible final fits contents after fault machine rowAnswer answers expected
 rows = record {
   heard = refl;
   strict = refl;

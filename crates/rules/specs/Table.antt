@@ -3,7 +3,7 @@
 -- for each class its contents, its kind of value in a draft and its style in a listing. A set of rules is such a table.
 -- Assumes nothing.
 use Rattle.rules.specs.Tests.{_=?_, _or_, pick}
-use Rattle.rules.specs.Contents.{Range, inSet, someLength, Whole, pairs, columns, text}
+use Rattle.rules.specs.Contents.{Range, inSet, someLength, Whole, calendar, columns, text}
 use Prim.Native.Nat.{ℕ}
 use Prim.Native.String.{String, [] as nil, _∷_ as _then_}
 use Prim.Native.Char as char
@@ -35,9 +35,9 @@ pub record Rules : Type 0 where
   pub others : Class
 
 -- ---- the contents of each class
--- month, day, hour, minute
-abbrev pub dateRanges : List Range
-dateRanges = (1, 12) ∷ (1, 31) ∷ (0, 23) ∷ (0, 59) ∷ []
+-- hour, minute
+abbrev pub timeRanges : List Range
+timeRanges = (0, 23) ∷ (0, 59) ∷ []
 
 abbrev pub anyOctet : List Range
 anyOctet = (0, 255) ∷ []
@@ -82,7 +82,7 @@ oldForwardedSet = (0x00, 0x06) ∷ []
 
 -- a class means the same in every set of rules
 unfoldable pub whole : Class → Whole
-whole Date = pairs dateRanges
+whole Date = calendar timeRanges
 whole Number = text ((1, 20) ∷ []) numberSet
 whole Absent = columns (absentSet ∷ [])
 whole Name = text ((1, 50) ∷ []) nameSet

@@ -1,16 +1,18 @@
-// What the judge of single octets is made of, and the tests that it needs: the class of a parameter type, the lengths of a class and the room
-// they fit, and the octets of contents (document 01, The message); and whether two texts are the same. Every function is total.
+// What the judge of single octets is made of, and the tests that it needs: the class of a parameter type, the lengths
+// of a class and the room they fit, and the octets of contents (document 01, The message), one by one and as a whole;
+// whether two texts are the same, and what a reference of two octets is. Every function is total.
 ghost use mathlib.Core.Path.{_≡_};
 ghost use mathlib.Core.Bool.{true};
-ghost use Prim.Native.Nat.{_+_, _-_, _≤_};
+ghost use Prim.Native.Nat.{_+_, _*_, _-_, _≤_};
 ghost use lib.ListN as list;
 ghost use Rattle.rules.specs.Tests.{_=?_, _and_, pick};
 ghost use Rattle.rules.specs.Pairwise.{sameOctets};
-ghost use Rattle.rules.specs.Contents.{within, inSet};
+ghost use Rattle.rules.specs.Octets.{referenceOf};
+ghost use Rattle.rules.specs.Contents.{within, inSet, days, monthOf};
 ghost use Rattle.rules.specs.Table.{rulesOf, oldBook, listed, classOf, classFault, rivalOf, formOf, whole, lengthFits, oldUserSet, numberSet, nameSet, absentSet, lampSet, identitySet, callTypeSet, forwardedSet, userSet};
 ghost use Rattle.rules.specs.Codes.{classCode, classCoded, laterClass, strictClass, ranges};
 ghost use Rattle.rules.specs.declared.Book.the-variants as book;
-ghost use Rattle.rules.specs.ContentJudge.{tensFit, onesFit, okAt, pairStands, goodFront};
+ghost use Rattle.rules.specs.ContentJudge.{tensFit, onesFit, dayFits, calendarKeep, okAt, pairStands, goodFront};
 ghost use Rattle.rules.specs.ContentJudge as content;
 ghost use Rattle.rules.specs.Message.{messageKind};
 ghost use Rattle.rules.specs.Judge.{roomFits, rangePossible};
@@ -20,6 +22,17 @@ ghost use Rattle.rules.specs.declared.Class.the-variants as class;
 
 // A message has at most so many parameters: each takes three of its 255 octets (document 01, The message).
 pub const MOST: usize = 85;
+
+// Contents have at most so many octets: the 255 of a message's parameters less a type and a length (document 01, The
+// message).
+pub const LONGEST: usize = 253;
+
+// A date's last month, hour and minute (document 01, The message).
+const LAST_MONTH: u8 = 12;
+
+const LAST_HOUR: u8 = 23;
+
+const LAST_MINUTE: u8 = 59;
 
 // The classes of the present edition, unlisted types carried, have the codes up to this one.
 pub const LAST_PRESENT: u8 = 10;
@@ -57,7 +70,8 @@ pub enum Book {
     OldLenient,
 }
 
-// The kinds of value that a draft holds (document 01, Drafts): the numbers of a date, a code, a state with a reference, a text, a carried text.
+// The kinds of value that a draft holds (document 01, Drafts): the numbers of a date, a code, a state with a
+// reference, a text, a carried text.
 pub enum Form {
     DateValue,
     CodeValue,
@@ -66,7 +80,8 @@ pub enum Form {
     CarriedValue,
 }
 
-// What the next octet is: the message type, the length L, a parameter type or (no room left) the checksum, a parameter length, an octet of contents.
+// What the next octet is: the message type, the length L, a parameter type or (no room left) the checksum, a
+// parameter length, an octet of contents.
 pub enum Stage {
     Kind,
     Size,
@@ -602,18 +617,35 @@ fn pair_ok(lo: u8, hi: u8, i: u8, m: u8, x: u8) -> bool
     }
 }
 
-// Two digits each for the month, the day, the hour and the minute.
+// The ones of a day, of which m are left from the tens on: more than 21 only after the tens 0, where 0 makes none.
+fn day_ok(m: u8, x: u8) -> bool
+    ensures { λ r. ⌜ r ≡ dayFits m x ⌝ }
+{
+    if x < 48 {
+        false
+    } else if 57 < x {
+        false
+    } else if x - 48 <= m {
+        if m <= 21 { true } else { 49 <= x }
+    } else {
+        false
+    }
+}
+
+// Two digits each for the month, a day of that month, the hour and the minute (document 02, Q-2).
 fn date_ok(n: u8, i: u8, m: u8, x: u8) -> bool
     ensures { λ r. ⌜ r ≡ okAt class.Date n i m x ⌝ }
 {
     if i < 2 {
-        pair_ok(1, 12, i, m, x)
-    } else if i < 4 {
-        pair_ok(1, 31, i - 2, m, x)
+        pair_ok(1, LAST_MONTH, i, m, x)
+    } else if i == 2 {
+        tens_ok(1, m, x)
+    } else if i == 3 {
+        day_ok(m, x)
     } else if i < 6 {
-        pair_ok(0, 23, i - 4, m, x)
+        pair_ok(0, LAST_HOUR, i - 4, m, x)
     } else if i < 8 {
-        pair_ok(0, 59, i - 6, m, x)
+        pair_ok(0, LAST_MINUTE, i - 6, m, x)
     } else {
         true
     }
@@ -752,12 +784,51 @@ fn digit_of(x: u8) -> u8
     if 48 <= x { x - 48 } else { 0 }
 }
 
-// What is remembered after octet x: of a date the digit, of all others nothing.
+// The days of a month; February has 29 (document 02, Q-2).
+fn days_in(month: u16) -> u8
+    ensures { λ r. ⌜ r ≡ days month ⌝ }
+{
+    match month {
+        2 => 29,
+        4 | 6 | 9 | 11 => 30,
+        _ => 31,
+    }
+}
+
+// The days of the month that octet x makes with the tens.
+fn month_days(tens: u8, x: u8) -> u8
+    ensures { λ r. ⌜ r ≡ days (10 * tens + (x - 48)) ⌝ }
+{
+    days_in(10 * (tens as u16) + digit_of(x) as u16)
+}
+
+// Of m days, how many are left from the tens on that octet x says.
+fn days_left(m: u8, x: u8) -> u8
+    ensures { λ r. ⌜ r ≡ m - 10 * (x - 48) ⌝ }
+{
+    let t = digit_of(x);
+    if t <= m / 10 { m - 10 * t } else { 0 }
+}
+
+// Of a date: the tens of the month, its days, what is left of them; behind the day the digit alone.
+fn date_kept(i: u8, m: u8, x: u8) -> u8
+    ensures { λ r. ⌜ r ≡ calendarKeep i m x ⌝ }
+{
+    if i == 1 {
+        month_days(m, x)
+    } else if i == 2 {
+        days_left(m, x)
+    } else {
+        digit_of(x)
+    }
+}
+
+// What is remembered after octet x: of a date as the calendar asks, of all others nothing.
 pub fn remember(c: Class, n: u8, i: u8, m: u8, x: u8) -> u8
     ensures { λ r. ⌜ r ≡ content.remember c n i m x ⌝ }
 {
     match c {
-        Class::Date => digit_of(x),
+        Class::Date => date_kept(i, m, x),
         Class::Number => 0,
         Class::Absent => 0,
         Class::Name => 0,
@@ -844,23 +915,31 @@ fn pair_along(lo: u8, hi: u8, v: &[u8], at: usize) -> usize
     }
 }
 
+// The days of the month that contents begin with.
+fn days_along(v: &[u8]) -> u8
+    requires { ⌜ 2 ≤ list.length (now v) ⌝ }
+    ensures { λ r. ⌜ r ≡ days (monthOf (now (v .entry))) ⌝ }
+{
+    month_days(digit_of(v[0]), v[1])
+}
+
 // The digits of a date, as far as they go: month, day, hour and minute.
 fn date_along(v: &[u8]) -> usize
     ensures { λ r. ⌜ r ≡ goodFront class.Date (now (v .entry)) ⌝ }
 {
-    let month = pair_along(1, 12, v, 0);
+    let month = pair_along(1, LAST_MONTH, v, 0);
     if month < 2 {
         return month;
     }
-    let day = pair_along(1, 31, v, 2);
+    let day = pair_along(1, days_along(v), v, 2);
     if day < 4 {
         return day;
     }
-    let hour = pair_along(0, 23, v, 4);
+    let hour = pair_along(0, LAST_HOUR, v, 4);
     if hour < 6 {
         return hour;
     }
-    let minute = pair_along(0, 59, v, 6);
+    let minute = pair_along(0, LAST_MINUTE, v, 6);
     if minute < 8 {
         return minute;
     }
@@ -923,8 +1002,6 @@ pub fn same_octets(v: &[u8], w: &[u8]) -> bool
         false
     }
 }
-
-ghost use Rattle.rules.specs.Octets.{referenceOf};
 
 // The reference that two octets of 0DH say, the high one first.
 pub fn reference_of(high: u8, low: u8) -> u16

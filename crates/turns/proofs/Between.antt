@@ -1,26 +1,27 @@
 -- From header to header: the machine stands at the last header on the way as it would have come there octet by octet;
 -- the room falls by what lies between; and how far a stop can be.
 -- Assumes nothing.
-use Prim.Native.Nat.{ℕ, suc, _+_, _-_, _≤_, _<_}
-use mathlib.Core.Path.{_≡_, refl, sym, _∙_, ap, subst}
-use mathlib.Core.Bool.{true, false}
+use Prim.Native.Nat.{ℕ, _+_, _-_, _≤_}
+use mathlib.Core.Path.{_≡_, refl, _∙_, ap, subst}
+use mathlib.Core.Bool.{true}
 use mathlib.Core.List.{List, [], _∷_}
 use native.Mathlib.Omega.{arith}
 use native.Mathlib.Nat.{add-assoc}
-use lib.ListN.{length, take, drop, getD, length-drop}
+use lib.ListN.{length, take, drop, length-drop}
 use lib.Seq.{drop-drop}
 use lib.Dec.{T}
 use Rattle.rules.proofs.Tests.{both, le-of, clash}
 use Rattle.rules.proofs.Returns.{T-of, holds}
 use Rattle.rules.specs.Octets.{Octets}
 use Rattle.rules.proofs.Octets.{octets-drop}
-use Rattle.rules.specs.Table.{Rules, classOf, lengthFits}
+use Rattle.rules.specs.Table.{Rules, classOf}
 use Rattle.rules.proofs.ContentLaw.{SoundRules}
-use Rattle.rules.specs.Machine.{Machine, step, run, Waits, place}
+use Rattle.rules.specs.Machine.{step, run, place}
 use Rattle.rules.proofs.Listening.{stepped, placed, message-stays, refused-stays}
-use Rattle.rules.specs.Judge.{machine, inRange, roomFits}
-use Rattle.rules.proofs.InRange.{in-range-closed, inside, message-size, refused-number}
-use Rattle.rules.specs.declared.Spot.{Spot}
+use Rattle.rules.specs.Judge.{machine, inRange}
+use Rattle.rules.proofs.Language.{in-range-run}
+use Rattle.rules.proofs.Grammar.{spoken}
+use Rattle.rules.proofs.InRange.{inside, message-size, refused-number}
 use Rattle.rules.specs.declared.Stage.the-variants.{Header}
 use Rattle.rules.specs.declared.State.{State}
 use Rattle.rules.specs.declared.State.the-variants.{Waiting, Message, Refused}
@@ -40,11 +41,11 @@ span-fits R room (t ∷ n ∷ v) e =
 
 module _ (R : Rules) (o : List ℕ) where
   -- over one parameter
-  pub stands-over : (at room sum p : ℕ) → stands R room (drop at o) ≡ true →
+  pub one-over : (at room sum p : ℕ) → stands R room (drop at o) ≡ true →
       from R o at room sum p ≡
       from R o (at + spanOf (drop at o)) (room - spanOf (drop at o))
       (summed sum (take (spanOf (drop at o)) (drop at o))) p
-  stands-over at room sum p e =
+  one-over at room sum p e =
       passes-over R room (record { sum = sum; place = p + at }) (drop at o) e
       ∙ (λ i. run (machine R) (Waiting (Header (room - spanOf (drop at o))) (record {
         sum = summed sum (take (spanOf (drop at o)) (drop at o));
@@ -55,7 +56,7 @@ module _ (R : Rules) (o : List ℕ) where
   pub along-from : {at room sum n r v : ℕ} → Along R o at room sum n r v → (p : ℕ) →
       from R o at room sum p ≡ from R o n r v p
   along-from (Along.stays e) p = refl
-  along-from {at = at} {room = room} {sum = sum} (Along.goes e a) p = stands-over at room sum p e ∙ along-from a p
+  along-from {at = at} {room = room} {sum = sum} (Along.goes e a) p = one-over at room sum p e ∙ along-from a p
 
   pub along-room : {at room sum n r v : ℕ} → Along R o at room sum n r v → (at ≤ n) × (n + r ≡ at + room)
   along-room (Along.stays e) = (omega arith, refl)
@@ -70,18 +71,11 @@ module _ (R : Rules) (o : List ℕ) where
       along-inside a (omega (arith, span-fits R room (drop at o) e .1, length-drop at o))
 
   -- ---- how far
-  pub in-range-run : SoundRules R → (w : State) (h : List ℕ) → Octets h → T (inRange R w) →
-      T (inRange R (run (machine R) w h))
-  unfolding run
-  in-range-run S w [] b t = t
-  in-range-run S w (x ∷ h) b t =
-      in-range-run S (step (machine R) w x) h (b .1) (in-range-closed R S w x (b .0) t)
-
   -- the octets lie where a message of the most octets has them, so that a stop is no further than its end
   pub near : SoundRules R → Octets o → (at room sum : ℕ) → at + room ≤ 255 → (s : Stop) → Turned R o at room sum s →
       s .place ≤ 256
   unfolding inRange
-  near S b at room sum h s t = go s t (in-range-run S _ (drop at o) (octets-drop at o b) starts)
+  near S b at room sum h s t = go s t (in-range-run (spoken R S) _ (drop at o) (octets-drop at o b) starts)
     where
       starts : T (inRange R (Waiting (Header room) (record { sum = sum; place = 257 - (at + room) + at })))
       starts = inside 5 257 _ (omega arith) (omega arith)

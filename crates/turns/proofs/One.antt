@@ -2,17 +2,15 @@
 -- Assumes nothing.
 use Prim.Native.Nat.{ℕ, _+_}
 use mathlib.Core.Path.{_≡_, refl, sym, _∙_, ap, subst}
-use mathlib.Core.Bool.{true, false}
 use mathlib.Core.List.{List}
 use native.Mathlib.Omega.{arith}
 use Rattle.rules.proofs.Tests.{clash}
 use Rattle.rules.specs.Table.{Rules}
 use Rattle.rules.specs.Machine.{Waits}
 use Rattle.rules.specs.declared.Fault.{Fault}
-use Rattle.rules.specs.declared.State.{State}
-use Rattle.rules.specs.declared.State.the-variants.{Waiting, Message, Refused}
+use Rattle.rules.specs.declared.State.the-variants.{Message, Refused}
 use Rattle.turns.specs.declared.Stop.{Stop}
-use Rattle.turns.specs.Turns.{stop, stands, Along, Turned, from}
+use Rattle.turns.specs.Turns.{stop, Along, Turned, from}
 
 same-size : (n m : ℕ) → Message (0 + n) ≡ Message (0 + m) → n ≡ m
 same-size n m e = let k : 0 + n ≡ 0 + m = cc in omega arith

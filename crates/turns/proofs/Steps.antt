@@ -1,21 +1,20 @@
 -- The machine on octets from a header on: step by step, then along a parameter's contents, then over a whole
 -- parameter.
 -- Assumes nothing.
-use Prim.Native.Nat.{ℕ, zero, suc, _+_, _-_, _%_, _≤_, _<_}
+use Prim.Native.Nat.{ℕ, suc, _+_, _-_, _%_, _≤_, _<_}
 use mathlib.Core.Path.{_≡_, refl, sym, _∙_, ap, ap₂, subst}
 use mathlib.Core.Bool.{Bool, true, false}
 use mathlib.Core.List.{List, [], _∷_, _++_}
 use native.Mathlib.Omega.{arith}
 use native.Mathlib.Nat.{add-zero}
-use lib.ListN.{length, take, drop, getD, take-append-drop}
+use lib.ListN.{length, take, drop, take-append-drop}
 use lib.Seq.{length-take-le}
-use lib.Dec.{T}
-use Rattle.rules.specs.Tests.{_≤?_, _=?_, _and_, pick}
-use Rattle.rules.proofs.Tests.{both, le-of, eq-of, pick-yes, pick-not, of-eq, clash}
+use Rattle.rules.specs.Tests.{_and_, pick}
+use Rattle.rules.proofs.Tests.{both, le-of, eq-of, clash}
 use Rattle.rules.proofs.Returns.{T-of, holds}
 use Rattle.rules.specs.Octets.{total}
 use Rattle.rules.specs.Table.{Rules, classOf, classFault, lengthFits}
-use Rattle.rules.specs.ContentJudge.{Judge, okAt, remember, judgeOf, passing, goodFront}
+use Rattle.rules.specs.ContentJudge.{okAt, remember, judgeOf, passing}
 use Rattle.rules.proofs.ContentLaw.{lawful}
 use Rattle.rules.specs.Machine.{Machine, moved, step, run, Waits}
 use Rattle.rules.specs.Judge.{machine, final, fits, contents, after, fault, possible, roomFits}

@@ -1,8 +1,8 @@
 -- The ways in which octets from a header on come to a stop, each from what the tests of its octets gave; and a whole
 -- parameter passed over.
 -- Assumes nothing.
-use Prim.Native.Nat.{ℕ, suc, _+_, _-_, _%_, _≤_, _<_}
-use mathlib.Core.Path.{_≡_, refl, sym, _∙_, ap, ap₂, subst}
+use Prim.Native.Nat.{ℕ, _+_, _-_, _%_, _≤_, _<_}
+use mathlib.Core.Path.{_≡_, refl, sym, _∙_, ap, subst}
 use mathlib.Core.Bool.{Bool, true, false}
 use mathlib.Core.List.{List, [], _∷_, _++_}
 use mathlib.Core.Logic.{_⊎_, inl, inr}
@@ -11,10 +11,9 @@ use native.Mathlib.Numerals.{add-one}
 use lib.ListN.{length, take, drop, getD, drop-of-length-le, length-drop, take-append-drop}
 use lib.Seq.{drop-cons, drop-drop, length-take-le, take-all}
 use lib.Dec.{T}
-use Rattle.rules.specs.Tests.{_≤?_, _=?_, _and_, pick}
-use Rattle.rules.proofs.Tests.{le-of, picked, clash}
-use Rattle.rules.proofs.Returns.{T-of, and-t, and-f, yes-le, no-le, yes-eq, no-eq}
-use Rattle.rules.specs.Octets.{total}
+use Rattle.rules.specs.Tests.{_and_, pick}
+use Rattle.rules.proofs.Tests.{picked, clash}
+use Rattle.rules.proofs.Returns.{and-t, and-f, yes-le, no-le, yes-eq}
 use Rattle.rules.specs.Table.{Rules, classOf, classFault, lengthFits}
 use Rattle.rules.specs.ContentJudge.{judgeOf, passing, goodFront}
 use Rattle.rules.specs.Machine.{run, Waits}
@@ -27,7 +26,7 @@ use Rattle.rules.specs.declared.State.the-variants.{Waiting, Message, Refused}
 use Rattle.turns.specs.declared.Stop.{Stop}
 use Rattle.turns.specs.Turns.{stop, stands, spanOf, summed, Along, Turned, from, fitsAt, Headed, stopIn}
 use Rattle.rules.proofs.Standing.{passing-most}
-use Rattle.turns.proofs.Steps.{sealed, not-sealed, type-on, type-spoils, length-spoils, fits-facts, fits-possible, header-waits, contents-wait, contents-spoil, passes-over}
+use Rattle.turns.proofs.Steps.{sealed, not-sealed, type-on, type-spoils, length-spoils, fits-facts, header-waits, contents-wait, contents-spoil, passes-over}
 
 -- ---- the octets at a place
 pub front : (o : List ℕ) (at : ℕ) → at < length o → drop at o ≡ getD o at 0 ∷ drop (at + 1) o

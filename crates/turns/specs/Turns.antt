@@ -64,7 +64,7 @@ from R o at room sum p = run (machine R) (Waiting (Header room) (record { sum = 
 
 -- where the octets from `at` on come to
 pub data Turned (R : Rules) (o : List ℕ) (at room sum : ℕ) : Stop → Type 0 where
-  -- 0: to the end of a message, behind octet n
+  -- 0: to the end of a message, n octets on
   whole : (n : ℕ) → ((p : ℕ) → from R o at room sum p ≡ Message (p + n)) → Turned R o at room sum (stop 0 n 0 0)
   -- 8: to their own end; the last header on the way is at n
   early : (n r v : ℕ) → Along R o at room sum n r v → ((p : ℕ) → Waits (from R o at room sum p)) →
@@ -74,6 +74,6 @@ pub data Turned (R : Rules) (o : List ℕ) (at room sum : ℕ) : Stop → Type 0
       ((p : ℕ) → from R o at room sum p ≡ Refused (record { number = k; place = p + n })) →
       Turned R o at room sum (stop k n 0 0)
 
--- a stop as one number
+-- the stop that a number holds
 unfoldable pub stopIn : ℕ → Stop
 stopIn w = stop (w % 256) (w / 256 % 65536) (w / 16777216 % 256) (w / 4294967296 % 256)

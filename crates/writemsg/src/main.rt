@@ -1,4 +1,5 @@
-// Document 01's messages, written from drafts and printed as octets in hex, a line each; a refusal as its number and place.
+// Document 01's messages, and dates on both sides of document 02's Q-2, written from drafts and printed as octets in
+// hex, a line each; a refusal as its number and place.
 use draft::Draft;
 use draft::Entry;
 use draft::Value;
@@ -90,6 +91,18 @@ fn time() -> Entry {
     }
 }
 
+fn midnight(month: u8, day: u8) -> Entry {
+    Entry {
+        kind: 0x01,
+        value: Value::Date {
+            month,
+            day,
+            hour: 0,
+            minute: 0,
+        },
+    }
+}
+
 fn main() {
     let texts = b"740912";
     show(two(0x80, time(), caller(1, 5)), texts);
@@ -101,4 +114,7 @@ fn main() {
     show(draft::empty(0x82), texts);
     show(two(0x82, code(0x13, 2), code(0x0B, 0x80)), texts);
     show(one(0x80, caller(2, 5)), texts);
+    show(two(0x82, code(0x13, 2), midnight(4, 31)), texts);
+    show(one(0x80, midnight(2, 29)), texts);
+    show(one(0x80, midnight(2, 30)), texts);
 }

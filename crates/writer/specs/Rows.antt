@@ -7,7 +7,7 @@ use mathlib.Core.List.{List, [], _∷_, _++_}
 use lib.ListN.{length, replicate}
 use Rattle.rules.specs.Tests.{_≤?_, _=?_, _and_, _or_, pick}
 use Rattle.rules.specs.Octets.{total, checksum}
-use Rattle.rules.specs.Contents.{within, inSet, digit, pairFits, pairsFit, columnsFit, allIn}
+use Rattle.rules.specs.Contents.{within, inSet, digit, pairFits, pairsFit, shortMonth, days, monthOf, columnsFit, allIn}
 use Rattle.rules.specs.Table.{rulesOf, rowIn, rowOf, classOf, formOf, whole}
 use Rattle.rules.specs.declared.Book.the-variants.{PresentLenient}
 use Rattle.rules.specs.Message.{body, octets, messageKind, most}
@@ -84,6 +84,10 @@ writerRows =
     row (one 0x01 (Date 12 31 23 59)) [] 13 (success 13) ∷
     row (one 0x01 (Date 13 31 23 59)) [] 13 (refusal 12 0) ∷
     row (one 0x01 (Date 12 0 23 59)) [] 13 (refusal 12 0) ∷
+    row (one 0x01 (Date 4 30 0 0)) [] 13 (success 13) ∷
+    row (one 0x01 (Date 4 31 0 0)) [] 13 (refusal 12 0) ∷
+    row (one 0x01 (Date 2 29 0 0)) [] 13 (success 13) ∷
+    row (one 0x01 (Date 2 30 0 0)) [] 13 (refusal 12 0) ∷
     row (one 0x0D (State 0x55 0x0102)) [] 8 (success 8) ∷
     row (one 0x0D (State 0x54 0x0102)) [] 8 (refusal 12 0) ∷
     row (one 0x05 (Text 0 5)) area 20 (refusal 12 0) ∷
@@ -102,5 +106,5 @@ Claim =
     × (rowsTold writerRows ≡ expected writerRows))
 
 pub writer-rows : Claim
-unfolding rowsTold expected told writeOf measuredOf sized legalBefore legalEntry body octets messageOf parametersOf parameterOf spelled meaningOf inside formIs formNumber kindOf formOf classOf rowOf rowIn rulesOf whole pairsFit columnsFit allIn pairFits digit inSet within messageKind tens ones total checksum pick _and_ _or_ _≤?_ _=?_
+unfolding rowsTold expected told writeOf measuredOf sized legalBefore legalEntry body octets messageOf parametersOf parameterOf spelled meaningOf inside formIs formNumber kindOf formOf classOf rowOf rowIn rulesOf whole pairsFit shortMonth days monthOf columnsFit allIn pairFits digit inSet within messageKind tens ones total checksum pick _and_ _or_ _≤?_ _=?_
 writer-rows = (refl, (refl, refl))

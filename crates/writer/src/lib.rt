@@ -1,5 +1,5 @@
-// The writer (document 01, Drafts and Numbers): the octets of the message that a draft stands for, or the number and place of the refusal. Everything is
-// judged before anything is written.
+// The writer (document 01, Drafts and Numbers): the octets of the message that a draft stands for, or the number and
+// place of the refusal. Everything is judged before anything is written.
 use draft::Draft;
 use draft::Entry;
 use draft::Value;
@@ -33,14 +33,12 @@ struct Spelling {
     length: usize,
 }
 
-// How the entries went: the number of the first that makes no legal parameter, or the octets of all parameters together.
+// How the entries went: the number of the first that makes no legal parameter, or the octets of all parameters
+// together.
 enum Measure {
     Bad(u16),
     Size(usize),
 }
-
-// The most octets that contents have: L is at most 255, and a parameter has a type and a length beside them (document 01, The message).
-const LONGEST: usize = 253;
 
 // Two digits for each number of a date.
 fn spell_date(month: u8, day: u8, hour: u8, minute: u8) -> Spelling
@@ -109,7 +107,7 @@ fn spell(v: Value) -> Spelling
 fn fitting_length(class: Class, part: &[u8]) -> u8
     ensures { λ r. ⌜ r ≡ fitting class (now (part .entry)) ⌝ }
 {
-    if LONGEST < part.len() {
+    if rules::LONGEST < part.len() {
         return 0;
     }
     let n = part.len() as u8;
@@ -145,7 +143,8 @@ fn text_length(class: Class, texts: &[u8], start: usize, length: usize) -> u8
     }
 }
 
-// The length of the contents of an entry that makes a legal parameter, else 0: its kind of value is its type's, its text lies inside, its contents fit.
+// The length of the contents of an entry that makes a legal parameter, else 0: its kind of value is its type's, its
+// text lies inside, its contents fit.
 fn entry_length(book: Book, e: Entry, texts: &[u8]) -> u8
     ensures { λ r. ⌜ r ≡ takesOf (rulesOf book) (now (texts .entry)) e ⌝ }
 {
@@ -217,7 +216,8 @@ fn with_entries(book: Book, draft: Draft, texts: &[u8], room: usize) -> Written
     }
 }
 
-// What the writer answers, in document 01's order: 11, 14, the 85 entries of 13, 12 from the first entry on, the 255 octets of 13, and 15.
+// What the writer answers, in document 01's order: 11, 14, the 85 entries of 13, 12 from the first entry on, the 255
+// octets of 13, and 15.
 fn judge(book: Book, draft: Draft, texts: &[u8], room: usize) -> Written
     ensures { λ r. ⌜ r ≡ writeOf (rulesOf book) draft (now (texts .entry)) room ⌝ }
 {
@@ -318,7 +318,8 @@ fn put_message(draft: Draft, texts: &[u8], out: &mut [u8], size: u8)
     out[end] = std::num::wrapping_sub_u8(0, sum);
 }
 
-// Writes the message that a draft stands for to the start of the output, or refuses; octets after the message stay, and in a refusal all of them.
+// Writes the message that a draft stands for to the start of the output, or refuses; octets after the message stay,
+// and in a refusal all of them.
 pub fn write(book: Book, draft: Draft, texts: &[u8], out: &mut [u8]) -> Written
     ensures answer { λ r. ⌜ r ≡ writeOf (rulesOf book) draft (now (texts .entry)) (list.length (now (out .entry))) ⌝ }
     ensures output { λ r. ⌜ now (out .exit) ≡ outputAfter r (octets (messageOf draft (now (texts .entry)))) (now (out .entry)) ⌝ }

@@ -1,15 +1,11 @@
 -- `listener::by_turns` meets its contract: the run jumps to where the turns came, or goes one octet further.
 -- Assumes nothing.
-use Prim.Native.Nat.{_-_}
 use mathlib.Core.Path.{refl}
 use native.Mathlib.Omega.{arith}
 use native.Mathlib.Nat.{add-assoc}
-use lib.ListN.{length, take, drop, length-drop}
-use lib.Seq.{length-take-le}
 use Rattle.rules.specs.Table.{rulesOf}
 use Rattle.rules.proofs.ContentLaw.{sound-rules}
-use Rattle.rules.proofs.Octets.{octets-known, octets-take, octets-drop}
-use Rattle.turns.proofs.Between.{stop-inside}
+use Rattle.rules.proofs.Octets.{octets-known}
 use Rattle.listener.proofs.Bounds.{place-small}
 use Rattle.listener.proofs.Going.{one-step}
 use Rattle.listener.proofs.Headers.{jumped, near-place, there-place, to-message, to-header, to-refusal}

@@ -1,6 +1,6 @@
 -- `message::verdict_at` meets its contract: 7 where octets follow, 8 where they end early, else as they went.
 -- Assumes nothing.
-use mathlib.Core.Path.{refl, _∙_, ap}
+use mathlib.Core.Path.{refl, ap}
 use native.Mathlib.Omega.{arith}
 use Rattle.rules.proofs.Returns.{pick-t, pick-f, yes-eq, no-eq}
 use Rattle.message.specs.Verdict.{verdictAt}

@@ -40,8 +40,8 @@ part-value-of-end c =
 value-of-requires : tie.Need-value-of-requires
 value-of-requires c κs = search needs
 
-text-of-requires : tie.Need-text-of-requires
-text-of-requires c κs = search needs
+text-long-requires : tie.Need-text-long-requires
+text-long-requires c κs = search needs
 
 enum-told : tie.Need-enum-told
 enum-told c = search needs
@@ -50,7 +50,7 @@ returns : tie.Need-returns
 returns c =
     let after-found = c .before .before .before .before .before in
     entry-found _ _ _ _ (after-found .before .before .parameter .ensures) _ _ _ (after-found .found .given .1) _ _ _ _
-    (c .text-of .ensures) (c .before .before .before .form-at .ensures) (c .before .value-of .ensures)
+    (c .text-long .ensures) (c .before .before .before .form-at .ensures) (c .before .value-of .ensures)
 
 returns-2 : tie.Need-returns-2
 returns-2 c = entry-ended _ _ _ _ (c .before .before .parameter .ensures) _ (c .enum-told .given .1)
@@ -68,7 +68,7 @@ entry-spec =
     part-value-of-start
     part-value-of-end
     value-of-requires
-    text-of-requires
+    text-long-requires
     enum-told
     returns
     returns-2)

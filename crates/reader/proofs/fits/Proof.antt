@@ -17,8 +17,8 @@ judge-requires c κs = search needs
 enum-told : tie.Need-enum-told
 enum-told c = search needs
 
-room-for-requires : tie.Need-room-for-requires
-room-for-requires c κs =
+short-of-requires : tie.Need-short-of-requires
+short-of-requires c κs =
     let after-judge = c .before .before .before in
     let known = after-judge .before in
     let octets = octets-known (known .before .args .octets .now) (known .shared-slice-known .given) in
@@ -31,7 +31,7 @@ enum-known-verdict c = search needs
 returns : tie.Need-returns
 returns c =
     let after-judge = c .before .before .before .before in
-    c .room-for .ensures
+    c .short-of .ensures
     ∙ fits-accepted _ _ _ _ (after-judge .judge .ensures) _ (c .before .before .enum-told .given .1)
 
 returns-2 : tie.Need-returns-2
@@ -57,7 +57,7 @@ fits-spec =
     (tie.spec
     judge-requires
     enum-told
-    room-for-requires
+    short-of-requires
     enum-known-verdict
     returns
     returns-2

@@ -5,8 +5,8 @@ use borrow.Author.Needs.{needs}
 use Rattle.rules.proofs.remember.Statement.{statement}
 use Rattle.rules.proofs.remember.Tie as tie
 
-digit-of-requires : tie.Need-digit-of-requires
-digit-of-requires c κs = search needs
+date-kept-requires : tie.Need-date-kept-requires
+date-kept-requires c κs = search needs
 
 enum-told : tie.Need-enum-told
 enum-told c = search needs
@@ -58,7 +58,7 @@ enum-told-16 c = search needs
 
 returns : tie.Need-returns
 unfolding judgeOf
-returns c = rw (c .before .enum-told .given .1) (c .digit-of .ensures)
+returns c = rw (c .before .enum-told .given .1) (c .date-kept .ensures)
 
 returns-2 : tie.Need-returns-2
 unfolding judgeOf
@@ -122,7 +122,7 @@ returns-16 c = rw (c .enum-told16 .given .1)
 
 pub remember-spec : {M : Type 1} → statement M
 remember-spec =
-    tie.close (tie.spec enum-told digit-of-requires enum-told-2 enum-told-3 enum-told-4 enum-told-5 enum-told-6
+    tie.close (tie.spec enum-told date-kept-requires enum-told-2 enum-told-3 enum-told-4 enum-told-5 enum-told-6
     enum-told-7 enum-told-8 enum-told-9 enum-told-10 enum-told-11 enum-told-12 enum-told-13 enum-told-14
     enum-told-15 enum-told-16 returns returns-2 returns-3 returns-4 returns-5 returns-6 returns-7 returns-8
     returns-9 returns-10 returns-11 returns-12 returns-13 returns-14 returns-15 returns-16)

@@ -2,7 +2,6 @@
 -- left.
 -- Assumes nothing.
 use Prim.Native.Nat.{_≤_, _-_}
-use mathlib.Core.Path.{_≡_, _∙_, ap}
 use native.Mathlib.Omega.{arith}
 use Rattle.turns.proofs.Sums.{Sum, none-summed, one-summed, all-summed}
 use borrow.Author.Needs.{needs}

@@ -1,8 +1,6 @@
 -- `turns::word` meets its contract: four fields of one number.
 -- Assumes nothing.
-use mathlib.Core.Path.{_≡_}
 use native.Mathlib.Omega.{arith}
-use Rattle.turns.specs.Turns.{stopIn}
 use Rattle.turns.proofs.Words.{unpacked}
 use borrow.Author.Needs.{needs}
 use Rattle.turns.proofs.word.Statement.{statement}

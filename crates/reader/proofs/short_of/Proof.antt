@@ -1,4 +1,4 @@
--- `reader::room_for` meets its contract: 9 where the texts need more octets than there are. A message of 258 octets
+-- `reader::short_of` meets its contract: 9 where the texts need more octets than there are. A message of 258 octets
 -- has no more of text, so their number fits the place.
 -- Assumes nothing.
 use mathlib.Core.Path.{_∙_, ap}
@@ -8,8 +8,8 @@ use Rattle.reader.specs.declared.Fitting.the-variants.{Refused}
 use Rattle.reader.proofs.Turns.{size-within}
 use Rattle.reader.proofs.Area.{room-enough, room-short}
 use borrow.Author.Needs.{needs}
-use Rattle.reader.proofs.room_for.Statement.{statement}
-use Rattle.reader.proofs.room_for.Tie as tie
+use Rattle.reader.proofs.short_of.Statement.{statement}
+use Rattle.reader.proofs.short_of.Tie as tie
 
 text-size-requires : tie.Need-text-size-requires
 text-size-requires c κs = search needs
@@ -34,5 +34,5 @@ returns-2 c =
     let start = c .before .before .before in
     room-enough _ (start .args .octets .now) _ (omega (arith, c .before .text-size .ensures, c .if1 .left))
 
-pub room-for-spec : {M : Type 1} → statement M
-room-for-spec = tie.close (tie.spec text-size-requires cast-noted noted-requires returns returns-2)
+pub short-of-spec : {M : Type 1} → statement M
+short-of-spec = tie.close (tie.spec text-size-requires cast-noted noted-requires returns returns-2)

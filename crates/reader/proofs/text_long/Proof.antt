@@ -1,9 +1,9 @@
--- `reader::text_of` meets its contract: one kind of value after the other.
+-- `reader::text_long` meets its contract: one kind of value after the other.
 -- Assumes nothing.
 use Rattle.reader.specs.Read.{textLong}
 use borrow.Author.Needs.{needs}
-use Rattle.reader.proofs.text_of.Statement.{statement}
-use Rattle.reader.proofs.text_of.Tie as tie
+use Rattle.reader.proofs.text_long.Statement.{statement}
+use Rattle.reader.proofs.text_long.Tie as tie
 
 enum-told : tie.Need-enum-told
 enum-told c = search needs
@@ -40,8 +40,8 @@ returns-5 : tie.Need-returns-5
 unfolding textLong
 returns-5 c = rw (c .before .v2 .given .1)
 
-pub text-of-spec : {M : Type 1} → statement M
-text-of-spec =
+pub text-long-spec : {M : Type 1} → statement M
+text-long-spec =
     tie.close
     (tie.spec
     enum-told
