@@ -94,9 +94,10 @@ content-at-requires-2 c κs = search needs
 
 returns-3 : tie.Need-returns-3 Inv-loop μ-loop
 returns-3 c =
+    let start = c .before .before .before .before in
     let turn = c .before .before .loop in
     stands-ended _ (sound-rules _) _ _ _ _ _ _ _ _ (turn .inv) (c .before .loop-test .left)
-    (c .before .before .before .before .pre .1) _ (c .content-at2 .ensures)
+    (start .pre .1) _ (c .content-at2 .ensures)
 
 pub along-spec : {M : Type 1} → statement M
 along-spec =

@@ -32,7 +32,8 @@ returns c = rw (c .before .if1 .taken) (c .at-check .ensures)
 
 returns-2 : tie.Need-returns-2
 returns-2 c =
-    type-taken _ _ _ _ _ (c .before .before .before .before .if1 .left)
+    let branch = c .before .before .before .before in
+    type-taken _ _ _ _ _ (branch .if1 .left)
     (c .before .before .before .class-of .ensures) _
     (sym (c .before .before .possible .ensures) ∙ c .before .if2 .taken) (c .moved .ensures)
 

@@ -15,7 +15,9 @@ enum-told : tie.Need-enum-told
 enum-told c = search needs
 
 at-kind-requires : tie.Need-at-kind-requires
-at-kind-requires c κs = place-small _ (sound-rules _) _ _ (c .before .before .before .before .pre .0)
+at-kind-requires c κs =
+    let start = c .before .before .before .before in
+    place-small _ (sound-rules _) _ _ (start .pre .0)
 
 add-t20 : tie.Need-add-t20
 add-t20 c = search needs
@@ -24,7 +26,9 @@ enum-told-2 : tie.Need-enum-told-2
 enum-told-2 c = search needs
 
 at-size-requires : tie.Need-at-size-requires
-at-size-requires c κs = place-small _ (sound-rules _) _ _ (c .before .before .before .before .pre .0)
+at-size-requires c κs =
+    let start = c .before .before .before .before in
+    place-small _ (sound-rules _) _ _ (start .pre .0)
 
 add-t22 : tie.Need-add-t22
 add-t22 c = search needs
@@ -52,7 +56,9 @@ enum-known-stage-2 : tie.Need-enum-known-stage-2
 enum-known-stage-2 c = search needs
 
 at-length-requires : tie.Need-at-length-requires
-at-length-requires c κs = place-small _ (sound-rules _) _ _ (c .before .before .before .before .before .pre .0)
+at-length-requires c κs =
+    let start = c .before .before .before .before .before in
+    place-small _ (sound-rules _) _ _ (start .pre .0)
 
 add-t30 : tie.Need-add-t30
 add-t30 c = search needs

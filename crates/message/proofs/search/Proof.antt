@@ -43,9 +43,10 @@ cast-at c = search needs
 
 add-at : tie.Need-add-at Inv-loop μ-loop
 add-at c =
+    let looked = c .before .before .before .before .before in
     omega (
       arith,
-      found-inside _ _ _ _ _ _ (c .before .before .before .before .before .parameter .ensures)
+      found-inside _ _ _ _ _ _ (looked .parameter .ensures)
           (c .before .before .before .found .given .1),
     )
 
@@ -67,8 +68,9 @@ enum-told c = search needs
 
 returns-3 : tie.Need-returns-3 Inv-loop μ-loop
 returns-3 c =
+    let turn = c .before .before .before .before in
     sym (none-here _ _ _ _ _ (c .before .before .before .loop-test .taken) _
-    (c .before .before .parameter .ensures) (c .enum-told .given .1)) ∙ c .before .before .before .before .loop .inv
+    (c .before .before .parameter .ensures) (c .enum-told .given .1)) ∙ turn .loop .inv
 
 returns-4 : tie.Need-returns-4 Inv-loop μ-loop
 returns-4 c = sym (no-turns _ _ _ _ _ (c .loop-test .left)) ∙ c .before .loop .inv

@@ -83,6 +83,7 @@ verdict-at-requires c κs =
 
 returns-3 : tie.Need-returns-3
 returns-3 c =
+    let summed = c .before .before .before .before in
     let read = c .before .before .before .before .before in
     let size = read .before in
     let start = size .before .before .before .before in
@@ -90,7 +91,7 @@ returns-3 c =
     ∙ sized-verdict (rulesOf (start .args .book)) _ _ (start .args .s .now) (size .before .before .if1 .left)
     (start .pre .1)
     (omega (arith, read .shared-slice-known3 .given 0)) (size .if2 .left)
-    (c .before .before .before .before .wrapping-add-u8 .ensures) (c .before .before .through .ensures)
+    (summed .wrapping-add-u8 .ensures) (c .before .before .through .ensures)
 
 pub sized-spec : {M : Type 1} → statement M
 sized-spec =

@@ -31,9 +31,10 @@ part-value-of-start c = search needs
 
 part-value-of-end : tie.Need-part-value-of-end
 part-value-of-end c =
+    let looked = c .before .before .before .before in
     omega (
       arith,
-      found-inside _ _ _ _ _ _ (c .before .before .before .before .parameter .ensures)
+      found-inside _ _ _ _ _ _ (looked .parameter .ensures)
           (c .before .before .found .given .1),
     )
 

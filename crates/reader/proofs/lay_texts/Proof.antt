@@ -66,7 +66,9 @@ enum-told : tie.Need-enum-told Inv-loop μ-loop
 enum-told c = search needs
 
 same-length : tie.Need-same-length Inv-loop μ-loop
-same-length c = c .before .before .before .before .loop .inv .long
+same-length c =
+    let turn = c .before .before .before .before in
+    turn .loop .inv .long
 
 returns : tie.Need-returns Inv-loop μ-loop
 returns c =
@@ -83,9 +85,10 @@ same-length-2 c = c .before .loop .inv .long
 
 returns-2 : tie.Need-returns-2 Inv-loop μ-loop
 returns-2 c =
+    let start = c .before .before .before .before in
     let ended = left-full _ _ _ (c .loop-test .left) in (
       sized-end _ _ _ _ _ (c .before .loop .inv .sized) ended,
-      laid-end _ _ _ (c .before .before .before .before .pre) _ _ _ _ (c .before .loop .inv) ended,
+      laid-end _ _ _ (start .pre) _ _ _ _ (c .before .loop .inv) ended,
     )
 
 pub lay-texts-spec : {M : Type 1} → statement M

@@ -21,9 +21,10 @@ cast-t10 c = search needs
 
 add-t11 : tie.Need-add-t11
 add-t11 c =
+    let looked = c .before .before .before .before in
     omega (
       arith,
-      found-inside _ _ _ _ _ _ (c .before .before .before .before .parameter .ensures)
+      found-inside _ _ _ _ _ _ (looked .parameter .ensures)
           (c .before .before .found .given .1),
     )
 
@@ -32,7 +33,8 @@ enum-told c = search needs
 
 returns : tie.Need-returns
 returns c =
-    text-found _ _ _ _ (c .before .before .before .before .parameter .ensures) _ _ _ _
+    let looked = c .before .before .before .before in
+    text-found _ _ _ _ (looked .parameter .ensures) _ _ _ _
     (c .before .before .found .given .1) (c .text-length .ensures)
 
 returns-2 : tie.Need-returns-2

@@ -52,7 +52,8 @@ enum-told c = search needs
 
 returns : tie.Need-returns Inv-loop μ-loop
 returns c =
-    sized-end _ _ _ _ _ (c .before .before .before .before .loop .inv)
+    let turn = c .before .before .before .before in
+    sized-end _ _ _ _ _ (turn .loop .inv)
     (left-none _ _ _ _ (c .before .before .before .loop-test .taken)
     (sym (c .enum-told .given .1) ∙ c .before .before .text-at .ensures))
 

@@ -31,7 +31,8 @@ returns-2 c =
 returns-3 : tie.Need-returns-3
 unfolding possible
 returns-3 c =
-    other-possible _ _ _ _ _ (c .before .before .before .before .lengths-of .ensures) _
+    let measured = c .before .before .before .before in
+    other-possible _ _ _ _ _ (measured .lengths-of .ensures) _
     (via _ _ _ (c .before .before .before .room-for .ensures) (c .before .before .if1 .left))
     (c .before .if2 .left) (c .room-for2 .ensures)
 

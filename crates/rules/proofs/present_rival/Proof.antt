@@ -21,12 +21,15 @@ returns-3 c = paired _ (c .before .before .before .args .t) (omega arith) (searc
 
 returns-4 : tie.Need-returns-4
 unfolding rivals
-returns-4 c = paired _ (c .before .before .before .before .args .t) (omega arith) (search tests)
+returns-4 c =
+    let start = c .before .before .before .before in
+    paired _ (start .args .t) (omega arith) (search tests)
 
 returns-5 : tie.Need-returns-5
 unfolding rivals
 returns-5 c =
-    paired _ (c .before .before .before .before .args .t) (omega arith)
+    let start = c .before .before .before .before in
+    paired _ (start .args .t) (omega arith)
     (pick-f _ _ _ _ (no-eq _ _ (c .before .before .before .if1 .left))
     (pick-f _ _ _ _ (no-eq _ _ (c .before .before .if2 .left))
     (pick-f _ _ _ _ (no-eq _ _ (c .before .if3 .left)) (pick-f _ _ _ _ (no-eq _ _ (c .if4 .left)) refl))))

@@ -35,15 +35,17 @@ loop-less : tie.Need-loop-less Inv-loop μ-loop
 loop-less c = search needs
 
 loop-again : tie.Need-loop-again Inv-loop μ-loop
-loop-again c = (
-  search needs,
-  agrees _=?_ _ _ _ (c .before .before .before .before .loop .inv .1) 0
-      (c .before .before .before .loop-test .taken) (omega arith) (yes-eq _ _ (c .if2 .taken)),
-)
+loop-again c =
+    let turn = c .before .before .before .before in (
+      search needs,
+      agrees _=?_ _ _ _ (turn .loop .inv .1) 0
+          (c .before .before .before .loop-test .taken) (omega arith) (yes-eq _ _ (c .if2 .taken)),
+    )
 
 returns : tie.Need-returns Inv-loop μ-loop
 returns c =
-    differs _=?_ _ _ _ (c .before .before .before .before .loop .inv .1) 0
+    let turn = c .before .before .before .before in
+    differs _=?_ _ _ _ (turn .loop .inv .1) 0
     (c .before .before .before .loop-test .taken) (omega arith) (no-eq _ _ (c .if2 .left))
 
 returns-2 : tie.Need-returns-2 Inv-loop μ-loop

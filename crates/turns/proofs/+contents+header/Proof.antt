@@ -195,9 +195,10 @@ contents-returns-2 : (t : ℕ) → contents-lts.Need-returns-2 (
   header.Post,
 ) (contents-at t) contents.Post
 contents-returns-2 t c =
+    let branch = c .before .before .before .before in
     let start = c .before .before .before .before .before .before in
     as-word _ _ _ _ _ _ _ (c .word .ensures)
-    (held-wrong _ _ _ _ _ _ _ (start .pre .1) _ (c .before .before .before .before .if1 .left)
+    (held-wrong _ _ _ _ _ _ _ (start .pre .1) _ (branch .if1 .left)
     (c .before .before .first-wrong .ensures) (c .before .if2 .taken))
 
 contents-sum-on-requires : (t : ℕ) → contents-lts.Need-sum-on-requires (
@@ -241,8 +242,9 @@ contents-returns-3 : (t : ℕ) → contents-lts.Need-returns-3 (
   header.Post,
 ) (contents-at t) contents.Post
 contents-returns-3 t c =
+    let branch = c .before .before .before .before .before in
     let start = c .before .before .before .before .before .before .before in
-    held-passed _ _ _ _ _ _ _ (start .pre .1) _ (c .before .before .before .before .before .if1 .left)
+    held-passed _ _ _ _ _ _ _ (start .pre .1) _ (branch .if1 .left)
     (c .before .before .before .first-wrong .ensures) (c .before .before .if2 .left) _ _
     (c .before .sum-on .ensures) (c .header .ensures)
 

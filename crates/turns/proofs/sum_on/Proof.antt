@@ -33,10 +33,11 @@ loop-less c = search needs
 
 loop-again : tie.Need-loop-again Inv-loop μ-loop
 loop-again c =
+    let start = c .before .before .before .before .before in
     let at = c .before .before .before .loop in (
       omega (arith, at .inv .0),
       omega arith,
-      one-summed _ _ _ _ _ _ (at .inv .0) (omega (arith, c .before .before .before .before .before .pre .1))
+      one-summed _ _ _ _ _ _ (at .inv .0) (omega (arith, start .pre .1))
           (c .wrapping-add-u8 .ensures) (at .inv .2),
     )
 
