@@ -13,6 +13,7 @@ ghost use lib.ListN as list;
 ghost use Rattle.rules.specs.Contents.{within};
 ghost use Rattle.rules.specs.Table.{rulesOf};
 ghost use Rattle.rules.specs.Machine as machine;
+ghost use Rattle.rules.specs.OctetRows.{AskedRow, AskedRows};
 ghost use Rattle.rules.specs.Judge.{given, inRange};
 ghost use Rattle.rules.specs.Judge as judge;
 ghost use Rattle.rules.specs.declared.State.the-variants as state;
@@ -190,9 +191,30 @@ fn further(book: Book, f: Frame, index: u8, memory: u8, q: Spot, x: u8) -> Insid
     }
 }
 
+// The row of an octet by the table of octets, where the class asks for it.
+fn row_in(class: Class, kinds: &[u8], x: u8) -> u8
+    requires { ⌜ AskedRows class (now kinds) ⌝ }
+    ensures { λ r. ⌜ AskedRow class r x ⌝ }
+{
+    if rules::asks(class) {
+        kinds[x as usize]
+    } else {
+        0
+    }
+}
+
 // Contents as far as they go: to their end, to the octet that spoils them, or to the end of the run.
-fn along(book: Book, f: Frame, first: u8, kept: u8, spot: Spot, octets: &[u8], from: usize) -> Ran
-    requires { ⌜ T (inRange (rulesOf book) (insideOf f first kept spot)) × (from < list.length (now octets)) ⌝ }
+fn by_octets(
+    book: Book,
+    f: Frame,
+    first: u8,
+    kept: u8,
+    spot: Spot,
+    kinds: &[u8],
+    octets: &[u8],
+    from: usize,
+) -> Ran
+    requires { ⌜ T (inRange (rulesOf book) (insideOf f first kept spot)) × (from < list.length (now octets)) × AskedRows (f .class) (now kinds) ⌝ }
     ensures { λ r. ⌜ Onward (rulesOf book) (insideOf f first kept spot) (now (octets .entry)) from r ⌝ }
 {
     let class = f.class;
@@ -202,7 +224,8 @@ fn along(book: Book, f: Frame, first: u8, kept: u8, spot: Spot, octets: &[u8], f
     let mut i = from;
     while i < octets.len() {
         let x = octets[i];
-        if rules::content_ok(class, f.length, index, memory, x) {
+        let row = row_in(class, kinds, x);
+        if rules::content_ok(class, f.length, index, memory, row, x) {
             let next = further(book, f, index, memory, q, x);
             index = next.index;
             memory = next.memory;
@@ -225,6 +248,20 @@ fn along(book: Book, f: Frame, first: u8, kept: u8, spot: Spot, octets: &[u8], f
     Ran {
         state: State::Waiting(content_at(f, index, memory), q),
         taken: i,
+    }
+}
+
+// Contents as far as they go. The table of octets is laid down where their class asks for it, once for the run.
+fn along(book: Book, f: Frame, first: u8, kept: u8, spot: Spot, octets: &[u8], from: usize) -> Ran
+    requires { ⌜ T (inRange (rulesOf book) (insideOf f first kept spot)) × (from < list.length (now octets)) ⌝ }
+    ensures { λ r. ⌜ Onward (rulesOf book) (insideOf f first kept spot) (now (octets .entry)) from r ⌝ }
+{
+    let class = f.class;
+    if rules::asks(class) {
+        let kinds = rules::kinds::KINDS;
+        by_octets(book, f, first, kept, spot, &kinds[..], octets, from)
+    } else {
+        by_octets(book, f, first, kept, spot, &octets[..0], octets, from)
     }
 }
 

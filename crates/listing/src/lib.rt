@@ -31,7 +31,7 @@ pub struct ListingText {
 // The rows of the listing: their types in its order, and where the key of each begins in the row of keys; behind the last, where they end.
 const ROWS: usize = 14;
 
-const KINDS: [u8; ROWS] = [
+const TYPES: [u8; ROWS] = [
     0x01,
     0x02,
     0x03,
@@ -217,7 +217,7 @@ fn put_line(i: usize, contents: &[u8], out: &mut [u8], at: usize) -> usize
     requires { ⌜ (i < rowCount) × Room (lineText (lineOf (rulesOf book.PresentLenient) (rowAt i) (now contents))) at (now out) ⌝ }
     ensures { λ r. ⌜ Put (lineText (lineOf (rulesOf book.PresentLenient) (rowAt i) (now (contents .entry)))) at (now (out .entry)) r (now (out .exit)) ⌝ }
 {
-    let class = rules::class_of(Book::PresentLenient, KINDS[i]);
+    let class = rules::class_of(Book::PresentLenient, TYPES[i]);
     let key = put_key(i, out, at);
     let value = put_value(class, contents, out, key);
     put_octet(b'\n', out, value)
@@ -228,7 +228,7 @@ fn put_row(octets: &[u8], i: usize, out: &mut [u8], at: usize) -> usize
     requires { ⌜ (i < rowCount) × Room (written (partLines (rulesOf book.PresentLenient) (now octets) (rowAt i))) at (now out) ⌝ }
     ensures { λ r. ⌜ Put (written (partLines (rulesOf book.PresentLenient) (now (octets .entry)) (rowAt i))) at (now (out .entry)) r (now (out .exit)) ⌝ }
 {
-    let part = message::counted(Book::PresentLenient, octets, KINDS[i]);
+    let part = message::counted(Book::PresentLenient, octets, TYPES[i]);
     match part {
         Part::At { start, length } => {
             let end = start + length as usize;

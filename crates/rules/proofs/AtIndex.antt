@@ -8,11 +8,12 @@ use mathlib.Core.List.{List, [], _∷_}
 use lib.ListN.{length, drop}
 use native.Mathlib.Omega.{arith}
 use Rattle.rules.specs.Tests.{_=?_, pick}
-use Rattle.rules.proofs.Tests.{clash}
-use Rattle.rules.specs.Contents.{Range, within, inSet, days}
+use Rattle.rules.specs.Contents.{Range, within, inSet, digit, days}
 use Rattle.rules.specs.Table.{anyOctet}
-use Rattle.rules.specs.ContentJudge.{columnAt, tensFit, onesFit, pairAt, dayFits, calendarAt, calendarKeep}
-use Rattle.rules.proofs.Returns.{or-last, and-t, yes-le, no-eq}
+use Rattle.rules.specs.ContentJudge.{columnAt, tensBy, onesBy, dayBy, tensFit, onesFit, pairAt, dayFits, calendarAt, calendarKeep}
+use Rattle.rules.specs.OctetRows.{pairBy, calendarBy}
+use Rattle.rules.proofs.Tests.{clash}
+use Rattle.rules.proofs.Returns.{or-last, and-t, yes-le}
 
 pub any-in : (x : ℕ) → x < 256 → true ≡ inSet anyOctet x
 unfolding inSet within
@@ -29,12 +30,11 @@ any-columns zero i x l = sym (yes-le x 255 (omega arith))
 any-columns (suc k) zero x l = any-in x l
 any-columns (suc k) (suc i) x l = any-columns k i x l
 
--- columns of which only the first is narrow
-pub first-column : (k : ℕ) (w o : Bool) (s : List Range) (i x : ℕ) → x < 256 → o ≡ inSet s x →
-    w ≡ pick (i =? 0) o true → w ≡ columnAt (s ∷ anyColumns k) i x
-unfolding columnAt _=?_ pick
-first-column k w o s zero x l p q = q ∙ p
-first-column k w o s (suc i) x l p q = (rw (no-eq (suc i) 0 (λ e. omega arith)) at q) ∙ any-columns k i x l
+-- behind a narrow first column
+pub behind : (k : ℕ) (s : List Range) (i x : ℕ) → 1 ≤ i → x < 256 → true ≡ columnAt (s ∷ anyColumns k) i x
+unfolding columnAt
+behind k s zero x h l = absurd (omega arith)
+behind k s (suc i) x h l = any-columns k i x l
 
 pub pair-late : (rs : List Range) (i m x : ℕ) → 2 * length rs ≤ i → x < 256 → true ≡ pairAt rs i m x
 unfolding pairAt
@@ -43,52 +43,77 @@ pair-late (r ∷ rs) zero m x h l = absurd (omega arith)
 pair-late (r ∷ rs) (suc zero) m x h l = absurd (omega arith)
 pair-late (r ∷ rs) (suc (suc i)) m x h l = pair-late rs i m x (omega arith) l
 
--- digit j of pair k is judged by its range
-pub pair-within : (rs : List Range) (k i j m x : ℕ) (r : Range) (rest : List Range) → drop k rs ≡ r ∷ rest →
-    2 * k + j ≡ i → j < 2 → pick (j =? 0) (tensFit r x) (onesFit r m x) ≡ pairAt rs i m x
-unfolding pairAt pick _=?_
-pair-within [] zero i j m x r rest e l h = clash cc
-pair-within (q ∷ rs) zero zero j m x r rest e l h = let d : q ≡ r = cc in let z : j ≡ 0 = omega arith in rw (d, z)
-pair-within (q ∷ rs) zero (suc zero) j m x r rest e l h = let d : q ≡ r = cc in let z : j ≡ 1 = omega arith in rw (d, z)
-pair-within (q ∷ rs) zero (suc (suc i)) j m x r rest e l h = absurd (omega arith)
-pair-within [] (suc k) i j m x r rest e l h = clash cc
-pair-within (q ∷ rs) (suc k) zero j m x r rest e l h = absurd (omega arith)
-pair-within (q ∷ rs) (suc k) (suc zero) j m x r rest e l h = absurd (omega arith)
-pair-within (q ∷ rs) (suc k) (suc (suc i)) j m x r rest e l h = pair-within rs k i j m x r rest e (omega arith) h
-
 -- ---- a date, whose index the code tells apart
-pub at-month : (rs : List Range) (i m x : ℕ) → i < 2 →
-    pick (i =? 0) (tensFit (1, 12) x) (onesFit (1, 12) m x) ≡ calendarAt rs i m x
-unfolding calendarAt pick _=?_
-at-month rs zero m x h = refl
-at-month rs (suc zero) m x h = refl
-at-month rs (suc (suc i)) m x h = absurd (omega arith)
+module _ (d : Bool) where
+  pub at-month : (rs : List Range) (i m x : ℕ) → i < 2 →
+      pick (i =? 0) (tensBy d (1, 12) x) (onesBy d (1, 12) m x) ≡ calendarBy d rs i m x
+  unfolding calendarBy pick _=?_
+  at-month rs zero m x h = refl
+  at-month rs (suc zero) m x h = refl
+  at-month rs (suc (suc i)) m x h = absurd (omega arith)
 
-pub at-day-tens : (rs : List Range) (i m x : ℕ) → i ≡ 2 → tensFit (1, m) x ≡ calendarAt rs i m x
-unfolding calendarAt
-at-day-tens rs i m x e = rw e
+  pub at-day-tens : (rs : List Range) (i m x : ℕ) → i ≡ 2 → tensBy d (1, m) x ≡ calendarBy d rs i m x
+  unfolding calendarBy
+  at-day-tens rs i m x e = rw e
 
-pub at-day-ones : (rs : List Range) (i m x : ℕ) → i ≡ 3 → dayFits m x ≡ calendarAt rs i m x
-unfolding calendarAt
-at-day-ones rs i m x e = rw e
+  pub at-day-ones : (rs : List Range) (i m x : ℕ) → i ≡ 3 → dayBy d m x ≡ calendarBy d rs i m x
+  unfolding calendarBy
+  at-day-ones rs i m x e = rw e
 
--- digit j of pair k behind the day
-pub at-pair : (rs : List Range) (k i j m x : ℕ) (r : Range) (rest : List Range) → drop k rs ≡ r ∷ rest →
-    4 + 2 * k + j ≡ i → j < 2 → pick (j =? 0) (tensFit r x) (onesFit r m x) ≡ calendarAt rs i m x
-unfolding calendarAt
-at-pair rs k zero j m x r rest e l h = absurd (omega arith)
-at-pair rs k (suc zero) j m x r rest e l h = absurd (omega arith)
-at-pair rs k (suc (suc zero)) j m x r rest e l h = absurd (omega arith)
-at-pair rs k (suc (suc (suc zero))) j m x r rest e l h = absurd (omega arith)
-at-pair rs k (suc (suc (suc (suc i)))) j m x r rest e l h = pair-within rs k i j m x r rest e (omega arith) h
+  pair-late-by : (rs : List Range) (i m x : ℕ) → 2 * length rs ≤ i → x < 256 → true ≡ pairBy d rs i m x
+  unfolding pairBy
+  pair-late-by [] i m x h l = sym (yes-le x 255 (omega arith))
+  pair-late-by (r ∷ rs) zero m x h l = absurd (omega arith)
+  pair-late-by (r ∷ rs) (suc zero) m x h l = absurd (omega arith)
+  pair-late-by (r ∷ rs) (suc (suc i)) m x h l = pair-late-by rs i m x (omega arith) l
 
-pub past-date : (rs : List Range) (i m x : ℕ) → 4 + 2 * length rs ≤ i → x < 256 → true ≡ calendarAt rs i m x
-unfolding calendarAt
-past-date rs zero m x h l = absurd (omega arith)
-past-date rs (suc zero) m x h l = absurd (omega arith)
-past-date rs (suc (suc zero)) m x h l = absurd (omega arith)
-past-date rs (suc (suc (suc zero))) m x h l = absurd (omega arith)
-past-date rs (suc (suc (suc (suc i)))) m x h l = pair-late rs i m x (omega arith) l
+  -- digit j of pair k
+  pair-within : (rs : List Range) (k i j m x : ℕ) (r : Range) (rest : List Range) → drop k rs ≡ r ∷ rest →
+      2 * k + j ≡ i → j < 2 → pick (j =? 0) (tensBy d r x) (onesBy d r m x) ≡ pairBy d rs i m x
+  unfolding pairBy pick _=?_
+  pair-within [] zero i j m x r rest e l h = clash cc
+  pair-within (q ∷ rs) zero zero j m x r rest e l h = let d : q ≡ r = cc in let z : j ≡ 0 = omega arith in rw (d, z)
+  pair-within (q ∷ rs) zero (suc zero) j m x r rest e l h =
+      let d : q ≡ r = cc in let z : j ≡ 1 = omega arith in rw (d, z)
+  pair-within (q ∷ rs) zero (suc (suc i)) j m x r rest e l h = absurd (omega arith)
+  pair-within [] (suc k) i j m x r rest e l h = clash cc
+  pair-within (q ∷ rs) (suc k) zero j m x r rest e l h = absurd (omega arith)
+  pair-within (q ∷ rs) (suc k) (suc zero) j m x r rest e l h = absurd (omega arith)
+  pair-within (q ∷ rs) (suc k) (suc (suc i)) j m x r rest e l h = pair-within rs k i j m x r rest e (omega arith) h
+
+  -- digit j of pair k behind the day
+  pub at-pair : (rs : List Range) (k i j m x : ℕ) (r : Range) (rest : List Range) → drop k rs ≡ r ∷ rest →
+      4 + 2 * k + j ≡ i → j < 2 → pick (j =? 0) (tensBy d r x) (onesBy d r m x) ≡ calendarBy d rs i m x
+  unfolding calendarBy
+  at-pair rs k zero j m x r rest e l h = absurd (omega arith)
+  at-pair rs k (suc zero) j m x r rest e l h = absurd (omega arith)
+  at-pair rs k (suc (suc zero)) j m x r rest e l h = absurd (omega arith)
+  at-pair rs k (suc (suc (suc zero))) j m x r rest e l h = absurd (omega arith)
+  at-pair rs k (suc (suc (suc (suc i)))) j m x r rest e l h = pair-within rs k i j m x r rest e (omega arith) h
+
+  pub past-date : (rs : List Range) (i m x : ℕ) → 4 + 2 * length rs ≤ i → x < 256 → true ≡ calendarBy d rs i m x
+  unfolding calendarBy
+  past-date rs zero m x h l = absurd (omega arith)
+  past-date rs (suc zero) m x h l = absurd (omega arith)
+  past-date rs (suc (suc zero)) m x h l = absurd (omega arith)
+  past-date rs (suc (suc (suc zero))) m x h l = absurd (omega arith)
+  past-date rs (suc (suc (suc (suc i)))) m x h l = pair-late-by rs i m x (omega arith) l
+
+-- judged by whether it is a digit, an octet of a date is judged by the calendar
+pair-by : (rs : List Range) (i m x : ℕ) → pairBy (digit x) rs i m x ≡ pairAt rs i m x
+unfolding pairBy pairAt tensFit onesFit
+pair-by [] i m x = refl
+pair-by (r ∷ rs) zero m x = refl
+pair-by (r ∷ rs) (suc zero) m x = refl
+pair-by (r ∷ rs) (suc (suc i)) m x = pair-by rs i m x
+
+pub date-by : (rs : List Range) (i m x : ℕ) → calendarBy (digit x) rs i m x ≡ calendarAt rs i m x
+unfolding calendarBy calendarAt tensFit onesFit dayFits
+date-by rs zero m x = refl
+date-by rs (suc zero) m x = refl
+date-by rs (suc (suc zero)) m x = refl
+date-by rs (suc (suc (suc zero))) m x = refl
+date-by rs (suc (suc (suc (suc i)))) m x = pair-by rs i m x
 
 -- and what is remembered of it
 pub kept-month : (i m x : ℕ) → i ≡ 1 → days (10 * m + (x - 48)) ≡ calendarKeep i m x

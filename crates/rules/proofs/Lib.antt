@@ -23,8 +23,10 @@ pub mod Grammar
 pub mod Unique
 pub mod Steps
 pub mod Table
+pub mod OctetRows
 pub mod Rivals
 pub mod AtIndex
 pub mod Standing
+pub mod Asked
 pub mod Settled
 mod OtherLength

@@ -63,6 +63,10 @@ pub is-eq : (a b : ℕ) → eqb a b ≡ (a =? b)
 unfolding _=?_
 is-eq a b = refl
 
+-- the first of two tests, where it fails
+pub first-fails : (a b : ℕ) (q : Bool) → b < a → leb a b ≡ (a ≤? b and q)
+first-fails a b q h = is-le a b ∙ no-le a b h ∙ and-f _ _ _ (no-le a b h) refl
+
 -- a test that a call made
 pub via : (r b z : Bool) → r ≡ b → r ≡ z → b ≡ z
 via r b z p q = sym p ∙ q

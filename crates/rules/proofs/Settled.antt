@@ -14,6 +14,7 @@ use Rattle.rules.proofs.reference_of.Reads as reference-of
 use Rattle.rules.proofs.length_fits.Reads as length-fits
 use Rattle.rules.proofs.possible.Reads as possible
 use Rattle.rules.proofs.message_kind.Reads as message-kind
+use Rattle.rules.proofs.asks.Reads as asks
 use Rattle.rules.proofs.content_ok.Reads as content-ok
 use Rattle.rules.proofs.remember.Reads as remember
 use Rattle.rules.proofs.same_octets.Reads as same-octets
@@ -38,6 +39,10 @@ possible-settled κs a r r' s s' p q = p ∙ sym q
 pub message-kind-settled : (κs : _) (a : _) (r r' : _) (s s' : _) → message-kind.Post κs a r s →
     message-kind.Post κs a r' s' → r ≡ r'
 message-kind-settled κs a r r' s s' p q = p ∙ sym q
+
+pub asks-settled : (κs : _) (a : _) (r r' : _) (s s' : _) → asks.Post κs a r s →
+    asks.Post κs a r' s' → r ≡ r'
+asks-settled κs a r r' s s' p q = p ∙ sym q
 
 pub content-ok-settled : (κs : _) (a : _) (r r' : _) (s s' : _) → content-ok.Post κs a r s →
     content-ok.Post κs a r' s' → r ≡ r'

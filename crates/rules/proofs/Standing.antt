@@ -2,7 +2,7 @@
 -- passes. A text is gone along octet by octet, a date pair by pair; where only the first octet is judged, it decides.
 -- Assumes nothing.
 use Prim.Native.Nat.{ℕ, zero, suc, _+_, _-_, _≤_, _<_}
-use mathlib.Core.Path.{_≡_, refl, sym, _∙_, ap, ap₂}
+use mathlib.Core.Path.{_≡_, refl, sym, _∙_, ap}
 use mathlib.Core.Bool.{Bool, true, false}
 use mathlib.Core.List.{List, [], _∷_}
 use native.Mathlib.Numerals.{add-one}
@@ -11,12 +11,12 @@ use lib.ListN.{length, drop, getD, length-drop, drop-of-length-le}
 use lib.Seq.{drop-cons, drop-drop}
 use Rattle.rules.specs.Tests.{_≤?_, _=?_, _and_, pick}
 use Rattle.rules.specs.Octets.{Octets}
-use Rattle.rules.specs.Contents.{Range, within, inSet, digit}
-use Rattle.rules.specs.ContentJudge.{Judge, passes, passing, tensFit, onesFit, pairAt, pairStands, columnAt, pairsJudge, columnsJudge, textJudge, fitsFrom, goodFront}
+use Rattle.rules.specs.Contents.{Range, inSet}
+use Rattle.rules.specs.ContentJudge.{Judge, passes, passing, tensFit, onesFit, pairAt, pairStands, pairsJudge, textJudge, fitsFrom, goodFront}
 use Rattle.rules.proofs.Octets.{octets-drop}
 use Rattle.rules.proofs.Tests.{both, eq-of, of-eq, le-of, of-le, pick-yes, pick-not}
 use Rattle.rules.proofs.Returns.{T-of, yes-eq, no-eq, same-truth}
-use Rattle.rules.proofs.AtIndex.{anyColumns, any-columns, pair-late}
+use Rattle.rules.proofs.AtIndex.{pair-late}
 use Rattle.rules.specs.declared.Class.{Class}
 
 -- ---- any judge
@@ -89,21 +89,6 @@ module _ (s : List Range) (v : List ℕ) (i : ℕ) (inv : TextSoFar s v i) where
     pub text-stops : inSet s (getD v i 0) ≡ false → i ≡ passing (textJudge s) (length v) 0 0 v
     unfolding TextSoFar
     text-stops e = let q = here ∙ pick-not _ _ _ (λ t. rw e at t) in omega arith
-
--- ---- columns of which only the first is narrow
-behind : (k : ℕ) (s : List Range) (i x : ℕ) → 1 ≤ i → x < 256 → true ≡ columnAt (s ∷ anyColumns k) i x
-unfolding columnAt
-behind k s zero x h l = absurd (omega arith)
-behind k s (suc i) x h l = any-columns k i x l
-
-pub by-first : (k : ℕ) (s : List Range) (v : List ℕ) (o : Bool) (r : ℕ) → (length v ≡ 0 → ⊥) → Octets v →
-    o ≡ inSet s (getD v 0 0) → r ≡ pick o (length v) 0 →
-    r ≡ passing (columnsJudge (s ∷ anyColumns k)) (length v) 0 0 v
-unfolding passing columnAt
-by-first k s [] o r z f p q = absurd (z refl)
-by-first k s (x ∷ v) o r z f p q =
-    q ∙ ap₂ (λ (b : Bool) (l : ℕ). pick b (suc l) 0) p
-    (any-stand (columnsJudge (s ∷ anyColumns k)) _ 1 (λ i m x h l. behind k s i x h l) 1 0 v (omega arith) (f .1))
 
 -- ---- a date
 module _ (n : ℕ) where
@@ -182,33 +167,74 @@ pair-whole r (a ∷ []) got e h = one (tensFit r a) e
 pair-whole r (a ∷ b ∷ v) got e h = omega arith
 
 -- ---- a pair in the code: none, one or two octets from a place on
-pub tens-digit : (r : Range) (x : ℕ) → tensFit r x ≡ true → 48 ≤ x
-unfolding tensFit digit within
-tens-digit r x e = le-of _ _ (both _ _ (both _ _ (T-of _ e) .0) .0)
+module _ (r : Range) where
+  -- at most both stand, and both exactly where the second is there and stands with the first
+  pub pair-most : (w : List ℕ) → pairStands r w ≤ 2
+  unfolding pairStands pick
+  pair-most [] = omega arith
+  pair-most (a ∷ []) = one (tensFit r a)
+    where
+      one : (t : Bool) → pick t 1 0 ≤ 2
+      one true = omega arith
+      one false = omega arith
+  pair-most (a ∷ b ∷ w) = two (tensFit r a) (onesFit r (a - 48) b)
+    where
+      two : (t o : Bool) → pick t (pick o 2 1) 0 ≤ 2
+      two true true = omega arith
+      two true false = omega arith
+      two false o = omega arith
 
-wrong-first : (r : Range) (x : ℕ) (w : List ℕ) → tensFit r x ≡ false → pairStands r (x ∷ w) ≡ 0
-unfolding pairStands pick
-wrong-first r x [] e = rw e
-wrong-first r x (y ∷ w) e = rw e
+  -- where not both stand, the tens decide
+  pub tens-decide : (a : ℕ) (w : List ℕ) (t : Bool) → tensFit r a ≡ t → (2 ≤? pairStands r (a ∷ w)) ≡ false →
+      pick {A = ℕ} t 1 0 ≡ pairStands r (a ∷ w)
+  unfolding pairStands pick _≤?_
+  tens-decide a [] t e n = rw e
+  tens-decide a (b ∷ w) t e n = rw e (go t (onesFit r (a - 48) b) (rw e at n))
+    where
+      go : (t o : Bool) → (2 ≤? pick t (pick o 2 1) 0) ≡ false → pick {A = ℕ} t 1 0 ≡ pick t (pick o 2 1) 0
+      go true true n = absurd (T-of false (sym n))
+      go true false n = refl
+      go false o n = refl
 
-module _ (r : Range) (v : List ℕ) (at : ℕ) where
-  pub none-left : length v ≤ at → at ≡ at + pairStands r (drop at v)
-  unfolding pairStands
-  none-left h = rw (drop-of-length-le v h) (omega arith)
+  short-pair : (w : List ℕ) → length w ≤ 1 → false ≡ (2 ≤? pairStands r w)
+  unfolding pairStands pick _≤?_
+  short-pair [] h = refl
+  short-pair (a ∷ []) h = one (tensFit r a)
+    where
+      one : (t : Bool) → false ≡ (2 ≤? pick t 1 0)
+      one true = refl
+      one false = refl
+  short-pair (a ∷ b ∷ w) h = absurd (omega arith)
 
-  module _ (h : at < length v) where
-    cut : drop at v ≡ getD v at 0 ∷ drop (at + 1) v
-    cut = rw (add-one at) (drop-cons v at 0 h)
+  both-there : (a b : ℕ) (w : List ℕ) → (tensFit r a and onesFit r (a - 48) b) ≡ (2 ≤? pairStands r (a ∷ b ∷ w))
+  unfolding pairStands pick _≤?_ _and_
+  both-there a b w = two (tensFit r a) (onesFit r (a - 48) b)
+    where
+      two : (t o : Bool) → (t and o) ≡ (2 ≤? pick t (pick o 2 1) 0)
+      two true true = refl
+      two true false = refl
+      two false o = refl
 
-    pub wrong-tens : tensFit r (getD v at 0) ≡ false → at ≡ at + pairStands r (drop at v)
-    wrong-tens e = rw (cut, wrong-first r _ _ e) (omega arith)
+  module _ (v : List ℕ) (at : ℕ) where
+    cut : at < length v → drop at v ≡ getD v at 0 ∷ drop (at + 1) v
+    cut h = rw (add-one at) (drop-cons v at 0 h)
 
-    module _ (e : tensFit r (getD v at 0) ≡ true) where
-      pub one-left : length v ≤ at + 1 → at + 1 ≡ at + pairStands r (drop at v)
-      unfolding pairStands pick
-      one-left l = rw (cut, drop-of-length-le v l, e)
+    pub none-left : length v ≤ at → at ≡ at + pairStands r (drop at v)
+    unfolding pairStands
+    none-left h = rw (drop-of-length-le v h) (omega arith)
 
-      pub two-left : at + 1 < length v → (o : Bool) → onesFit r (getD v at 0 - 48) (getD v (at + 1) 0) ≡ o →
-          at + pick o 2 1 ≡ at + pairStands r (drop at v)
-      unfolding pairStands pick
-      two-left l o q = rw (cut, drop-cons v (at + 1) 0 l, e, q)
+    -- one octet at most is left
+    pub no-pair : length v ≤ at + 1 → false ≡ (2 ≤? pairStands r (drop at v))
+    no-pair h = short-pair (drop at v) (omega (arith, length-drop at v))
+
+    -- two are
+    pub pair-there : at + 1 < length v →
+        (tensFit r (getD v at 0) and onesFit r (getD v at 0 - 48) (getD v (at + 1) 0)) ≡ (2 ≤? pairStands r (drop at v))
+    pair-there h = rw (cut (omega arith), drop-cons v (at + 1) 0 h) (both-there _ _ _)
+
+    pub pair-done : (b : Bool) → b ≡ (2 ≤? pairStands r (drop at v)) → b ≡ true → at + 2 ≡ at + pairStands r (drop at v)
+    pair-done b e t = omega (arith, pair-most (drop at v), le-of _ _ (T-of _ (sym e ∙ t)))
+
+    pub tens-left : at < length v → (b : Bool) → b ≡ (2 ≤? pairStands r (drop at v)) → b ≡ false → (t : Bool) →
+        tensFit r (getD v at 0) ≡ t → at + pick t 1 0 ≡ at + pairStands r (drop at v)
+    tens-left h b e n t q = rw (cut h) (ap (λ (k : ℕ). at + k) (tens-decide _ _ t q (rw (cut h) at (sym e ∙ n))))

@@ -32,13 +32,19 @@ passing j n i m (x ∷ v) = pick (j .ok n i m x) (suc (passing j n (suc i) (j .k
 unfoldable pub opens : Range → ℕ → Bool
 opens r m = r .0 ≤? 10 * m + 9 and 10 * m ≤? r .1
 
--- a digit with which some number of the range begins
-unfoldable pub tensFit : Range → ℕ → Bool
-tensFit r x = digit x and opens r (x - 48)
+-- a digit, where d says that x is one, with which some number of the range begins
+abbrev pub tensBy : Bool → Range → ℕ → Bool
+tensBy d r x = d and opens r (x - 48)
 
 -- a digit that makes a number of the range with the tens m
+abbrev pub onesBy : Bool → Range → ℕ → ℕ → Bool
+onesBy d r m x = d and within r (10 * m + (x - 48))
+
+unfoldable pub tensFit : Range → ℕ → Bool
+tensFit r x = tensBy (digit x) r x
+
 unfoldable pub onesFit : Range → ℕ → ℕ → Bool
-onesFit r m x = digit x and within r (10 * m + (x - 48))
+onesFit r m x = onesBy (digit x) r m x
 
 unfoldable pub pairAt : List Range → ℕ → ℕ → ℕ → Bool
 pairAt [] i m x = x ≤? 255
@@ -58,8 +64,11 @@ pairsJudge rs = record { ok = λ n i m x. pairAt rs i m x; keep = λ n i m x. x 
 
 -- a digit that makes a day of the m that are left from the tens on; more than 21 are left only after the tens 0, where
 -- 0 makes none
+abbrev pub dayBy : Bool → ℕ → ℕ → Bool
+dayBy d m x = d and (x - 48 ≤? m and (m ≤? 21 or 49 ≤? x))
+
 unfoldable pub dayFits : ℕ → ℕ → Bool
-dayFits m x = digit x and (x - 48 ≤? m and (m ≤? 21 or 49 ≤? x))
+dayFits m x = dayBy (digit x) m x
 
 -- the tens of the month are remembered; then its days; then those that are left from the tens on; then nothing of it
 unfoldable pub calendarAt : List Range → ℕ → ℕ → ℕ → Bool

@@ -9,6 +9,7 @@ pub mod Counting
 pub mod Roles
 pub mod Endings
 pub mod ContentJudge
+pub mod OctetRows
 pub mod Codes
 pub mod Refusals
 pub mod Machine

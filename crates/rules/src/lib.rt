@@ -1,19 +1,23 @@
 // What the judge of single octets is made of, and the tests that it needs: the class of a parameter type, the lengths
 // of a class and the room they fit, and the octets of contents (document 01, The message), one by one and as a whole;
-// whether two texts are the same, and what a reference of two octets is. Every function is total.
+// whether two texts are the same, and what a reference of two octets is. Every public function is total.
+pub mod kinds;
+
 ghost use mathlib.Core.Path.{_≡_};
 ghost use mathlib.Core.Bool.{true};
 ghost use Prim.Native.Nat.{_+_, _*_, _-_, _≤_};
 ghost use lib.ListN as list;
-ghost use Rattle.rules.specs.Tests.{_=?_, _and_, pick};
+ghost use Rattle.rules.specs.Tests.{_≤?_, _=?_, _and_, pick};
 ghost use Rattle.rules.specs.Pairwise.{sameOctets};
 ghost use Rattle.rules.specs.Octets.{referenceOf};
 ghost use Rattle.rules.specs.Contents.{within, inSet, days, monthOf};
-ghost use Rattle.rules.specs.Table.{rulesOf, oldBook, listed, classOf, classFault, rivalOf, formOf, whole, lengthFits, oldUserSet, numberSet, nameSet, absentSet, lampSet, identitySet, callTypeSet, forwardedSet, userSet};
+ghost use Rattle.rules.specs.Table.{rulesOf, oldBook, listed, classOf, classFault, rivalOf, formOf, whole, lengthFits, oldUserSet, timeRanges, absentSet, lampSet, identitySet, callTypeSet, forwardedSet, userSet};
 ghost use Rattle.rules.specs.Codes.{classCode, classCoded, laterClass, strictClass, ranges};
 ghost use Rattle.rules.specs.declared.Book.the-variants as book;
-ghost use Rattle.rules.specs.ContentJudge.{tensFit, onesFit, dayFits, calendarKeep, okAt, pairStands, goodFront};
+ghost use Rattle.rules.specs.ContentJudge.{tensBy, onesBy, dayBy, tensFit, onesFit, calendarKeep, okAt, pairStands, goodFront};
 ghost use Rattle.rules.specs.ContentJudge as content;
+ghost use Rattle.rules.specs.OctetRows.{admitted, calendarBy, okBy, askedKind, kindFront, ContentKind, Rowed};
+ghost use Rattle.rules.specs.OctetRows as rows;
 ghost use Rattle.rules.specs.Message.{messageKind};
 ghost use Rattle.rules.specs.Judge.{roomFits, rangePossible};
 ghost use Rattle.rules.specs.Judge as judge;
@@ -37,10 +41,20 @@ const LAST_MINUTE: u8 = 59;
 // The classes of the present edition, unlisted types carried, have the codes up to this one.
 pub const LAST_PRESENT: u8 = 10;
 
+// The code of a date.
+const DATE: u8 = 1;
+
 // The codes of the classes that types without a row have.
 const CARRIED: u8 = 0;
 
 const UNLISTED: u8 = 15;
+
+// The kinds of content octets, each a bit of a row.
+const DIGIT: u8 = 1;
+
+const NUMBER: u8 = 2;
+
+const NAME: u8 = 4;
 
 // The classes of contents, in the order of their codes.
 pub enum Class {
@@ -580,99 +594,87 @@ pub fn message_kind(x: u8) -> bool
     if x == 0x80 { true } else { x == 0x82 }
 }
 
-fn tens_ok(lo: u8, hi: u8, x: u8) -> bool
-    ensures { λ r. ⌜ r ≡ tensFit (lo, hi) x ⌝ }
+// Does a row say that the kind admits its octet?
+fn admits(row: u8, kind: u8) -> bool
+    ensures { λ r. ⌜ r ≡ admitted row kind ⌝ }
 {
-    if x < 48 {
-        false
-    } else if 57 < x {
-        false
+    row & kind != 0
+}
+
+// The value of a digit; 0 below them.
+fn digit_of(x: u8) -> u8
+    ensures { λ r. ⌜ r ≡ x - 48 ⌝ }
+{
+    if 48 <= x { x - 48 } else { 0 }
+}
+
+// The digits of a date: octet x stands beside the row that says whether it is one.
+fn tens_ok(lo: u8, hi: u8, row: u8, x: u8) -> bool
+    ensures { λ r. ⌜ r ≡ tensBy (admitted row 1) (lo, hi) x ⌝ }
+{
+    if admits(row, DIGIT) {
+        let t = 10 * (digit_of(x) as u16);
+        lo as u16 <= t + 9 && t <= hi as u16
     } else {
-        let t = 10 * (x - 48);
-        lo <= t + 9 && t <= hi
+        false
     }
 }
 
-fn ones_ok(lo: u8, hi: u8, m: u8, x: u8) -> bool
-    ensures { λ r. ⌜ r ≡ onesFit (lo, hi) m x ⌝ }
+fn ones_ok(lo: u8, hi: u8, m: u8, row: u8, x: u8) -> bool
+    ensures { λ r. ⌜ r ≡ onesBy (admitted row 1) (lo, hi) m x ⌝ }
 {
-    if x < 48 {
-        false
-    } else if 57 < x {
-        false
-    } else {
-        let v = 10 * (m as u16) + (x - 48) as u16;
+    if admits(row, DIGIT) {
+        let v = 10 * (m as u16) + digit_of(x) as u16;
         lo as u16 <= v && v <= hi as u16
+    } else {
+        false
     }
 }
 
 // One of two digits for a number out of the range: the tens, or the ones after the tens m.
-fn pair_ok(lo: u8, hi: u8, i: u8, m: u8, x: u8) -> bool
-    ensures { λ r. ⌜ r ≡ pick (i =? 0) (tensFit (lo, hi) x) (onesFit (lo, hi) m x) ⌝ }
+fn pair_ok(lo: u8, hi: u8, i: u8, m: u8, row: u8, x: u8) -> bool
+    ensures { λ r. ⌜ r ≡ pick (i =? 0) (tensBy (admitted row 1) (lo, hi) x) (onesBy (admitted row 1) (lo, hi) m x) ⌝ }
 {
     if i == 0 {
-        tens_ok(lo, hi, x)
+        tens_ok(lo, hi, row, x)
     } else {
-        ones_ok(lo, hi, m, x)
+        ones_ok(lo, hi, m, row, x)
     }
 }
 
 // The ones of a day, of which m are left from the tens on: more than 21 only after the tens 0, where 0 makes none.
-fn day_ok(m: u8, x: u8) -> bool
-    ensures { λ r. ⌜ r ≡ dayFits m x ⌝ }
+fn day_ok(m: u8, row: u8, x: u8) -> bool
+    ensures { λ r. ⌜ r ≡ dayBy (admitted row 1) m x ⌝ }
 {
-    if x < 48 {
-        false
-    } else if 57 < x {
-        false
-    } else if x - 48 <= m {
-        if m <= 21 { true } else { 49 <= x }
+    if admits(row, DIGIT) {
+        let ones = digit_of(x);
+        if ones <= m {
+            if m <= 21 { true } else { 1 <= ones }
+        } else {
+            false
+        }
     } else {
         false
     }
 }
 
 // Two digits each for the month, a day of that month, the hour and the minute (document 02, Q-2).
-fn date_ok(n: u8, i: u8, m: u8, x: u8) -> bool
-    ensures { λ r. ⌜ r ≡ okAt class.Date n i m x ⌝ }
+fn date_ok(i: u8, m: u8, row: u8, x: u8) -> bool
+    ensures { λ r. ⌜ r ≡ calendarBy (admitted row 1) timeRanges i m x ⌝ }
 {
     if i < 2 {
-        pair_ok(1, LAST_MONTH, i, m, x)
+        pair_ok(1, LAST_MONTH, i, m, row, x)
     } else if i == 2 {
-        tens_ok(1, m, x)
+        tens_ok(1, m, row, x)
     } else if i == 3 {
-        day_ok(m, x)
+        day_ok(m, row, x)
     } else if i < 6 {
-        pair_ok(0, LAST_HOUR, i - 4, m, x)
+        pair_ok(0, LAST_HOUR, i - 4, m, row, x)
     } else if i < 8 {
-        pair_ok(0, LAST_MINUTE, i - 6, m, x)
+        pair_ok(0, LAST_MINUTE, i - 6, m, row, x)
     } else {
         true
     }
-}
-
-fn number_ok(x: u8) -> bool
-    ensures { λ r. ⌜ r ≡ inSet numberSet x ⌝ }
-{
-    if among(0x30, 0x39, x) {
-        true
-    } else if among(0x2A, 0x2A, x) {
-        true
-    } else if among(0x23, 0x23, x) {
-        true
-    } else if among(0x20, 0x20, x) {
-        true
-    } else if among(0x2D, 0x2D, x) {
-        true
-    } else {
-        among(0x28, 0x29, x)
-    }
-}
-
-fn name_ok(x: u8) -> bool
-    ensures { λ r. ⌜ r ≡ inSet nameSet x ⌝ }
-{
-    among(0x20, 0x7E, x)
 }
 
 fn absent_ok(x: u8) -> bool
@@ -747,41 +749,75 @@ fn old_user_ok(x: u8) -> bool
     }
 }
 
-// Only the first octet is judged; after it any may stand.
-fn first_only(i: u8, ok: bool) -> bool
-    ensures { λ r. ⌜ r ≡ pick (i =? 0) ok true ⌝ }
-{
-    if i == 0 { ok } else { true }
-}
-
-// May octet x stand at index i of n, where m is remembered?
-pub fn content_ok(c: Class, n: u8, i: u8, m: u8, x: u8) -> bool
-    ensures { λ r. ⌜ r ≡ okAt c n i m x ⌝ }
+// The kind that the octets of a class are of; 0 where they are not judged by their rows.
+fn kind_of(c: Class) -> u8
+    ensures { λ r. ⌜ r ≡ askedKind c ⌝ }
 {
     match c {
-        Class::Date => date_ok(n, i, m, x),
-        Class::Number => number_ok(x),
-        Class::Absent => first_only(i, absent_ok(x)),
-        Class::Name => name_ok(x),
-        Class::Lamp => first_only(i, lamp_ok(x)),
-        Class::Identity => first_only(i, identity_ok(x)),
-        Class::CallType => first_only(i, call_type_ok(x)),
+        Class::Date => DIGIT,
+        Class::Number => NUMBER,
+        Class::Absent => 0,
+        Class::Name => NAME,
+        Class::Lamp => 0,
+        Class::Identity => 0,
+        Class::CallType => 0,
+        Class::Waiting => 0,
+        Class::Forwarded => 0,
+        Class::User => 0,
+        Class::OldNumber => DIGIT,
+        Class::ShortText => NAME,
+        Class::OldForwarded => 0,
+        Class::OldUser => 0,
+        Class::Unlisted => 0,
+        Class::Carried => 0,
+    }
+}
+
+// Are the octets of the class judged by their rows?
+pub fn asks(c: Class) -> bool
+    ensures { λ r. ⌜ r ≡ rows.asks c ⌝ }
+{
+    let kind = kind_of(c);
+    kind != 0
+}
+
+// May octet x be the first of contents that are not judged by rows?
+fn code_ok(c: Class, x: u8) -> bool
+    requires { ⌜ askedKind c ≡ 0 ⌝ }
+    ensures { λ r. ⌜ r ≡ okAt c 0 0 0 x ⌝ }
+{
+    match c {
+        Class::Date => true,
+        Class::Number => true,
+        Class::Absent => absent_ok(x),
+        Class::Name => true,
+        Class::Lamp => lamp_ok(x),
+        Class::Identity => identity_ok(x),
+        Class::CallType => call_type_ok(x),
         Class::Waiting => true,
-        Class::Forwarded => first_only(i, forwarded_ok(x)),
-        Class::User => first_only(i, user_ok(x)),
-        Class::OldNumber => among(0x30, 0x39, x),
-        Class::ShortText => name_ok(x),
-        Class::OldForwarded => first_only(i, among(0x00, 0x06, x)),
-        Class::OldUser => first_only(i, old_user_ok(x)),
+        Class::Forwarded => forwarded_ok(x),
+        Class::User => user_ok(x),
+        Class::OldNumber => true,
+        Class::ShortText => true,
+        Class::OldForwarded => among(0x00, 0x06, x),
+        Class::OldUser => old_user_ok(x),
         Class::Unlisted => true,
         Class::Carried => true,
     }
 }
 
-fn digit_of(x: u8) -> u8
-    ensures { λ r. ⌜ r ≡ x - 48 ⌝ }
+// May octet x stand at index i of n, where m is remembered? Where the class asks for its row, it goes by the row beside it.
+pub fn content_ok(c: Class, n: u8, i: u8, m: u8, row: u8, x: u8) -> bool
+    ensures { λ r. ⌜ r ≡ okBy c n i m row x ⌝ }
 {
-    if 48 <= x { x - 48 } else { 0 }
+    let kind = kind_of(c);
+    if kind == 0 {
+        if i == 0 { code_ok(c, x) } else { true }
+    } else if code_of(c) == DATE {
+        date_ok(i, m, row, x)
+    } else {
+        admits(row, kind)
+    }
 }
 
 // The days of a month; February has 29 (document 02, Q-2).
@@ -847,13 +883,15 @@ pub fn remember(c: Class, n: u8, i: u8, m: u8, x: u8) -> u8
     }
 }
 
-// Octets of a number, as far as they go.
-fn number_along(v: &[u8]) -> usize
-    ensures { λ r. ⌜ r ≡ goodFront class.Number (now (v .entry)) ⌝ }
+// Octets of a kind, as far as they go.
+fn kind_along(kinds: &[u8], kind: u8, v: &[u8]) -> usize
+    requires { ⌜ Rowed (now kinds) × ContentKind kind ⌝ }
+    ensures { λ r. ⌜ r ≡ kindFront kind (now (v .entry)) ⌝ }
 {
     let mut i = 0;
     while i < v.len() {
-        if number_ok(v[i]) {
+        let row = kinds[v[i] as usize];
+        if admits(row, kind) {
             i += 1;
         } else {
             return i;
@@ -862,54 +900,48 @@ fn number_along(v: &[u8]) -> usize
     i
 }
 
-// Octets of a name, as far as they go.
-fn name_along(v: &[u8]) -> usize
-    ensures { λ r. ⌜ r ≡ goodFront class.Name (now (v .entry)) ⌝ }
+// Do two octets make a number out of the range, the tens first?
+fn two_digits(lo: u8, hi: u8, kinds: &[u8], a: u8, b: u8) -> bool
+    requires { ⌜ Rowed (now kinds) ⌝ }
+    ensures { λ r. ⌜ r ≡ (tensFit (lo, hi) a and onesFit (lo, hi) (a - 48) b) ⌝ }
 {
-    let mut i = 0;
-    while i < v.len() {
-        if name_ok(v[i]) {
-            i += 1;
+    if admits(kinds[a as usize], DIGIT) {
+        if admits(kinds[b as usize], DIGIT) {
+            among(lo, hi, 10 * (a - 48) + (b - 48))
         } else {
-            return i;
+            false
         }
+    } else {
+        false
     }
-    i
 }
 
-// Digits, as far as they go.
-fn digits_along(v: &[u8]) -> usize
-    ensures { λ r. ⌜ r ≡ goodFront class.OldNumber (now (v .entry)) ⌝ }
+// Are there two octets at a place that make a number out of the range?
+fn pair_at(lo: u8, hi: u8, kinds: &[u8], v: &[u8], at: usize) -> bool
+    requires { ⌜ Rowed (now kinds) × (at ≤ 6) ⌝ }
+    ensures { λ r. ⌜ r ≡ (2 ≤? pairStands (lo, hi) (list.drop at (now (v .entry)))) ⌝ }
 {
-    let mut i = 0;
-    while i < v.len() {
-        if among(0x30, 0x39, v[i]) {
-            i += 1;
-        } else {
-            return i;
-        }
+    if v.len() <= at + 1 {
+        false
+    } else {
+        two_digits(lo, hi, kinds, v[at], v[at + 1])
     }
-    i
 }
 
 // Two digits at a place for a number out of the range: the place behind those of them that may stand.
-fn pair_along(lo: u8, hi: u8, v: &[u8], at: usize) -> usize
-    requires { ⌜ at ≤ 6 ⌝ }
+fn pair_along(lo: u8, hi: u8, kinds: &[u8], v: &[u8], at: usize) -> usize
+    requires { ⌜ Rowed (now kinds) × (at ≤ 6) ⌝ }
     ensures { λ r. ⌜ r ≡ at + pairStands (lo, hi) (list.drop at (now (v .entry))) ⌝ }
 {
+    if pair_at(lo, hi, kinds, v, at) {
+        return at + 2;
+    }
     if v.len() <= at {
         return at;
     }
     let x = v[at];
-    if tens_ok(lo, hi, x) {
-        if v.len() <= at + 1 {
-            return at + 1;
-        }
-        if ones_ok(lo, hi, x - 48, v[at + 1]) {
-            at + 2
-        } else {
-            at + 1
-        }
+    if tens_ok(lo, hi, kinds[x as usize], x) {
+        at + 1
     } else {
         at
     }
@@ -924,33 +956,40 @@ fn days_along(v: &[u8]) -> u8
 }
 
 // The digits of a date, as far as they go: month, day, hour and minute.
-fn date_along(v: &[u8]) -> usize
+fn date_along(kinds: &[u8], v: &[u8]) -> usize
+    requires { ⌜ Rowed (now kinds) ⌝ }
     ensures { λ r. ⌜ r ≡ goodFront class.Date (now (v .entry)) ⌝ }
 {
-    let month = pair_along(1, LAST_MONTH, v, 0);
+    let month = pair_along(1, LAST_MONTH, kinds, v, 0);
     if month < 2 {
         return month;
     }
-    let day = pair_along(1, days_along(v), v, 2);
+    let day = pair_along(1, days_along(v), kinds, v, 2);
     if day < 4 {
         return day;
     }
-    let hour = pair_along(0, LAST_HOUR, v, 4);
+    let hour = pair_along(0, LAST_HOUR, kinds, v, 4);
     if hour < 6 {
         return hour;
     }
-    let minute = pair_along(0, LAST_MINUTE, v, 6);
+    let minute = pair_along(0, LAST_MINUTE, kinds, v, 6);
     if minute < 8 {
         return minute;
     }
     v.len()
 }
 
-// Where the first octet alone is judged: all of n, or none.
-fn by_first(ok: bool, n: usize) -> usize
-    ensures { λ r. ⌜ r ≡ pick ok n 0 ⌝ }
+// Dates and texts as far as they go. The table is laid down here, once for all of their octets.
+fn by_rows(c: Class, v: &[u8]) -> usize
+    requires { ⌜ rows.asks c ≡ true ⌝ }
+    ensures { λ r. ⌜ r ≡ goodFront c (now (v .entry)) ⌝ }
 {
-    if ok { n } else { 0 }
+    let kinds = kinds::KINDS;
+    if code_of(c) == DATE {
+        date_along(&kinds[..], v)
+    } else {
+        kind_along(&kinds[..], kind_of(c), v)
+    }
 }
 
 // How many octets of contents may stand where they stand (document 01, The message): all, or those before the first
@@ -962,24 +1001,12 @@ pub fn first_wrong(c: Class, v: &[u8]) -> usize
     if n == 0 {
         return 0;
     }
-    let x = v[0];
-    match c {
-        Class::Date => date_along(v),
-        Class::Number => number_along(v),
-        Class::Absent => by_first(absent_ok(x), n),
-        Class::Name => name_along(v),
-        Class::Lamp => by_first(lamp_ok(x), n),
-        Class::Identity => by_first(identity_ok(x), n),
-        Class::CallType => by_first(call_type_ok(x), n),
-        Class::Waiting => n,
-        Class::Forwarded => by_first(forwarded_ok(x), n),
-        Class::User => by_first(user_ok(x), n),
-        Class::OldNumber => digits_along(v),
-        Class::ShortText => name_along(v),
-        Class::OldForwarded => by_first(among(0x00, 0x06, x), n),
-        Class::OldUser => by_first(old_user_ok(x), n),
-        Class::Unlisted => n,
-        Class::Carried => n,
+    if asks(c) {
+        by_rows(c, v)
+    } else if code_ok(c, v[0]) {
+        n
+    } else {
+        0
     }
 }
 

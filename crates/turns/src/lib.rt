@@ -81,17 +81,19 @@ fn last(book: Book, s: &[u8], at: usize, room: u8, sum: u8) -> u64
     }
 }
 
-// How many octets of contents that are to have this length may stand where they stand, from the first on.
+// How many octets of contents that are to have this length may stand where they stand, from the first on. The table of
+// octets is laid down once for all of them.
 fn reached(class: Class, v: &[u8], length: u8) -> usize
     requires { ⌜ long (now v) ≤ 255 ⌝ }
     ensures { λ r. ⌜ r ≡ passing (judgeOf class) length 0 0 (now (v .entry)) ⌝ }
 {
     let n = v.len() as u8;
+    let kinds = rules::kinds::KINDS;
     let mut memory: u8 = 0;
     let mut index: u8 = 0;
     while index < n {
         let x = v[index as usize];
-        if rules::content_ok(class, length, index, memory, x) {
+        if rules::content_ok(class, length, index, memory, kinds[x as usize], x) {
             memory = rules::remember(class, length, index, memory, x);
             index += 1;
         } else {

@@ -1,122 +1,54 @@
--- `listener::along` meets its contract. The loop's invariant: the run stands at octet i and at an index of the contents
--- that it has come to. The measure is what is left of the run. A turn reads its octet and judges it; then it goes
--- further, or stops.
+-- `listener::along` meets its contract: the table has the row of each octet, and is at hand where the class asks for it.
 -- Assumes nothing.
-use mathlib.Core.Path.{refl}
-use Prim.Native.Nat.{_-_}
-use native.Mathlib.Omega.{arith}
-use lib.ListN as list
-use Rattle.rules.specs.Table.{rulesOf}
-use Rattle.rules.proofs.ContentLaw.{sound-rules}
-use Rattle.rules.proofs.Returns.{via}
-use Rattle.listener.specs.Heard.{insideOf}
-use Rattle.listener.proofs.Bounds.{place-small, index-small}
-use Rattle.listener.proofs.Going.{Stands, stands-first, stands-ended, stands-over, stands-more, stands-spoilt}
+use mathlib.Core.Path.{_∙_, sym}
+use mathlib.Core.Bool.{false}
+use Rattle.rules.specs.Tests.{_≤?_, _and_, _or_}
+use Rattle.rules.specs.Contents.{within, inSet, digit}
+use Rattle.rules.specs.OctetRows.{bit, kindsOf}
+use Rattle.rules.proofs.Table.{tabled}
+use Rattle.rules.proofs.OctetRows.{kindRows, rowed}
+use Rattle.rules.proofs.Returns.{T-of}
 use borrow.Author.Needs.{needs}
 use Rattle.listener.proofs.along.Statement.{statement}
 use Rattle.listener.proofs.along.Tie as tie
 
-abbrev Inv-loop : tie.InvT-loop
-Inv-loop book f first kept octets from class index₀ memory₀ q₀ i₀ index memory q i =
-    Stands (rulesOf book) (sound-rules book) f octets (insideOf f first kept q₀) from i index memory q
+asks-requires : tie.Need-asks-requires
+asks-requires c κs = search needs
 
-abbrev μ-loop : tie.MeasureT-loop
-μ-loop book f first kept octets from class index₀ memory₀ q₀ i₀ index memory q i = list.length octets - i
+slice-aggregate-by-octets : tie.Need-slice-aggregate-by-octets
+slice-aggregate-by-octets c = search needs
 
-loop-holds : tie.Need-loop-holds Inv-loop μ-loop
-loop-holds c = stands-first _ (sound-rules _) _ _ _ _ _ _ _ refl (c .before .pre .0) (c .before .pre .1)
+by-octets-requires : tie.Need-by-octets-requires
+unfolding kindRows tabled kindsOf bit digit within inSet _or_ _and_ _≤?_
+by-octets-requires c κs =
+    let start = c .before .before .before .before in
+    (start .pre .0, start .pre .1, λ _. rowed)
 
-shared-slice-read-x : tie.Need-shared-slice-read-x Inv-loop μ-loop
-shared-slice-read-x c = search needs
+slice-aggregate-by-octets-2 : tie.Need-slice-aggregate-by-octets-2
+slice-aggregate-by-octets-2 c = search needs
 
-content-ok-requires : tie.Need-content-ok-requires Inv-loop μ-loop
-content-ok-requires c κs = search needs
-
-further-requires : tie.Need-further-requires Inv-loop μ-loop
-further-requires c κs =
-    let turn = c .before .before .before .before .loop in (
-      index-small _ (sound-rules _) _ _ _ _ _ _ (turn .inv .in-range) (omega arith),
-      place-small _ (sound-rules _) _ _ (turn .inv .in-range),
+by-octets-requires-2 : tie.Need-by-octets-requires-2
+by-octets-requires-2 c κs =
+    let start = c .before .before .before .before in (
+      start .pre .0,
+      start .pre .1,
+      λ asked. absurd (T-of false (sym (c .before .if1 .left) ∙ c .before .before .asks .ensures ∙ asked)),
     )
 
-add-t24 : tie.Need-add-t24 Inv-loop μ-loop
-add-t24 c = omega arith
+returns : tie.Need-returns
+returns c = search needs
 
-returns : tie.Need-returns Inv-loop μ-loop
-returns c =
-    let judged = c .before .before .before .before in
-    let read = judged .before .before in
-    let turn = read .before .before .loop in
-    stands-over _ (sound-rules _) _ _ _ _ _ _ _ _ (turn .inv) (read .before .loop-test .taken)
-    (omega (arith, read .shared-slice-known2 .given (turn .i)))
-    (via _ _ _ (judged .before .content-ok .ensures) (judged .if1 .taken))
-    _ (c .before .before .before .further .ensures) (c .if2 .taken)
-
-add-i : tie.Need-add-i Inv-loop μ-loop
-add-i c = omega arith
-
-loop-less : tie.Need-loop-less Inv-loop μ-loop
-loop-less c =
-    let turn = c .before .before .before .before .before .before .before in
-    omega (arith, turn .loop-test .taken)
-
-loop-again : tie.Need-loop-again Inv-loop μ-loop
-loop-again c =
-    let judged = c .before .before .before .before in
-    let read = judged .before .before in
-    let turn = read .before .before .loop in
-    stands-more _ (sound-rules _) _ _ _ _ _ _ _ _ (turn .inv) (read .before .loop-test .taken)
-    (omega (arith, read .shared-slice-known2 .given (turn .i)))
-    (via _ _ _ (judged .before .content-ok .ensures) (judged .if1 .taken))
-    _ (c .before .before .before .further .ensures) (c .if2 .left)
-
-content-at-requires : tie.Need-content-at-requires Inv-loop μ-loop
-content-at-requires c κs = search needs
-
-declined-requires : tie.Need-declined-requires Inv-loop μ-loop
-declined-requires c κs = search needs
-
-add-t26 : tie.Need-add-t26 Inv-loop μ-loop
-add-t26 c = omega arith
-
-returns-2 : tie.Need-returns-2 Inv-loop μ-loop
-returns-2 c =
-    let judged = c .before .before in
-    let read = judged .before .before in
-    let turn = read .before .before .loop in
-    stands-spoilt _ (sound-rules _) _ _ _ _ _ _ _ _ (turn .inv) (read .before .loop-test .taken)
-    (omega (arith, read .shared-slice-known2 .given (turn .i)))
-    (via _ _ _ (judged .before .content-ok .ensures) (judged .if1 .left))
-    _ (c .before .content-at .ensures) _ (c .declined .ensures)
-
-content-at-requires-2 : tie.Need-content-at-requires-2 Inv-loop μ-loop
-content-at-requires-2 c κs = search needs
-
-returns-3 : tie.Need-returns-3 Inv-loop μ-loop
-returns-3 c =
-    let start = c .before .before .before .before in
-    let turn = c .before .before .loop in
-    stands-ended _ (sound-rules _) _ _ _ _ _ _ _ _ (turn .inv) (c .before .loop-test .left)
-    (start .pre .1) _ (c .content-at2 .ensures)
+returns-2 : tie.Need-returns-2
+returns-2 c = search needs
 
 pub along-spec : {M : Type 1} → statement M
 along-spec =
     tie.close
     (tie.spec
-    Inv-loop
-    μ-loop
-    loop-holds
-    shared-slice-read-x
-    content-ok-requires
-    further-requires
-    add-t24
+    asks-requires
+    slice-aggregate-by-octets
+    by-octets-requires
+    slice-aggregate-by-octets-2
+    by-octets-requires-2
     returns
-    add-i
-    loop-less
-    loop-again
-    content-at-requires
-    declined-requires
-    add-t26
-    returns-2
-    content-at-requires-2
-    returns-3)
+    returns-2)

@@ -18,7 +18,7 @@ pair-along-requires c κs = search needs
 returns : tie.Need-returns
 unfolding judgeOf
 returns c =
-    let v = c .before .before .before .args .v .now in
+    let v = c .before .before .before .before .args .v .now in
     pair-stops _ v _ _ 0 _ (c .before .pair-along .ensures) (c .if1 .taken)
     ∙ zero-add _
     ∙ sym (stands-as _ _ 0 v)
@@ -33,7 +33,7 @@ returns-2 : tie.Need-returns-2
 unfolding judgeOf
 returns-2 c =
     let month = c .before .before .before in
-    let v = month .before .before .before .args .v .now in
+    let v = month .before .before .before .before .args .v .now in
     pair-stops _ v _ _ 2 _ (rw (c .before .before .days-along .ensures) at (c .before .pair-along2 .ensures))
     (c .if2 .taken)
     ∙ pair-goes _ v _ _ 0 _ (month .before .pair-along .ensures) (month .if1 .left)
@@ -48,7 +48,7 @@ unfolding judgeOf
 returns-3 c =
     let day = c .before .before in
     let month = day .before .before .before in
-    let v = month .before .before .before .args .v .now in
+    let v = month .before .before .before .before .args .v .now in
     pair-stops _ v _ _ 4 _ (c .before .pair-along3 .ensures) (c .if3 .taken)
     ∙ pair-goes _ v _ _ 2 _ (rw (day .before .before .days-along .ensures) at (day .before .pair-along2 .ensures))
     (day .if2 .left)
@@ -65,7 +65,7 @@ returns-4 c =
     let hour = c .before .before in
     let day = hour .before .before in
     let month = day .before .before .before in
-    let v = month .before .before .before .args .v .now in
+    let v = month .before .before .before .before .args .v .now in
     pair-stops _ v _ _ 6 _ (c .before .pair-along4 .ensures) (c .if4 .taken)
     ∙ pair-goes _ v _ _ 4 _ (hour .before .pair-along3 .ensures) (hour .if3 .left)
     ∙ pair-goes _ v _ _ 2 _ (rw (day .before .before .days-along .ensures) at (day .before .pair-along2 .ensures))
@@ -80,8 +80,8 @@ returns-5 c =
     let hour = c .before .before in
     let day = hour .before .before in
     let month = day .before .before .before in
-    let v = month .before .before .before .args .v .now in
-    pair-ends _ v _ 6 _ (octets-known v (month .before .before .shared-slice-known .given))
+    let v = month .before .before .before .before .args .v .now in
+    pair-ends _ v _ 6 _ (octets-known v (month .before .before .shared-slice-known2 .given))
     (c .before .pair-along4 .ensures) (c .if4 .left)
     ∙ pair-goes _ v _ _ 4 _ (hour .before .pair-along3 .ensures) (hour .if3 .left)
     ∙ pair-goes _ v _ _ 2 _ (rw (day .before .before .days-along .ensures) at (day .before .pair-along2 .ensures))

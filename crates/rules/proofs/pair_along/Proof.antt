@@ -1,86 +1,90 @@
--- `rules::pair_along` meets its contract: none, one or two octets are left from the place on, and are judged in order.
+-- `rules::pair_along` meets its contract: two octets that make a number of the range stand; else none is left, or the tens
+-- decide.
 -- Assumes nothing.
+use mathlib.Core.Path.{sym, _∙_}
+use mathlib.Core.Bool.{true, false}
+use native.Mathlib.Nat.{add-zero}
+use Prim.Native.Nat.{_<_}
+use native.Mathlib.Omega.{arith}
+use lib.ListN.{getD}
 use Rattle.rules.specs.Tests.{pick}
 use Rattle.rules.proofs.Returns.{via}
-use Rattle.rules.proofs.Standing.{tens-digit, none-left, wrong-tens, one-left, two-left}
+use Rattle.rules.proofs.OctetRows.{tens-row}
+use Rattle.rules.proofs.Standing.{none-left, pair-done, tens-left}
 use borrow.Author.Needs.{needs}
 use Rattle.rules.proofs.pair_along.Statement.{statement}
 use Rattle.rules.proofs.pair_along.Tie as tie
 
-returns : tie.Need-returns
-returns c = none-left _ _ _ (c .if1 .taken)
-
-shared-slice-read-x : tie.Need-shared-slice-read-x
-shared-slice-read-x c = search needs
-
-tens-ok-requires : tie.Need-tens-ok-requires
-tens-ok-requires c κs = search needs
-
-add-if3 : tie.Need-add-if3
-add-if3 c = search needs
+pair-at-requires : tie.Need-pair-at-requires
+pair-at-requires c κs = search needs
 
 add-result : tie.Need-add-result
 add-result c = search needs
 
+returns : tie.Need-returns
+returns c = pair-done _ _ _ _ (c .before .pair-at .ensures) (c .if1 .taken)
+
 returns-2 : tie.Need-returns-2
-returns-2 c =
-    one-left _ _ _ (search needs) (via _ _ _ (c .before .before .tens-ok .ensures) (c .before .if2 .taken))
-    (c .if3 .taken)
+returns-2 c = none-left _ _ _ (c .if2 .taken)
 
-sub-ones-ok : tie.Need-sub-ones-ok
-sub-ones-ok c =
-    tens-digit _ _ (via _ _ _ (c .before .before .tens-ok .ensures) (c .before .if2 .taken))
+shared-slice-read-x : tie.Need-shared-slice-read-x
+shared-slice-read-x c = search needs
 
-add-ones-ok : tie.Need-add-ones-ok
-add-ones-ok c = search needs
+cast-tens-ok : tie.Need-cast-tens-ok
+cast-tens-ok c =
+    let read = c in
+    let start = read .before .before .before .before .before .before in
+    let x = getD (start .args .v .now) (start .args .at) 0 in
+    let octet : x < 256 = omega (arith, read .shared-slice-known3 .given (start .args .at)) in search needs
 
-shared-slice-read-ones-ok : tie.Need-shared-slice-read-ones-ok
-shared-slice-read-ones-ok c = search needs
+shared-slice-read-tens-ok : tie.Need-shared-slice-read-tens-ok
+shared-slice-read-tens-ok c =
+    let read = c .before in
+    let start = read .before .before .before .before .before .before in
+    let x = getD (start .args .v .now) (start .args .at) 0 in
+    let octet : x < 256 = omega (arith, read .shared-slice-known3 .given (start .args .at)) in
+    omega (arith, octet, start .pre .0 .long)
 
-ones-ok-requires : tie.Need-ones-ok-requires
-ones-ok-requires c κs = search needs
+tens-ok-requires : tie.Need-tens-ok-requires
+tens-ok-requires c κs = search needs
 
 add-result-2 : tie.Need-add-result-2
 add-result-2 c = search needs
 
-add-result-3 : tie.Need-add-result-3
-add-result-3 c = search needs
-
 returns-3 : tie.Need-returns-3
 unfolding pick
 returns-3 c =
-    let o = c .before .before .before in
-    let p = o .before .before in
-    two-left _ _ _ (search needs) (via _ _ _ (p .tens-ok .ensures) (o .before .if2 .taken)) (search needs) _
-    (via _ _ _ (c .before .ones-ok .ensures) (c .if4 .taken))
+    let read = c .before .before .before in
+    let start = read .before .before .before .before .before .before in
+    let x = getD (start .args .v .now) (start .args .at) 0 in
+    let octet : x < 256 = omega (arith, read .shared-slice-known3 .given (start .args .at)) in
+    let pair = read .before .before in
+    tens-left _ _ _ (search needs) _ (pair .before .pair-at .ensures) (pair .if1 .left) true
+    (via _ _ _ (c .before .tens-ok .ensures ∙ tens-row x _ _ (start .pre .0 .row x octet)) (c .if3 .taken))
 
 returns-4 : tie.Need-returns-4
 unfolding pick
 returns-4 c =
-    let o = c .before .before .before in
-    let p = o .before .before in
-    two-left _ _ _ (search needs) (via _ _ _ (p .tens-ok .ensures) (o .before .if2 .taken)) (search needs) _
-    (via _ _ _ (c .before .ones-ok .ensures) (c .if4 .left))
-
-returns-5 : tie.Need-returns-5
-returns-5 c = wrong-tens _ _ _ (search needs) (via _ _ _ (c .before .tens-ok .ensures) (c .if2 .left))
+    let read = c .before .before .before in
+    let start = read .before .before .before .before .before .before in
+    let x = getD (start .args .v .now) (start .args .at) 0 in
+    let octet : x < 256 = omega (arith, read .shared-slice-known3 .given (start .args .at)) in
+    let pair = read .before .before in
+    sym (add-zero _) ∙ tens-left _ _ _ (search needs) _ (pair .before .pair-at .ensures) (pair .if1 .left) false
+    (via _ _ _ (c .before .tens-ok .ensures ∙ tens-row x _ _ (start .pre .0 .row x octet)) (c .if3 .left))
 
 pub pair-along-spec : {M : Type 1} → statement M
 pair-along-spec =
     tie.close
     (tie.spec
-    returns
-    shared-slice-read-x
-    tens-ok-requires
-    add-if3
+    pair-at-requires
     add-result
+    returns
     returns-2
-    sub-ones-ok
-    add-ones-ok
-    shared-slice-read-ones-ok
-    ones-ok-requires
+    shared-slice-read-x
+    cast-tens-ok
+    shared-slice-read-tens-ok
+    tens-ok-requires
     add-result-2
-    add-result-3
     returns-3
-    returns-4
-    returns-5)
+    returns-4)

@@ -1,0 +1,146 @@
+-- The table of octets (document 02, Q-7): the table that the rule makes has the row of each octet, and a row says of each
+-- kind what the rules say. Where the code lays its own table down (`by_rows`; `reached` in turns, `along` in listener) the
+-- two are compared, all 256 rows at once.
+-- Assumes nothing.
+use mathlib.Core.Path.{_≡_, refl, sym, _∙_, ap}
+use mathlib.Core.Bool.{Bool, true, false}
+use mathlib.Core.List.{List}
+use Prim.Native.Nat.{ℕ, zero, suc, _+_, _*_, _-_, _≤_, _<_}
+use native.Mathlib.Omega.{arith}
+use lib.Dec.{T, leb, leb→le, le→leb}
+use lib.ListN.{length}
+use Rattle.rules.specs.Tests.{_≤?_, _=?_, _and_, _or_, pick}
+use Rattle.rules.specs.Contents.{Range, within, inSet, digit}
+use Rattle.rules.specs.ContentJudge.{opens, tensBy, tensFit, onesFit}
+use Rattle.rules.specs.Table.{numberSet, nameSet, oldNumberSet}
+use Rattle.rules.specs.OctetRows.{bit, kindsOf, Rowed, ContentKind, digits, numbers, names, admitted, kindSet}
+use Rattle.rules.proofs.Tests.{le-of, of-le, both, join}
+use Rattle.rules.proofs.Returns.{T-of, same-truth}
+use Rattle.rules.proofs.Table.{tabled, at}
+
+-- the table that the rule makes
+unfoldable pub kindRows : List ℕ
+kindRows = tabled kindsOf 0 256
+
+tabled-long : (f : ℕ → ℕ) (i n : ℕ) → length (tabled f i n) ≡ n
+unfolding tabled
+tabled-long f i zero = refl
+tabled-long f i (suc n) = ap suc (tabled-long f (suc i) n)
+
+pub rowed : Rowed kindRows
+unfolding kindRows
+rowed = record { long = tabled-long kindsOf 0 256; row = λ x h. at kindsOf 256 x h }
+
+-- ---- each bit of a row
+kind-bit : (kind : ℕ) → ContentKind kind → (a b c : Bool) →
+    admitted (bit a + 2 * bit b + 4 * bit c) kind ≡ pick (kind =? 1) a (pick (kind =? 2) b c)
+unfolding admitted bit pick _=?_
+kind-bit k digits true true true = refl
+kind-bit k digits true true false = refl
+kind-bit k digits true false true = refl
+kind-bit k digits true false false = refl
+kind-bit k digits false true true = refl
+kind-bit k digits false true false = refl
+kind-bit k digits false false true = refl
+kind-bit k digits false false false = refl
+kind-bit k numbers true true true = refl
+kind-bit k numbers true true false = refl
+kind-bit k numbers true false true = refl
+kind-bit k numbers true false false = refl
+kind-bit k numbers false true true = refl
+kind-bit k numbers false true false = refl
+kind-bit k numbers false false true = refl
+kind-bit k numbers false false false = refl
+kind-bit k names true true true = refl
+kind-bit k names true true false = refl
+kind-bit k names true false true = refl
+kind-bit k names true false false = refl
+kind-bit k names false true true = refl
+kind-bit k names false true false = refl
+kind-bit k names false false true = refl
+kind-bit k names false false false = refl
+
+last-of : (b : Bool) → b ≡ (b or false)
+unfolding _or_
+last-of true = refl
+last-of false = refl
+
+one-digit : (x : ℕ) → digit x ≡ inSet oldNumberSet x
+unfolding digit inSet
+one-digit x = last-of _
+
+set-of : (kind : ℕ) → ContentKind kind → (x : ℕ) →
+    pick (kind =? 1) (digit x) (pick (kind =? 2) (inSet numberSet x) (inSet nameSet x)) ≡ inSet (kindSet kind) x
+unfolding kindSet pick _=?_
+set-of kind digits x = one-digit x
+set-of kind numbers x = refl
+set-of kind names x = refl
+
+-- what a row says of a kind is what the rules say of its octet
+pub admits-kind : (kind : ℕ) → ContentKind kind → (x row : ℕ) → row ≡ kindsOf x → admitted row kind ≡ inSet (kindSet kind) x
+unfolding kindsOf
+admits-kind kind k x row e = ap (λ (r : ℕ). admitted r kind) e ∙ kind-bit kind k _ _ _ ∙ set-of kind k x
+
+-- ---- digits
+-- a row says whether its octet is a digit
+pub row-digit : (x row : ℕ) → row ≡ kindsOf x → admitted row 1 ≡ digit x
+unfolding kindsOf pick _=?_
+row-digit x row e = ap (λ (k : ℕ). admitted k 1) e ∙ kind-bit 1 digits _ _ _
+
+pub tens-row : (x row : ℕ) (r : Range) → row ≡ kindsOf x → tensBy (admitted row 1) r x ≡ tensFit r x
+unfolding tensFit
+tens-row x row r e = ap (λ (d : Bool). tensBy d r x) (row-digit x row e)
+
+-- a test of a digit by its row
+pub digit-told : (x row : ℕ) (r b : Bool) → row ≡ kindsOf x → r ≡ admitted row 1 → r ≡ b → digit x ≡ b
+digit-told x row r b e t q = sym (row-digit x row e) ∙ sym t ∙ q
+
+pub digit-least : (x : ℕ) → digit x ≡ true → 48 ≤ x
+unfolding digit within
+digit-least x d = le-of _ _ (both _ _ (T-of _ d) .0)
+
+pub digit-most : (x : ℕ) → digit x ≡ true → x ≤ 57
+unfolding digit within
+digit-most x d = le-of _ _ (both _ _ (T-of _ d) .1)
+
+-- the ones of a digit are not 0
+pub some-ones : (x : ℕ) → leb 1 (x - 48) ≡ (49 ≤? x)
+unfolding _≤?_
+some-ones x =
+    same-truth (leb 1 (x - 48)) (leb 49 x) (λ t. le→leb 49 x (omega (arith, leb→le 1 (x - 48) t)))
+    (λ t. le→leb 1 (x - 48) (omega (arith, leb→le 49 x t)))
+
+-- ---- two digits, the tens first
+both-or-last : (o w : Bool) → (T w → T o) → w ≡ (o and w)
+unfolding _and_
+both-or-last true w f = refl
+both-or-last false true f = absurd (f tt)
+both-or-last false false f = refl
+
+module _ (lo hi a b : ℕ) where
+  -- a number of the range has tens with which one begins
+  pub two-told : (r : Bool) → digit a ≡ true → digit b ≡ true → r ≡ within (lo, hi) (10 * (a - 48) + (b - 48)) →
+      r ≡ (tensFit (lo, hi) a and onesFit (lo, hi) (a - 48) b)
+  unfolding tensFit onesFit opens within _and_
+  two-told r da db e =
+      e ∙ rw (da, db) (both-or-last (lo ≤? 10 * (a - 48) + 9 and 10 * (a - 48) ≤? hi) _ begins)
+    where
+      begins : T (within (lo, hi) (10 * (a - 48) + (b - 48))) → T (lo ≤? 10 * (a - 48) + 9 and 10 * (a - 48) ≤? hi)
+      begins t =
+          let n = 10 * (a - 48) + (b - 48) in
+          let h = both (lo ≤? n) (n ≤? hi) t in
+          join (lo ≤? 10 * (a - 48) + 9) (10 * (a - 48) ≤? hi)
+          (of-le lo (10 * (a - 48) + 9) (omega (arith, le-of lo n (h .0), digit-most b db)))
+          (of-le (10 * (a - 48)) hi (omega (arith, le-of n hi (h .1))))
+
+  pub no-ones : digit b ≡ false → false ≡ (tensFit (lo, hi) a and onesFit (lo, hi) (a - 48) b)
+  unfolding onesFit _and_
+  no-ones e = rw e (never (tensFit (lo, hi) a))
+    where
+      never : (t : Bool) → false ≡ (t and false)
+      never true = refl
+      never false = refl
+
+  pub no-tens : digit a ≡ false → false ≡ (tensFit (lo, hi) a and onesFit (lo, hi) (a - 48) b)
+  unfolding tensFit _and_
+  no-tens e = rw e
