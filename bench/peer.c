@@ -1,5 +1,6 @@
-/* A plain C listener as a firmware programmer would write it by hand, on the record that include/anthercup.h lays out: the record's size, every code and
- * number, and that unused octets are 0, are judged at entry; every octet is judged by document 01's rules as it arrives. */
+/* A plain C listener as a firmware programmer would write it by hand, on the record that include/anthercup.h lays out:
+ * the record's size, every code and number, and that unused octets are 0, are judged at entry; every octet is judged
+ * by document 01's rules as it arrives, and parameters are counted as they begin (document 02, Q-3). */
 #include "peer.h"
 
 #include <string.h>
@@ -8,41 +9,52 @@ enum { KIND, SIZE, HEADER, LENGTH, CONTENT, MESSAGE, REFUSED };
 enum { CARRIED, DATE, NUMBER, ABSENT, NAME, LAMP, IDENTITY, CALL_TYPE, WAITING, FORWARDED, USER };
 
 struct state {
-    unsigned stage, sum, place, class, length, index, memory, room, number;
+    unsigned stage, sum, place, class, length, index, memory, room, number, parameter;
 };
 
 static const uint8_t class_of[256] = {
-    [0x01] = DATE, [0x02] = NUMBER, [0x03] = NUMBER, [0x04] = ABSENT, [0x07] = NAME, [0x08] = ABSENT, [0x0B] = LAMP, [0x0D] = IDENTITY,
-    [0x0E] = NUMBER, [0x11] = CALL_TYPE, [0x12] = NUMBER, [0x13] = WAITING, [0x15] = FORWARDED, [0x16] = USER,
+    [0x01] = DATE, [0x02] = NUMBER, [0x03] = NUMBER, [0x04] = ABSENT, [0x07] = NAME, [0x08] = ABSENT, [0x0B] = LAMP,
+    [0x0D] = IDENTITY, [0x0E] = NUMBER, [0x11] = CALL_TYPE, [0x12] = NUMBER, [0x13] = WAITING, [0x15] = FORWARDED,
+    [0x16] = USER,
 };
 static const uint8_t least[11] = {1, 8, 1, 1, 1, 1, 3, 1, 1, 1, 1};
 static const uint8_t most[11] = {253, 8, 20, 1, 50, 1, 3, 1, 1, 1, 1};
 static const uint8_t from[4] = {1, 1, 0, 0}, to[4] = {12, 31, 23, 59};
 static const uint8_t days[13] = {31, 31, 29, 31, 30, 31, 30, 31, 31, 30, 31, 30, 31};
 
-static uint64_t word(unsigned number, unsigned place, unsigned size, size_t taken) {
-    return number | (uint64_t)place << 8 | (uint64_t)size << 24 | (uint64_t)taken << 40;
+static uint64_t word(unsigned number, unsigned place, unsigned size, size_t taken, unsigned parameter) {
+    return number | (uint64_t)place << 8 | (uint64_t)size << 24 | (uint64_t)taken << 40 | (uint64_t)parameter << 56;
 }
 
 static int among(unsigned lo, unsigned hi, unsigned x) { return lo <= x && x <= hi; }
 
+/* a refusal's: with a type, a length or contents from 1 to the most that a message holds, else none */
+static int parameter_known(const struct state *s) {
+    return among(3, 5, s->number) ? among(1, 85, s->parameter) : s->parameter == 0;
+}
+
 static int in_range(const struct state *s) {
-    unsigned inner = s->class | s->length | s->index | s->memory;
+    unsigned inner = s->class | s->length | s->index | s->memory, least_place = 3 * s->parameter;
     switch (s->stage) {
-    case KIND: return (inner | s->room | s->number | s->place) == 0;
-    case SIZE: return (inner | s->room | s->number) == 0 && s->place == 1;
-    case HEADER: return (inner | s->number) == 0 && among(5, 257, s->place + s->room);
-    case LENGTH: return (s->length | s->index | s->memory | s->number) == 0 && s->class <= USER && s->room >= 1 && among(6, 258, s->place + s->room);
+    case KIND: return (inner | s->room | s->number | s->parameter | s->place) == 0;
+    case SIZE: return (inner | s->room | s->number | s->parameter) == 0 && s->place == 1;
+    case HEADER: return (inner | s->number) == 0 && among(5, 257, s->place + s->room) && least_place + 2 <= s->place;
+    case LENGTH:
+        return (s->length | s->index | s->memory | s->number) == 0 && s->class <= USER && s->room >= 1
+            && among(6, 258, s->place + s->room) && s->parameter >= 1 && least_place <= s->place;
     case CONTENT:
-        return s->number == 0 && s->class <= USER && s->index < s->length && among(5 + s->index, 257 + s->index, s->place + s->length + s->room);
-    case MESSAGE: return (inner | s->sum | s->room | s->number) == 0 && among(6, 258, s->place);
-    case REFUSED: return (inner | s->sum | s->room) == 0 && among(1, 6, s->number) && s->place <= 257;
+        return s->number == 0 && s->class <= USER && s->index < s->length
+            && among(5 + s->index, 257 + s->index, s->place + s->length + s->room) && s->parameter >= 1
+            && least_place + 1 + s->index <= s->place;
+    case MESSAGE: return (inner | s->sum | s->room | s->number | s->parameter) == 0 && among(6, 258, s->place);
+    case REFUSED:
+        return (inner | s->sum | s->room) == 0 && among(1, 6, s->number) && s->place <= 257 && parameter_known(s);
     default: return 0;
     }
 }
 
 static int load(struct state *s, const uint8_t *r) {
-    if (r[10] | r[11] | r[12] | r[13] | r[14] | r[15]) return 0;
+    if (r[11] | r[12] | r[13] | r[14] | r[15]) return 0;
     s->stage = r[0];
     s->sum = r[1];
     s->place = r[2] | (unsigned)r[3] << 8;
@@ -52,6 +64,7 @@ static int load(struct state *s, const uint8_t *r) {
     s->memory = r[7];
     s->room = r[8];
     s->number = r[9];
+    s->parameter = r[10];
     return in_range(s);
 }
 
@@ -66,25 +79,29 @@ static void store(const struct state *s, uint8_t *r) {
     r[7] = (uint8_t)s->memory;
     r[8] = (uint8_t)s->room;
     r[9] = (uint8_t)s->number;
-    memset(r + 10, 0, 6);
+    r[10] = (uint8_t)s->parameter;
+    memset(r + 11, 0, 5);
 }
 
-static void ends(struct state *s, unsigned stage, unsigned place, unsigned number) {
+static void ends(struct state *s, unsigned stage, unsigned place, unsigned number, unsigned parameter) {
     memset(s, 0, sizeof *s);
     s->stage = stage;
     s->place = place;
     s->number = number;
+    s->parameter = parameter;
 }
 
 static int room_left(unsigned n, unsigned room) { return room == n + 2 || room >= n + 5; }
 
-static int possible(unsigned c, unsigned room) { return room >= least[c] + 2u && (room <= most[c] + 2u || room >= least[c] + 5u); }
+static int possible(unsigned c, unsigned room) {
+    return room >= least[c] + 2u && (room <= most[c] + 2u || room >= least[c] + 5u);
+}
 
 /* document 02, Q-2: the days of a month; what is no month has 31 */
 static unsigned days_in(unsigned month) { return month <= 12 ? days[month] : 31; }
 
-/* of a date the tens of the month are remembered, then its days, then what is left of them from the tens of the day on;
- * after that the last digit */
+/* of a date the tens of the month are remembered, then its days, then what is left of them from the tens of the day
+ * on; after that the last digit */
 static unsigned remember(unsigned index, unsigned memory, unsigned x) {
     unsigned v = x >= '0' ? x - '0' : 0;
     if (index == 1) return days_in(10 * memory + v);
@@ -126,7 +143,7 @@ static void at_content(struct state *s) {
     s->class = s->length = s->index = s->memory = 0;
 }
 
-/* the number of a refused octet, 0 for one that is taken */
+/* the number of a refused octet, 0 for one that is taken; a type begins a parameter, refused or not */
 static unsigned judge(struct state *s, unsigned x) {
     switch (s->stage) {
     case KIND:
@@ -139,6 +156,7 @@ static unsigned judge(struct state *s, unsigned x) {
         s->room = x;
         return 0;
     case HEADER:
+        s->parameter++;
         if (!possible(class_of[x], s->room)) return 3;
         s->stage = LENGTH;
         s->class = class_of[x];
@@ -163,10 +181,10 @@ static size_t hear(struct state *s, const uint8_t *o, size_t n) {
     while (taken < n && s->stage < MESSAGE) {
         unsigned x = o[taken++], number;
         if (s->stage == HEADER && s->room == 0) {
-            if (((s->sum + x) & 0xff) == 0) ends(s, MESSAGE, s->place + 1, 0);
-            else ends(s, REFUSED, s->place, 6);
+            if (((s->sum + x) & 0xff) == 0) ends(s, MESSAGE, s->place + 1, 0, 0);
+            else ends(s, REFUSED, s->place, 6, 0);
         } else if ((number = judge(s, x)) != 0) {
-            ends(s, REFUSED, s->place, number);
+            ends(s, REFUSED, s->place, number, s->parameter);
         } else {
             s->sum = (s->sum + x) & 0xff;
             s->place++;
@@ -176,16 +194,16 @@ static size_t hear(struct state *s, const uint8_t *o, size_t n) {
 }
 
 uint64_t peer_reset(uint8_t *record, size_t size) {
-    if (size != 16) return word(17, 0, 0, 0);
+    if (size != 16) return word(17, 0, 0, 0, 0);
     memset(record, 0, 16);
     return 0;
 }
 
 uint64_t peer_listen(uint8_t *record, size_t size, const uint8_t *octets, size_t count) {
     struct state s;
-    if (size != 16 || !load(&s, record)) return word(17, 0, 0, 0);
+    if (size != 16 || !load(&s, record)) return word(17, 0, 0, 0, 0);
     size_t taken = hear(&s, octets, count);
     store(&s, record);
-    if (s.stage == REFUSED) return word(s.number, s.place, 0, taken);
-    return word(0, 0, s.stage == MESSAGE ? s.place : 0, taken);
+    if (s.stage == REFUSED) return word(s.number, s.place, 0, taken, s.parameter);
+    return word(0, 0, s.stage == MESSAGE ? s.place : 0, taken, 0);
 }

@@ -66,6 +66,29 @@ static uint8_t any_octet(struct traffic *t)
     return (uint8_t)traffic_number(t, traffic_number(t, 8) ? 14 : 256);
 }
 
+/* Parameters near the most that the octets so far can hold, or that any message
+ * can. */
+static uint8_t near_most(struct traffic *t, const uint8_t *record)
+{
+    unsigned most = (record[2] + 256u * record[3]) / 3;
+
+    if (traffic_number(t, 4) == 0)
+        most = 86;
+    return (uint8_t)(most + traffic_number(t, 4) - 2);
+}
+
+/* Octets 1 to 10 that the stage does not use are 0, a bit for each. */
+static void tidy(uint8_t *record)
+{
+    static const uint16_t unused[] = {0x7FC, 0x7F8, 0x2F0, 0x2E0,
+                                      0x200, 0x7F2, 0x1F2};
+
+    for (size_t i = 1; i <= 10 && record[0] < 7; i++)
+        if (unused[record[0]] >> i & 1)
+            record[i] = 0;
+    record[3] &= 1;
+}
+
 static void any_record(struct traffic *t, const uint8_t *o, size_t n)
 {
     struct records r = {{0}, {0}, {0}};
@@ -74,10 +97,14 @@ static void any_record(struct traffic *t, const uint8_t *o, size_t n)
 
     for (size_t i = 0; i < size; i++)
         r.ours[i] = any_octet(t);
-    if (size > 10 && traffic_number(t, 2))
-        memset(r.ours + 10, 0, size - 10);
+    if (size > 11 && traffic_number(t, 2))
+        memset(r.ours + 11, 0, size - 11);
     if (size > 10 && traffic_number(t, 2))
         r.ours[9] = 0, r.ours[0] = 4;
+    if (size > 10 && traffic_number(t, 2))
+        r.ours[10] = near_most(t, r.ours);
+    if (size > 10 && traffic_number(t, 2))
+        tidy(r.ours);
     memcpy(r.peer, r.ours, ANY);
     memcpy(r.tuned, r.ours, ANY);
     all_hear(&r, size, o, n < 5 ? n : 5);

@@ -96,6 +96,13 @@ static uint64_t word(unsigned number, unsigned place, unsigned size,
            | (uint64_t)taken << 40;
 }
 
+/* a refusal's word with its parameter's number (document 02, Q-3) */
+static uint64_t fault(unsigned number, unsigned place, unsigned parameter,
+                      size_t taken)
+{
+    return word(number, place, 0, taken) | (uint64_t)parameter << 56;
+}
+
 static uint64_t load(const uint8_t *p)
 {
     uint64_t w;
@@ -220,16 +227,17 @@ uint64_t tuned_reset(uint8_t *r, size_t size)
 }
 
 static uint64_t refused(uint8_t *r, unsigned number, unsigned place,
-                        size_t taken)
+                        unsigned parameter, size_t taken)
 {
-    record(r, REFUSED | (uint64_t)place << 16, number << 8);
-    return word(number, place, 0, taken);
+    record(r, REFUSED | (uint64_t)place << 16, number << 8 | parameter << 16);
+    return fault(number, place, parameter, taken);
 }
 
 /* A run of octets, or none; tuned_listen has judged the record of a waiting
- * listener. What the run took is summed where it stops. */
+ * listener. What the run took is summed where it stops; a parameter is counted
+ * as its type is looked at. */
 static uint64_t run_on(uint8_t *r, uint64_t low, unsigned room,
-                       const uint8_t *o, size_t count)
+                       unsigned parameter, const uint8_t *o, size_t count)
 {
     const uint8_t *p = o, *end = o + count, *stop, *good;
     unsigned sum = (unsigned)(low >> 8) & 0xff,
@@ -289,11 +297,12 @@ static uint64_t run_on(uint8_t *r, uint64_t low, unsigned room,
             p++;
             place += (unsigned)(p - o);
             if (sum_of(o, p, sum))
-                return refused(r, 6, place - 1, (size_t)(p - o));
+                return refused(r, 6, place - 1, 0, (size_t)(p - o));
             record(r, MESSAGE | place << 16, 0);
             return word(0, 0, place, (size_t)(p - o));
         }
         class = class_of[*p];
+        parameter++;
         /* a length that fits says that the type was possible */
         if (p + 1 == end || !length_fits(rules[class], room, p[1])) {
             number = 3;
@@ -306,7 +315,7 @@ static uint64_t run_on(uint8_t *r, uint64_t low, unsigned room,
                    LENGTH | (uint64_t)sum_of(o, p, sum) << 8
                        | (uint64_t)(place + count) << 16
                        | (uint64_t) class << 32,
-                   room);
+                   room | parameter << 16);
             return word(0, 0, 0, count);
         }
         length = p[1];
@@ -327,7 +336,7 @@ static uint64_t run_on(uint8_t *r, uint64_t low, unsigned room,
     record(r,
            HEADER | (uint64_t)sum_of(o, p, sum) << 8
                | (uint64_t)(place + count) << 16,
-           room);
+           room | parameter << 16);
     return word(0, 0, 0, count);
 cut:
     record(r,
@@ -335,29 +344,39 @@ cut:
                | (uint64_t)(place + count) << 16 | (uint64_t) class << 32
                | (uint64_t)length << 40 | (uint64_t)index << 48
                | (uint64_t)(class == DATE ? memory : 0) << 56,
-           room);
+           room | parameter << 16);
     return word(0, 0, 0, count);
 refuse:
-    return refused(r, number, place + (unsigned)(p - o), (size_t)(p - o) + 1);
+    return refused(r, number, place + (unsigned)(p - o), parameter,
+                   (size_t)(p - o) + 1);
 }
 
 /* A record of a waiting listener, a message or a refusal is in range, and what
- * it does not use is 0. */
+ * it does not use is 0. No parameter, where there must be one, wraps to more
+ * than any place has room for. */
+static int room_and_parameter_alone(const uint8_t *r)
+{
+    return !(load(r + 8) & ~UINT64_C(0xff00ff));
+}
+
 static int content_known(const uint8_t *r, unsigned place)
 {
-    return load(r + 8) <= 0xff && r[4] < CLASSES && r[6] < r[5]
-           && place + r[5] - r[6] + r[8] - 5u <= 252;
+    return room_and_parameter_alone(r) && r[4] < CLASSES && r[6] < r[5]
+           && place + r[5] - r[6] + r[8] - 5u <= 252
+           && 3u * (uint8_t)(r[10] - 1) + 4 + r[6] <= place;
 }
 
 static int header_known(const uint8_t *r, unsigned place)
 {
-    return !(load(r) >> 32) && load(r + 8) <= 0xff && place + r[8] - 5u <= 252;
+    return !(load(r) >> 32) && room_and_parameter_alone(r)
+           && place + r[8] - 5u <= 252 && 3u * r[10] + 2 <= place;
 }
 
 static int length_known(const uint8_t *r, unsigned place)
 {
-    return load(r) >> 32 < CLASSES && load(r + 8) <= 0xff && r[8]
-           && place + r[8] - 6u <= 252;
+    return load(r) >> 32 < CLASSES && room_and_parameter_alone(r) && r[8]
+           && place + r[8] - 6u <= 252
+           && 3u * (uint8_t)(r[10] - 1) + 3 <= place;
 }
 
 static int start_known(const uint8_t *r)
@@ -370,10 +389,13 @@ static int message_known(const uint8_t *r, unsigned place)
     return !(load(r) & 0xffffffff0000ff00) && !load(r + 8) && place - 6 <= 252;
 }
 
+/* a parameter's with 3 to 5, none's with 1, 2 and 6 */
 static int refusal_known(const uint8_t *r, unsigned place)
 {
-    return !(load(r) & 0xffffffff0000ff00) && load(r + 8) == (uint64_t)r[9] << 8
-           && r[9] - 1u <= 5 && place <= 257;
+    return !(load(r) & 0xffffffff0000ff00)
+           && load(r + 8) == (r[9] | (uint64_t)r[10] << 8) << 8
+           && r[9] - 1u <= 5 && place <= 257
+           && (r[9] - 3u <= 2 ? r[10] - 1u <= 84 : !r[10]);
 }
 
 static void spot(uint8_t *r, unsigned stage, unsigned sum, unsigned place)
@@ -395,17 +417,17 @@ uint64_t tuned_listen(uint8_t *r, size_t size, const uint8_t *o, size_t count)
         if (!content_known(r, place))
             break;
         if (count != 1)
-            return run_on(r, load(r), r[8], o, count);
+            return run_on(r, load(r), r[8], r[10], o, count);
         x = *o;
         if (r[4] == DATE) {
             if (!date_octet(r[6], r[7], x))
-                return refused(r, 5, place, 1);
+                return refused(r, 5, place, r[10], 1);
             r[7] = (uint8_t)remember(r[6], r[7], x);
         } else {
             struct rule c = rules[r[4]];
             if (c.kinds && (r[6] == 0 || c.form == TEXT_VALUE)
                 && !(kinds_of[x] & c.kinds))
-                return refused(r, 5, place, 1);
+                return refused(r, 5, place, r[10], 1);
             r[7] = 0;
         }
         if (++r[6] == r[5]) {
@@ -419,27 +441,28 @@ uint64_t tuned_listen(uint8_t *r, size_t size, const uint8_t *o, size_t count)
         if (!header_known(r, place))
             break;
         if (count != 1)
-            return run_on(r, load(r), r[8], o, count);
+            return run_on(r, load(r), r[8], r[10], o, count);
         x = *o;
         if (r[8] == 0) {
             if ((r[1] + x) & 0xff)
-                return refused(r, 6, place, 1);
-            spot(r, MESSAGE, 0, place + 1);
+                return refused(r, 6, place, 0, 1);
+            record(r, MESSAGE | (uint64_t)(place + 1) << 16, 0);
             return word(0, 0, place + 1, 1);
         }
         if (!possible(rules[class_of[x]], r[8]))
-            return refused(r, 3, place, 1);
+            return refused(r, 3, place, r[10] + 1u, 1);
         spot(r, LENGTH, r[1] + x, place + 1);
         r[4] = class_of[x];
+        r[10]++;
         return word(0, 0, 0, 1);
     case LENGTH:
         if (!length_known(r, place))
             break;
         if (count != 1)
-            return run_on(r, load(r), r[8], o, count);
+            return run_on(r, load(r), r[8], r[10], o, count);
         x = *o;
         if (!length_fits(rules[r[4]], r[8], x))
-            return refused(r, 4, place, 1);
+            return refused(r, 4, place, r[10], 1);
         spot(r, CONTENT, r[1] + x, place + 1);
         r[5] = (uint8_t)x;
         r[8] = (uint8_t)(r[8] - 2 - x);
@@ -448,7 +471,7 @@ uint64_t tuned_listen(uint8_t *r, size_t size, const uint8_t *o, size_t count)
     case SIZE:
         if (!start_known(r))
             break;
-        return run_on(r, load(r), 0, o, count);
+        return run_on(r, load(r), 0, 0, o, count);
     case MESSAGE:
         if (!message_known(r, place))
             break;
@@ -456,17 +479,17 @@ uint64_t tuned_listen(uint8_t *r, size_t size, const uint8_t *o, size_t count)
     case REFUSED:
         if (!refusal_known(r, place))
             break;
-        return word(r[9], place, 0, 0);
+        return fault(r[9], place, r[10], 0);
     }
     return word(17, 0, 0, 0);
 }
 
-/* The verdict on a whole message, 0 or 1 to 8 with its place as a word; `texts`
- * gets the text octets of an accepted one. */
+/* The verdict on a whole message, 0 or 1 to 8 with place and parameter as a
+ * word; `texts` gets the text octets of an accepted one. */
 static uint64_t judge(const uint8_t *o, size_t n, unsigned *texts)
 {
     const uint8_t *p = o + 2, *end = o + n, *stop;
-    unsigned room, text = 0, number;
+    unsigned room, text = 0, number, parameter = 0;
     if (n == 0)
         return word(8, 0, 0, 0);
     if (o[0] != 0x80 && o[0] != 0x82)
@@ -482,6 +505,7 @@ static uint64_t judge(const uint8_t *o, size_t n, unsigned *texts)
         if (p == end)
             return word(8, (unsigned)n, 0, 0);
         c = rules[class_of[*p]];
+        parameter++;
         if (p + 1 == end || !length_fits(c, room, p[1])) {
             number = 3;
             if (!possible(c, room))
@@ -511,16 +535,15 @@ static uint64_t judge(const uint8_t *o, size_t n, unsigned *texts)
     }
     if (p == end)
         return word(8, (unsigned)n, 0, 0);
-    number = 6;
     if (sum_of(o, p + 1, 0))
-        goto refuse;
+        return word(6, (unsigned)(p - o), 0, 0);
     p++;
     if (p != end)
         return word(7, (unsigned)(p - o), 0, 0);
     *texts = text;
     return 0;
 refuse:
-    return word(number, (unsigned)(p - o), 0, 0);
+    return fault(number, (unsigned)(p - o), parameter, 0);
 }
 
 static unsigned digits(const uint8_t *p)

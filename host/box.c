@@ -36,12 +36,13 @@ struct box {
     size_t directory_len;
 };
 
+/* Number, place, and which parameter of the message is at fault, 0 for none. */
 static void show_refusal(uint64_t answer)
 {
     unsigned number = anthercup_number(answer);
 
-    printf("refused: %u at %u, %s\n", number, anthercup_place(answer),
-           anthercup_text(number));
+    printf("refused: %u at %u in %u, %s\n", number, anthercup_place(answer),
+           anthercup_parameter(answer), anthercup_text(number));
 }
 
 /* Why a call has no caller, where the message says it. */

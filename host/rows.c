@@ -1,47 +1,64 @@
-/* Document 01's rows through the archive, as the firmware calls it: heard whole, octet by octet and cut in two everywhere; read; settled; what
- * counts and the caption; and records that are no listener's, no draft's, no part's and no desk's.
- * Says how many answers it compared; the first that differs ends it with status 1. */
+/* Document 01's rows, and document 02's, through the archive, as the firmware calls it: heard whole, octet by octet
+ * and cut in two everywhere; read; settled; what counts and the caption; and records that are no listener's, no
+ * draft's, no part's and no desk's. Says how many answers it compared; the first that differs ends it with
+ * status 1. */
 #include <stdio.h>
 #include <stdlib.h>
 #include <string.h>
 
 #include "anthercup.h"
 
-/* octets in hex; what the listener says of them: its number and place, or the size, or nothing while it waits */
+/* octets in hex; what the listener says of them: its number, place and parameter, or the size, or nothing while it
+ * waits */
 static const struct row {
     const char *octets;
-    unsigned number, place, size;
+    unsigned number, place, parameter, size;
 } rows[] = {
-    {"", 0, 0, 0},
-    {"81", 1, 0, 0},
-    {"8002", 2, 1, 0},
-    {"8003", 0, 0, 0},
-    {"800B01", 3, 2, 0},
-    {"800A01", 0, 0, 0},
-    {"800C01", 3, 2, 0},
-    {"800D01", 0, 0, 0},
-    {"80160214", 0, 0, 0},
-    {"80170214", 4, 3, 0},
-    {"80170215", 4, 3, 0},
-    {"80FF05FD", 0, 0, 0},
-    {"80FF05FC", 4, 3, 0},
-    {"800A01083133", 5, 5, 0},
-    {"82030B0180", 5, 4, 0},
-    {"82030B01FF70", 0, 0, 6},
-    {"82030B01FF71", 6, 5, 0},
-    {"82030B01FF7000", 0, 0, 6},
-    {"820313010265", 0, 0, 6},
-    {"820613010213010549", 0, 0, 9},
-    {"8006040150020137EB", 0, 0, 9},
-    {"801101083036313531343330020534303931 32CB", 0, 0, 20},
-    {"800404", 3, 2, 0},
-    {"800405", 0, 0, 0},
-    {"80030500", 4, 3, 0},
+    {"", 0, 0, 0, 0},
+    {"81", 1, 0, 0, 0},
+    {"8002", 2, 1, 0, 0},
+    {"8003", 0, 0, 0, 0},
+    {"800B01", 3, 2, 1, 0},
+    {"800A01", 0, 0, 0, 0},
+    {"800C01", 3, 2, 1, 0},
+    {"800D01", 0, 0, 0, 0},
+    {"80160214", 0, 0, 0, 0},
+    {"80170214", 4, 3, 1, 0},
+    {"80170215", 4, 3, 1, 0},
+    {"80FF05FD", 0, 0, 0, 0},
+    {"80FF05FC", 4, 3, 1, 0},
+    {"800A01083133", 5, 5, 1, 0},
+    {"82030B0180", 5, 4, 1, 0},
+    {"82030B01FF70", 0, 0, 0, 6},
+    {"82030B01FF71", 6, 5, 0, 0},
+    {"82030B01FF7000", 0, 0, 0, 6},
+    {"820313010265", 0, 0, 0, 6},
+    {"820613010213010549", 0, 0, 0, 9},
+    {"8006040150020137EB", 0, 0, 0, 9},
+    {"801101083036313531343330020534303931 32CB", 0, 0, 0, 20},
+    {"800404", 3, 2, 1, 0},
+    {"800405", 0, 0, 0, 0},
+    {"80030500", 4, 3, 1, 0},
     /* document 02, Q-2: a 3 in February, a 31 April, a 29 February cut behind the day and whole */
-    {"800A0108303233", 5, 6, 0},
-    {"800A010830343331", 5, 7, 0},
-    {"800A010830323239", 0, 0, 0},
-    {"800A01083032323930303030E0", 0, 0, 13},
+    {"800A0108303233", 5, 6, 1, 0},
+    {"800A010830343331", 5, 7, 1, 0},
+    {"800A010830323239", 0, 0, 0, 0},
+    {"800A01083032323930303030E0", 0, 0, 0, 13},
+    /* document 02, Q-3: a fault in the first and the second, behind carried ones and repeats; in the checksum, none */
+    {"80030200", 4, 3, 1, 0},
+    {"80080202312F", 5, 5, 1, 0},
+    {"80080202313204", 3, 6, 2, 0},
+    {"8008020231320203", 4, 7, 2, 0},
+    {"8008020231320202332F", 5, 9, 2, 0},
+    {"80080202313202023334A7", 6, 10, 0, 0},
+    {"80080202313202023334A6", 0, 0, 0, 11},
+    {"8006050100040151", 5, 7, 2, 0},
+    {"8009050100050100040151", 5, 10, 3, 0},
+    {"800E05010001", 3, 5, 2, 0},
+    {"8009050404010401040151", 5, 10, 2, 0},
+    {"82060B01FF0B0101", 5, 7, 2, 0},
+    {"82091301021301050B0101", 5, 10, 3, 0},
+    {"800902013704015002012F", 5, 10, 3, 0},
 };
 
 static unsigned long compared;
@@ -76,7 +93,20 @@ static void answer_is(const struct row *r, uint64_t answer) {
     same(r->octets, anthercup_number(answer), r->number);
     same(r->octets, anthercup_place(answer), r->place);
     same(r->octets, anthercup_size(answer), r->size);
-    same(r->octets, (unsigned long)(answer >> 56), 0);
+    same(r->octets, anthercup_parameter(answer), r->parameter);
+    same(r->octets, (unsigned long)(answer >> 63), 0);
+}
+
+/* how many parameters have begun among the first n octets, none of them spoilt */
+static unsigned begun(const uint8_t *o, size_t n) {
+    unsigned count = 0;
+    for (size_t at = 2; at < n && at < 2u + o[1]; at = at + 1 < n ? at + 2 + o[at + 1] : n) count++;
+    return count;
+}
+
+/* octet 10 of the record, after the first n octets */
+static void record_is(const struct row *r, const uint8_t *l, const uint8_t *o, size_t n, uint64_t answer) {
+    same(r->octets, l[10], anthercup_listen_waits(answer) ? begun(o, n) : r->parameter);
 }
 
 static void heard_in_runs(const struct row *r, const uint8_t *o, size_t n, size_t first, size_t then) {
@@ -86,10 +116,12 @@ static void heard_in_runs(const struct row *r, const uint8_t *o, size_t n, size_
     same("reset", (unsigned long)answer, 0);
     answer = anthercup_listen(l, sizeof l, o, first);
     taken = anthercup_taken(answer);
+    record_is(r, l, o, first, answer);
     for (at = first; at < n; at += then) {
         size_t run = then < n - at ? then : n - at;
         answer = anthercup_listen(l, sizeof l, o + at, run);
         taken += anthercup_taken(answer);
+        record_is(r, l, o, at + run, answer);
     }
     answer_is(r, answer);
     same(r->octets, taken, taken_of(r, n));
@@ -127,22 +159,95 @@ static void records_that_are_none(void) {
         }
 }
 
-/* the whole read of each row: as the listener, but 8 at the number of octets where it waits, and 7 where octets follow */
+/* records in range but for octet 10, the parameter's number: of its 256 values those from low to high are in range,
+ * none where low is above high */
+static void parameters_in_range(void) {
+    static const struct {
+        uint8_t stage, low, high, class, length, index, room, number;
+        unsigned place;
+    } cases[] = {
+        {0, 0, 0, 0, 0, 0, 0, 0, 0},       {1, 0, 0, 0, 0, 0, 0, 0, 1},
+        /* before a type or the checksum: three octets each behind the first two */
+        {2, 0, 0, 0, 0, 0, 3, 0, 2},       {2, 0, 0, 0, 0, 0, 3, 0, 4},       {2, 0, 1, 0, 0, 0, 0, 0, 5},
+        {2, 0, 1, 0, 0, 0, 9, 0, 7},       {2, 0, 2, 0, 0, 0, 9, 0, 8},       {2, 0, 84, 0, 0, 0, 3, 0, 254},
+        {2, 0, 84, 0, 0, 0, 0, 0, 256},    {2, 0, 85, 0, 0, 0, 0, 0, 257},
+        /* before a length: the type of the last has come */
+        {3, 1, 0, 2, 0, 0, 4, 0, 2},       {3, 1, 1, 2, 0, 0, 3, 0, 3},       {3, 1, 1, 2, 0, 0, 3, 0, 5},
+        {3, 1, 2, 2, 0, 0, 3, 0, 6},       {3, 1, 84, 2, 0, 0, 4, 0, 254},    {3, 1, 85, 2, 0, 0, 3, 0, 255},
+        {3, 1, 85, 2, 0, 0, 1, 0, 257},
+        /* in contents: its length too, and what has come of them */
+        {4, 1, 0, 0, 1, 0, 3, 0, 3},       {4, 1, 1, 0, 1, 0, 0, 0, 4},       {4, 1, 1, 0, 1, 0, 3, 0, 6},
+        {4, 1, 2, 0, 1, 0, 3, 0, 7},       {4, 1, 0, 0, 2, 1, 0, 0, 4},       {4, 1, 1, 0, 2, 1, 0, 0, 5},
+        {4, 1, 1, 0, 9, 4, 9, 0, 10},      {4, 1, 2, 0, 9, 4, 9, 0, 11},      {4, 1, 84, 0, 1, 0, 0, 0, 255},
+        {4, 1, 85, 0, 1, 0, 0, 0, 256},    {4, 1, 1, 0, 253, 252, 0, 0, 256}, {4, 1, 0, 0, 253, 252, 0, 0, 255},
+        /* a message; a refusal, of a parameter with 3, 4 and 5 */
+        {5, 0, 0, 0, 0, 0, 0, 0, 6},       {5, 0, 0, 0, 0, 0, 0, 0, 258},     {6, 0, 0, 0, 0, 0, 0, 1, 0},
+        {6, 0, 0, 0, 0, 0, 0, 2, 1},       {6, 1, 85, 0, 0, 0, 0, 3, 2},      {6, 1, 85, 0, 0, 0, 0, 4, 257},
+        {6, 1, 85, 0, 0, 0, 0, 5, 9},      {6, 0, 0, 0, 0, 0, 0, 6, 257},
+    };
+    for (size_t i = 0; i < sizeof cases / sizeof cases[0]; i++)
+        for (unsigned v = 0; v < 256; v++) {
+            uint8_t l[ANTHERCUP_LISTENER_OCTETS] = {cases[i].stage, 0, (uint8_t)cases[i].place,
+                                                    (uint8_t)(cases[i].place >> 8), cases[i].class, cases[i].length,
+                                                    cases[i].index, 0, cases[i].room, cases[i].number, (uint8_t)v};
+            uint8_t octet = 0x05;
+            if (v < cases[i].low || v > cases[i].high) {
+                refused_as_it_was(l, sizeof l);
+                continue;
+            }
+            uint64_t answer = anthercup_listen(l, sizeof l, &octet, 0);
+            same("a parameter in range", anthercup_number(answer), cases[i].number);
+            same("and said", anthercup_parameter(answer), cases[i].number ? v : 0);
+            same("and kept", l[10], v);
+            answer = anthercup_listen(l, sizeof l, &octet, 1);
+            same("and stepped", anthercup_number(answer) == ANTHERCUP_REFUSED_RECORD, 0);
+            answer = anthercup_listen(l, sizeof l, &octet, 0);
+            same("and in range again", anthercup_number(answer) == ANTHERCUP_REFUSED_RECORD, 0);
+        }
+}
+
+/* a refusal's word */
+static uint64_t refusal(unsigned number, unsigned place, unsigned parameter) {
+    return number | (uint64_t)place << 8 | (uint64_t)parameter << 56;
+}
+
+/* the whole read of each row: as the listener, but 8 at the number of octets where it waits, and 7 where octets
+ * follow */
 static void read_whole(const struct row *r) {
     uint8_t o[300], draft[ANTHERCUP_DRAFT_OCTETS], texts[ANTHERCUP_TEXTS_OCTETS], desk[ANTHERCUP_DESK_OCTETS];
     size_t n = octets_of(r->octets, o);
-    unsigned number = r->number, place = r->place;
-    if (!r->number && !r->size) number = ANTHERCUP_REFUSED_EARLY, place = (unsigned)n;
-    if (r->size && r->size < n) number = ANTHERCUP_REFUSED_FOLLOWED, place = r->size;
+    uint64_t wanted = refusal(r->number, r->place, r->parameter);
+    if (!r->number && !r->size) wanted = refusal(ANTHERCUP_REFUSED_EARLY, (unsigned)n, 0);
+    if (r->size && r->size < n) wanted = refusal(ANTHERCUP_REFUSED_FOLLOWED, r->size, 0);
     uint64_t answer = anthercup_read(o, n, draft, sizeof draft, texts, sizeof texts);
-    same(r->octets, anthercup_number(answer), number);
-    same(r->octets, anthercup_place(answer), place);
+    same(r->octets, anthercup_number(answer), anthercup_number(wanted));
+    same(r->octets, anthercup_place(answer), anthercup_place(wanted));
+    same(r->octets, anthercup_parameter(answer), anthercup_parameter(wanted));
     answer = anthercup_counted(o, n, 0xFF);
-    same(r->octets, (unsigned long)answer, number + 256ul * place);
+    same(r->octets, (unsigned long)answer, (unsigned long)wanted);
     anthercup_new_desk(desk, sizeof desk);
     answer = anthercup_settle(desk, sizeof desk, o, n);
-    same(r->octets, anthercup_number(answer), number);
-    same(r->octets, anthercup_place(answer), place);
+    same(r->octets, (unsigned long)answer, (unsigned long)wanted);
+}
+
+/* document 02, Q-3: behind 84 parameters, carried, repeated or in turn, a fault in the 85th; a checksum is in none */
+static void last_parameter(void) {
+    static const char *const before[][2] = {{"050100", "050100"}, {"040150", "040150"}, {"050104", "040150"}};
+    static const struct row ends[] = {
+        {"01", 3, 254, 85, 0},     {"0D", 3, 254, 85, 0}, {"0202", 4, 255, 85, 0},
+        {"02012F", 5, 256, 85, 0}, {"020130", 0, 0, 0, 0}, {"020130FF", 6, 257, 0, 0},
+    };
+    char hex[800];
+    for (size_t sort = 0; sort < sizeof before / sizeof before[0]; sort++)
+        for (size_t i = 0; i < sizeof ends / sizeof ends[0]; i++) {
+            struct row r = ends[i];
+            strcpy(hex, "80FF");
+            for (size_t k = 0; k < 84; k++) strcat(hex, before[sort][k % 2]);
+            strcat(hex, ends[i].octets);
+            r.octets = hex;
+            all_cuttings(&r);
+            read_whole(&r);
+        }
 }
 
 /* where the contents of a type that count stand: start and length by hand, 0 and 0 where none count */
@@ -162,7 +267,8 @@ static void counts(void) {
     counted_is(call, ANTHERCUP_PARAMETER_TIME, 4, 8);
     counted_is(call, ANTHERCUP_PARAMETER_CALLER, 14, 5);
     for (unsigned type = 0; type < 256; type++)
-        if (type != ANTHERCUP_PARAMETER_TIME && type != ANTHERCUP_PARAMETER_CALLER) counted_is(call, (uint8_t)type, 0, 0);
+        if (type != ANTHERCUP_PARAMETER_TIME && type != ANTHERCUP_PARAMETER_CALLER)
+            counted_is(call, (uint8_t)type, 0, 0);
     counted_is("8006040150020137EB", ANTHERCUP_PARAMETER_CALLER_ABSENT, 4, 1);
     counted_is("8006040150020137EB", ANTHERCUP_PARAMETER_CALLER, 0, 0);
     counted_is("8006020137040150EB", ANTHERCUP_PARAMETER_CALLER, 4, 1);
@@ -218,13 +324,12 @@ static void no_captions(void) {
     for (size_t i = 0; i < sizeof rows / sizeof rows[0]; i++) {
         size_t n = octets_of(rows[i].octets, o);
         for (size_t size = 0; size <= sizeof part; size++) {
-            uint64_t read = anthercup_counted(o, n, ANTHERCUP_PARAMETER_CALLER), answer;
-            unsigned number = anthercup_number(read), place = anthercup_place(read);
-            if (number == 0 && size == ANTHERCUP_PART_OCTETS) continue;
-            if (size != ANTHERCUP_PART_OCTETS) number = ANTHERCUP_REFUSED_RECORD, place = 0;
+            uint64_t wanted = anthercup_counted(o, n, ANTHERCUP_PARAMETER_CALLER), answer;
+            if (anthercup_number(wanted) == 0 && size == ANTHERCUP_PART_OCTETS) continue;
+            if (size != ANTHERCUP_PART_OCTETS) wanted = ANTHERCUP_REFUSED_RECORD;
             memset(part, 0x5A, sizeof part);
             answer = anthercup_caption(o, n, o, 0, part, size);
-            same(rows[i].octets, (unsigned long)answer, number + 256ul * place);
+            same(rows[i].octets, (unsigned long)answer, (unsigned long)wanted);
             for (size_t k = 0; k < sizeof part; k++) same("a part that stays", part[k], 0x5A);
         }
     }
@@ -250,17 +355,23 @@ static int places_good(const uint8_t *desk) {
     return 1;
 }
 
-/* records of every size around the right one; of desks every value of every octet beside a desk of which nothing is known, and beside one that is full */
+/* records of every size around the right one; of desks every value of every octet beside a desk of which nothing is
+ * known, and beside one that is full */
 static void other_records(void) {
-    uint8_t o[] = {0x82, 3, 0x13, 1, 2, 0x65}, record[ANTHERCUP_DRAFT_OCTETS + 16], before[sizeof record], texts[ANTHERCUP_TEXTS_OCTETS];
+    uint8_t o[] = {0x82, 3, 0x13, 1, 2, 0x65}, texts[ANTHERCUP_TEXTS_OCTETS];
+    uint8_t record[ANTHERCUP_DRAFT_OCTETS + 16], before[sizeof record];
     for (size_t size = 0; size < sizeof record; size++) {
         memset(record, 0x5A, sizeof record);
         uint64_t answer = anthercup_read(o, sizeof o, record, size, texts, sizeof texts);
-        same("the size of a draft", (unsigned long)answer, size == ANTHERCUP_DRAFT_OCTETS ? 0 : ANTHERCUP_REFUSED_RECORD);
-        for (size_t i = size == ANTHERCUP_DRAFT_OCTETS ? size : 0; i < sizeof record; i++) same("a draft that stays", record[i], 0x5A);
+        same("the size of a draft", (unsigned long)answer,
+             size == ANTHERCUP_DRAFT_OCTETS ? 0 : ANTHERCUP_REFUSED_RECORD);
+        for (size_t i = size == ANTHERCUP_DRAFT_OCTETS ? size : 0; i < sizeof record; i++)
+            same("a draft that stays", record[i], 0x5A);
         memset(record, 0, sizeof record);
-        if (size < 64) same("the size of a desk", anthercup_number(anthercup_settle(record, size, o, sizeof o)), size == ANTHERCUP_DESK_OCTETS ? 0 : ANTHERCUP_REFUSED_RECORD);
-        if (size < 64) same("the size of a new desk", anthercup_number(anthercup_new_desk(record, size)), size == ANTHERCUP_DESK_OCTETS ? 0 : ANTHERCUP_REFUSED_RECORD);
+        if (size >= 64) continue;
+        unsigned wanted = size == ANTHERCUP_DESK_OCTETS ? 0 : ANTHERCUP_REFUSED_RECORD;
+        same("the size of a desk", anthercup_number(anthercup_settle(record, size, o, sizeof o)), wanted);
+        same("the size of a new desk", anthercup_number(anthercup_new_desk(record, size)), wanted);
     }
     for (unsigned full = 0; full < 2; full++)
         for (size_t at = 0; at < ANTHERCUP_DESK_OCTETS; at++)
@@ -268,7 +379,8 @@ static void other_records(void) {
                 uint8_t desk[ANTHERCUP_DESK_OCTETS] = {(uint8_t)full, full ? 255 : 0, full ? 2 : 0, 0};
                 for (unsigned i = 0; i < ANTHERCUP_MOST_PLACES; i++) desk[4 + 3 * i] = (uint8_t)(full ? i + 2 : 0);
                 desk[at] = (uint8_t)v;
-                int good = desk[0] <= 1 && (desk[0] == 1 || desk[1] == 0) && desk[2] <= 2 && desk[3] == 0 && places_good(desk);
+                int good = desk[0] <= 1 && (desk[0] == 1 || desk[1] == 0) && desk[2] <= 2 && desk[3] == 0
+                        && places_good(desk);
                 memcpy(before, desk, sizeof desk);
                 uint64_t answer = anthercup_settle(desk, sizeof desk, o, sizeof o);
                 same("a desk's codes", (unsigned long)answer, good ? 0 : ANTHERCUP_REFUSED_RECORD);
@@ -287,9 +399,12 @@ static uint64_t about(uint8_t *desk, uint8_t state, unsigned reference, int lamp
     return anthercup_settle(desk, ANTHERCUP_DESK_OCTETS, o, n + 1);
 }
 
-static void holds(const uint8_t *desk, unsigned place, int32_t reference) { same("the reference in a place", (unsigned long)anthercup_open(desk, place), (unsigned long)reference); }
+static void holds(const uint8_t *desk, unsigned place, int32_t reference) {
+    same("the reference in a place", (unsigned long)anthercup_open(desk, place), (unsigned long)reference);
+}
 
-/* added once, the lowest free place, the others stay, unset does nothing, a repeat after the removal adds again, clearing */
+/* added once, the lowest free place, the others stay, unset does nothing, a repeat after the removal adds again,
+ * clearing */
 static void references(void) {
     uint8_t desk[ANTHERCUP_DESK_OCTETS], once[ANTHERCUP_DESK_OCTETS];
     anthercup_new_desk(desk, sizeof desk);
@@ -342,7 +457,9 @@ int main(void) {
         all_cuttings(&rows[i]);
         read_whole(&rows[i]);
     }
+    last_parameter();
     records_that_are_none();
+    parameters_in_range();
     notice_is("82030B01FF70", -1, ANTHERCUP_LAMP_ON);
     notice_is("82030B01006F", -1, ANTHERCUP_LAMP_OFF);
     notice_is("820313010265", 2, ANTHERCUP_LAMP_UNKNOWN);

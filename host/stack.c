@@ -69,8 +69,8 @@ static size_t touched(void)
 
 static int failed(const char *what, uint64_t answer)
 {
-    printf("stack: %s: %u at %u\n", what, anthercup_number(answer),
-           anthercup_place(answer));
+    printf("stack: %s: %u at %u in %u\n", what, anthercup_number(answer),
+           anthercup_place(answer), anthercup_parameter(answer));
     return 1;
 }
 

@@ -1,10 +1,12 @@
-/* Traffic through the archive and the second reader in one process: each message is heard whole, octet by octet and in runs of random cuts, and every
- * answer, place, size and count of octets taken is held to what the second reader says of the octets offered so far. Records are handed back after every
- * call, and records of random octets are refused with 17 as they were, or are stepped. Each is read whole, with areas on both sides of what its texts need
- * and records of other sizes: every entry, every text and all that must stay.
- * Where what counts stands is asked for some types, and the caption with directories of many kinds. Each is settled on a desk, twice, and so is a history of messages about a few
- * references, of which the last word on each is kept here too. Messages with dates at the limits of their months
- * follow. Says how many answers it compared; a difference ends it with status 1. */
+/* Traffic through the archive and the second reader in one process: each message is heard whole, octet by octet and
+ * in runs of random cuts, and every answer, place, parameter, size and count of octets taken is held to what the
+ * second reader says of the octets offered so far. Records are handed back after every call, the parameters begun in
+ * them held to the second reader too; records with another parameter's number, and records of random octets, are
+ * refused with 17 as they were, or are stepped. Each message is read whole, with areas on both sides of what its
+ * texts need and records of other sizes: every entry, every text and all that must stay. Where what counts stands is
+ * asked for some types, and the caption with directories of many kinds. Each is settled on a desk, twice, and so is a
+ * history of messages about a few references, of which the last word on each is kept here too. Messages with dates at
+ * the limits of their months follow. Says how many answers it compared; a difference ends it with status 1. */
 #include <stdio.h>
 #include <stdlib.h>
 #include <string.h>
@@ -14,6 +16,9 @@
 #include "traffic.h"
 
 static unsigned long compared, by_line;
+
+/* refusals of the first parameter, of a later one, of the last that a message can hold */
+static unsigned long in_first, in_later, in_last;
 
 static void differ(const char *what, const uint8_t *o, size_t n, unsigned long got, unsigned long wanted) {
     printf("traffic: %s: got %lu, wanted %lu, after", what, got, wanted);
@@ -27,9 +32,10 @@ static void same(const char *what, const uint8_t *o, size_t n, unsigned long got
     if (got != wanted) differ(what, o, n, got, wanted);
 }
 
-/* what the second reader says of the first n octets, given what it says of all: the answer where it has come by then, else that it waits */
+/* what the second reader says of the first n octets, given what it says of all: the answer where it has come by then,
+ * else that it waits */
 static struct second_answer at_cut(struct second_answer whole, size_t n) {
-    struct second_answer waits = {SECOND_WAITS, 0, 0, 0, n};
+    struct second_answer waits = {SECOND_WAITS, 0, 0, 0, 0, n};
     return whole.answer != SECOND_WAITS && whole.taken <= n ? whole : waits;
 }
 
@@ -40,7 +46,47 @@ static void as_second(const uint8_t *o, size_t n, struct second_answer s, uint64
     same("size", o, n, anthercup_size(answer), s.size);
     same("taken", o, n, taken, s.taken);
     same("waits", o, n, (unsigned long)anthercup_listen_waits(answer), s.answer == SECOND_WAITS);
-    same("octet 7", o, n, (unsigned long)(answer >> 56), 0);
+    same("parameter", o, n, anthercup_parameter(answer), s.parameter);
+    same("the edition's bit", o, n, (unsigned long)(answer >> 63), 0);
+}
+
+/* the word of a verdict that declines, or of one that has nothing more to say */
+static unsigned long word_of(unsigned number, size_t place, size_t parameter) {
+    return (unsigned long)(number | (uint64_t)place << 8 | (uint64_t)parameter << 56);
+}
+
+/* by the header, of a record that is in range but perhaps for its parameter's number */
+static int parameter_in_range(const uint8_t *l) {
+    unsigned place = l[2] + 256u * l[3], thrice = 3u * l[10];
+    switch (l[0]) {
+    case 2: return thrice + 2 <= place;
+    case 3: return l[10] >= 1 && thrice <= place;
+    case 4: return l[10] >= 1 && thrice + 1 + l[6] <= place;
+    case 6: return l[9] >= 3 && l[9] <= 5 ? l[10] >= 1 && l[10] <= 85 : l[10] == 0;
+    default: return l[10] == 0;
+    }
+}
+
+/* a record after o[0..n) with another parameter's number, often near the most that the octets can hold: 17, or stepped
+ * from there on */
+static void another_parameter(struct traffic *t, const uint8_t *o, size_t n, const uint8_t *record) {
+    uint8_t l[ANTHERCUP_LISTENER_OCTETS], before[sizeof l], octet = (uint8_t)traffic_number(t, 256);
+    unsigned most = (record[2] + 256u * record[3]) / 3, number, begun;
+    memcpy(l, record, sizeof l);
+    l[10] = (uint8_t)(traffic_number(t, 4) ? most + traffic_number(t, 4) - 2 : traffic_number(t, 256));
+    memcpy(before, l, sizeof l);
+    uint64_t answer = anthercup_listen(l, sizeof l, &octet, 1);
+    number = anthercup_number(answer);
+    same("another parameter", o, n, number != ANTHERCUP_REFUSED_RECORD, (unsigned long)parameter_in_range(before));
+    if (number == ANTHERCUP_REFUSED_RECORD) {
+        same("another parameter: stays", o, n, (unsigned long)memcmp(l, before, sizeof l), 0);
+        return;
+    }
+    begun = before[10] + (before[0] == 2 ? 1u : 0u);
+    if (!anthercup_listen_waits(answer) && (number < 3 || number > 5)) begun = 0;
+    same("another parameter: kept", o, n, l[10], begun);
+    same("another parameter: said", o, n, anthercup_parameter(answer), number ? begun : 0);
+    same("another parameter: in range", o, n, (unsigned long)parameter_in_range(l), 1);
 }
 
 static void in_runs(struct traffic *t, const uint8_t *o, size_t n, struct second_answer whole, uint32_t most) {
@@ -53,7 +99,10 @@ static void in_runs(struct traffic *t, const uint8_t *o, size_t n, struct second
         uint64_t answer = anthercup_listen(l, sizeof l, o + at, run);
         at += run;
         taken += anthercup_taken(answer);
-        as_second(o, at, traffic_number(t, 32) ? at_cut(whole, at) : second_listen(o, at), answer, taken);
+        struct second_answer s = traffic_number(t, 32) ? at_cut(whole, at) : second_listen(o, at);
+        as_second(o, at, s, answer, taken);
+        same("record: parameter", o, at, l[10], s.answer == SECOND_WAITS ? second_begun(o, at) : s.parameter);
+        if (traffic_number(t, 8) == 0) another_parameter(t, o, at, l);
         if (at == n) return;
     }
 }
@@ -61,7 +110,10 @@ static void in_runs(struct traffic *t, const uint8_t *o, size_t n, struct second
 static void any_record(struct traffic *t) {
     uint8_t l[40], before[40], octet = (uint8_t)traffic_number(t, 256);
     size_t size = traffic_number(t, 4) ? ANTHERCUP_LISTENER_OCTETS : traffic_number(t, sizeof l);
-    for (size_t i = 0; i < size; i++) l[i] = (uint8_t)(traffic_number(t, 3) ? 0 : traffic_number(t, 16) ? traffic_number(t, 12) : traffic_number(t, 256));
+    for (size_t i = 0; i < size; i++) {
+        uint32_t x = traffic_number(t, 16) ? traffic_number(t, 12) : traffic_number(t, 256);
+        l[i] = (uint8_t)(traffic_number(t, 3) ? 0 : x);
+    }
     memcpy(before, l, size);
     uint64_t answer = anthercup_listen(l, size, &octet, 1);
     if (anthercup_number(answer) == ANTHERCUP_REFUSED_RECORD) {
@@ -69,7 +121,8 @@ static void any_record(struct traffic *t) {
         same("a record on 17", before, size, (unsigned long)memcmp(l, before, size), 0);
     } else {
         same("a record that is heard", before, size, size, ANTHERCUP_LISTENER_OCTETS);
-        same("and heard again", before, size, anthercup_number(anthercup_listen(l, size, &octet, 0)) == ANTHERCUP_REFUSED_RECORD, 0);
+        answer = anthercup_listen(l, size, &octet, 0);
+        same("and heard again", before, size, anthercup_number(answer) == ANTHERCUP_REFUSED_RECORD, 0);
     }
 }
 
@@ -93,10 +146,12 @@ static void entry_is(const uint8_t *o, size_t n, const uint8_t *draft, unsigned 
         same("start", o, n, anthercup_entry_start(draft, i), e->start);
         same("length", o, n, anthercup_entry_length(draft, i), e->length);
     }
-    same("octets of an entry kept at 0", o, n, (unsigned long)(anthercup_entry(draft, i)[6] | anthercup_entry(draft, i)[7]), 0);
+    same("octets of an entry kept at 0", o, n, anthercup_entry(draft, i)[6], 0);
+    same("octets of an entry kept at 0", o, n, anthercup_entry(draft, i)[7], 0);
 }
 
-/* a whole read into a record and an area that hold noise: what is not written must stay, all that is written must be as the second reader has it */
+/* a whole read into a record and an area that hold noise: what is not written must stay, all that is written must be
+ * as the second reader has it */
 static void read_as_second(struct traffic *t, const uint8_t *o, size_t n, size_t draft_len, size_t area) {
     uint8_t draft[ANTHERCUP_DRAFT_OCTETS + 8], texts[300], draft_before[sizeof draft], texts_before[sizeof texts];
     struct second_draft s;
@@ -109,11 +164,13 @@ static void read_as_second(struct traffic *t, const uint8_t *o, size_t n, size_t
     size_t laid = 0;
     if (draft_len != ANTHERCUP_DRAFT_OCTETS) {
         v.number = ANTHERCUP_REFUSED_RECORD;
-        v.place = 0;
+        v.place = v.parameter = 0;
     }
     same("read: number", o, n, anthercup_number(answer), v.number);
     same("read: place", o, n, anthercup_place(answer), v.place);
-    same("read: octets taken and octet 7", o, n, (unsigned long)(answer >> 40), 0);
+    same("read: parameter", o, n, anthercup_parameter(answer), v.parameter);
+    same("read: octets taken", o, n, anthercup_taken(answer), 0);
+    same("read: the edition's bit", o, n, (unsigned long)(answer >> 63), 0);
     if (v.number) {
         same("read: size of a refusal", o, n, anthercup_size(answer), 0);
         same("read: record of a refusal", o, n, (unsigned long)memcmp(draft, draft_before, sizeof draft), 0);
@@ -125,9 +182,11 @@ static void read_as_second(struct traffic *t, const uint8_t *o, size_t n, size_t
         same("read: entries", o, n, anthercup_entries(draft), s.entries);
         for (size_t i = 2; i < 8; i++) same("read: header", o, n, draft[i], 0);
         for (unsigned i = 0; i < ANTHERCUP_MOST_ENTRIES; i++) entry_is(o, n, draft, i, &s.entry[i]);
-        same("read: behind the record", o, n, (unsigned long)memcmp(draft + ANTHERCUP_DRAFT_OCTETS, draft_before + ANTHERCUP_DRAFT_OCTETS, sizeof draft - ANTHERCUP_DRAFT_OCTETS), 0);
+        for (size_t i = ANTHERCUP_DRAFT_OCTETS; i < sizeof draft; i++)
+            same("read: behind the record", o, n, draft[i], draft_before[i]);
     }
-    same("read: the rest of the area", o, n, (unsigned long)memcmp(texts + laid, texts_before + laid, sizeof texts - laid), 0);
+    int rest = memcmp(texts + laid, texts_before + laid, sizeof texts - laid);
+    same("read: the rest of the area", o, n, (unsigned long)rest, 0);
 }
 
 /* with room; some with every area near the limit; and with records of other sizes */
@@ -135,9 +194,13 @@ static void reads(struct traffic *t, const uint8_t *o, size_t n) {
     struct second_draft s;
     read_as_second(t, o, n, ANTHERCUP_DRAFT_OCTETS, ANTHERCUP_TEXTS_OCTETS);
     if (traffic_number(t, 8) == 0 && second_read(o, n, ANTHERCUP_TEXTS_OCTETS, &s).number == 0)
-        for (size_t area = s.text_octets < 2 ? 0 : s.text_octets - 2u; area <= s.text_octets + 1u; area++) read_as_second(t, o, n, ANTHERCUP_DRAFT_OCTETS, area);
-    if (traffic_number(t, 4) == 0)
-        read_as_second(t, o, n, traffic_number(t, 2) ? traffic_number(t, ANTHERCUP_DRAFT_OCTETS) : ANTHERCUP_DRAFT_OCTETS - 2 + traffic_number(t, 5), traffic_number(t, 260));
+        for (size_t area = s.text_octets < 2 ? 0 : s.text_octets - 2u; area <= s.text_octets + 1u; area++)
+            read_as_second(t, o, n, ANTHERCUP_DRAFT_OCTETS, area);
+    if (traffic_number(t, 4) == 0) {
+        size_t size = ANTHERCUP_DRAFT_OCTETS - 2 + traffic_number(t, 5);
+        if (traffic_number(t, 2)) size = traffic_number(t, ANTHERCUP_DRAFT_OCTETS);
+        read_as_second(t, o, n, size, traffic_number(t, 260));
+    }
 }
 
 /* what a desk's record shows, as the second reader keeps it */
@@ -161,15 +224,17 @@ static uint64_t settles(const uint8_t *o, size_t n, uint8_t *desk) {
     uint64_t answer = anthercup_settle(desk, ANTHERCUP_DESK_OCTETS, o, n);
     same("settle: number", o, n, anthercup_number(answer), v.number);
     same("settle: place", o, n, anthercup_place(answer), v.place);
-    same("settle: other fields", o, n, (unsigned long)(answer >> 24), 0);
+    same("settle: parameter", o, n, anthercup_parameter(answer), v.parameter);
+    same("settle: other fields", o, n, (unsigned long)answer, word_of(v.number, v.place, v.parameter));
     same("settle: desk", o, n, (unsigned long)same_desk(desk_of(desk), s), 1);
     if (v.number) same("settle: desk of a refusal", o, n, (unsigned long)same_desk(s, before), 1);
     memcpy(once, desk, sizeof once);
-    same("settle: twice", o, n, (unsigned long)(anthercup_settle(desk, ANTHERCUP_DESK_OCTETS, o, n) != answer || memcmp(once, desk, sizeof once)), 0);
+    same("settle: twice", o, n, anthercup_settle(desk, ANTHERCUP_DESK_OCTETS, o, n) != answer, 0);
+    same("settle: desk of twice", o, n, (unsigned long)memcmp(once, desk, sizeof once), 0);
     return answer;
 }
 
-/* of some types what counts, and number and place of the whole read where the octets are no message */
+/* of some types what counts, and number, place and parameter of the whole read where the octets are no message */
 static void counts(struct traffic *t, const uint8_t *o, size_t n, struct second_verdict v) {
     for (unsigned i = 0; i < 3; i++) {
         uint32_t type = traffic_number(t, i ? 32 : 256);
@@ -181,13 +246,14 @@ static void counts(struct traffic *t, const uint8_t *o, size_t n, struct second_
         same("counted: whether", o, n, (unsigned long)anthercup_counts(answer), (unsigned long)one);
         same("counted: start", o, n, anthercup_counted_start(answer), start);
         same("counted: length", o, n, anthercup_counted_length(answer), length);
-        same("counted: octet 7", o, n, (unsigned long)(answer >> 56), 0);
+        same("counted: parameter", o, n, anthercup_parameter(answer), v.parameter);
+        same("counted: the edition's bit", o, n, (unsigned long)(answer >> 63), 0);
     }
 }
 
-/* a line of a directory about a caller: for it, for one that it begins or that begins it, without an = behind it, or with any octet before it */
-static size_t line(struct traffic *t, uint8_t *d, const uint8_t *caller,
-                   size_t length) {
+/* a line of a directory about a caller: for it, for one that it begins or that begins it, without an = behind it, or
+ * with any octet before it */
+static size_t line(struct traffic *t, uint8_t *d, const uint8_t *caller, size_t length) {
     static const char *const texts[] = {"", "Ann", "B=C", "=", "the post\r", "40912=x"};
     const char *text = texts[traffic_number(t, sizeof texts / sizeof texts[0])];
     uint32_t sort = traffic_number(t, 8);
@@ -212,11 +278,11 @@ static void caption(struct traffic *t, const uint8_t *o, size_t n) {
     for (uint32_t k = traffic_number(t, 6); k > 0; k--) octets += line(t, d + octets, caller, length);
     if (octets && traffic_number(t, 2)) octets--;
     struct second_part s = second_caption(o, n, d, octets);
-    if (size != ANTHERCUP_PART_OCTETS) s.number = ANTHERCUP_REFUSED_RECORD, s.place = 0;
+    if (size != ANTHERCUP_PART_OCTETS) s.number = ANTHERCUP_REFUSED_RECORD, s.place = s.parameter = 0;
     memset(part, 0x5A, sizeof part);
     memcpy(was, part, sizeof was);
     uint64_t answer = anthercup_caption(o, n, d, octets, part, size);
-    same("caption: word", o, n, (unsigned long)answer, s.number + 256ul * s.place);
+    same("caption: word", o, n, (unsigned long)answer, word_of(s.number, s.place, s.parameter));
     if (s.number) {
         same("caption: stays", o, n, (unsigned long)memcmp(part, was, sizeof part), 0);
         return;
@@ -234,10 +300,12 @@ static void any_desk(struct traffic *t, const uint8_t *o, size_t n) {
     static const uint32_t ends[] = {1, 2, 3, 65535, 65536, 65537, 16777215};
     uint8_t any[ANTHERCUP_DESK_OCTETS + 4] = {0}, was[sizeof any];
     size_t size = traffic_number(t, 4) ? ANTHERCUP_DESK_OCTETS : traffic_number(t, sizeof any);
-    for (size_t i = 0; i < 3; i++) any[i] = (uint8_t)(traffic_number(t, 3) ? traffic_number(t, 3) : traffic_number(t, 256));
+    for (size_t i = 0; i < 3; i++)
+        any[i] = (uint8_t)(traffic_number(t, 3) ? traffic_number(t, 3) : traffic_number(t, 256));
     if (traffic_number(t, 8) == 0) any[3] = (uint8_t)traffic_number(t, 4);
     for (uint32_t k = traffic_number(t, 4); k > 0; k--) {
-        uint32_t held = ends[traffic_number(t, sizeof ends / sizeof ends[0])], at = 4 + 3 * traffic_number(t, SECOND_PLACES);
+        uint32_t held = ends[traffic_number(t, sizeof ends / sizeof ends[0])];
+        uint32_t at = 4 + 3 * traffic_number(t, SECOND_PLACES);
         for (unsigned i = 0; i < 3; i++) any[at + i] = (uint8_t)(held >> 8 * i);
     }
     memcpy(was, any, sizeof any);
@@ -245,17 +313,19 @@ static void any_desk(struct traffic *t, const uint8_t *o, size_t n) {
     if (any[0] > 1 || (any[0] == 0 && any[1] != 0) || any[3] != 0) s.waiting = SECOND_UNKNOWN - 1;
     if (any[2] > 2) s.lamp = 2;
     struct second_verdict v = second_settle(&s, o, n);
-    if (size != ANTHERCUP_DESK_OCTETS) v.number = 17, v.place = 0;
+    if (size != ANTHERCUP_DESK_OCTETS) v.number = ANTHERCUP_REFUSED_RECORD, v.place = v.parameter = 0;
     uint64_t answer = anthercup_settle(any, size, o, n);
     same("any desk: number", was, size, anthercup_number(answer), v.number);
     same("any desk: place", was, size, anthercup_place(answer), v.place);
+    same("any desk: parameter", was, size, anthercup_parameter(answer), v.parameter);
     if (v.number) same("any desk: stays", was, size, (unsigned long)memcmp(any, was, sizeof any), 0);
     else same("any desk: settled", was, size, (unsigned long)same_desk(desk_of(any), s), 1);
-    same("new desk", was, size, (unsigned long)anthercup_new_desk(any, size), size == ANTHERCUP_DESK_OCTETS ? 0 : ANTHERCUP_REFUSED_RECORD);
+    answer = anthercup_new_desk(any, size);
+    same("new desk", was, size, (unsigned long)answer, size == ANTHERCUP_DESK_OCTETS ? 0 : ANTHERCUP_REFUSED_RECORD);
 }
 
-/* messages about a few references on one desk, cleared now and then: after each, a reference is open exactly as the last notice said that was done and added or
- * removed it */
+/* messages about a few references on one desk, cleared now and then: after each, a reference is open exactly as the
+ * last notice said that was done and added or removed it */
 static void history(struct traffic *t, long messages) {
     static uint8_t last[65536];
     uint8_t o[TRAFFIC_OCTETS], desk[ANTHERCUP_DESK_OCTETS];
@@ -266,7 +336,8 @@ static void history(struct traffic *t, long messages) {
         size_t n = traffic_about(t, o), start, length;
         uint64_t answer = settles(o, n, desk);
         full += anthercup_number(answer) == ANTHERCUP_REFUSED_NO_PLACE;
-        if (anthercup_number(answer) == 0 && o[0] == 0x82 && second_counted(o, n, 0x0D, &start, &length) && o[start] != 0x55) {
+        int done = anthercup_number(answer) == 0 && o[0] == 0x82;
+        if (done && second_counted(o, n, 0x0D, &start, &length) && o[start] != 0x55) {
             uint8_t *word = &last[o[start + 1] * 256 + o[start + 2]];
             open = open - *word + (o[start] == 0xFF);
             *word = o[start] == 0xFF;
@@ -292,6 +363,9 @@ static void history(struct traffic *t, long messages) {
 static void one_message(struct traffic *t, const uint8_t *o, size_t n, uint8_t *desk, long i) {
     struct second_answer whole = second_listen(o, n);
     struct second_draft s;
+    in_first += whole.parameter == 1;
+    in_later += whole.parameter > 1;
+    in_last += whole.parameter == 85;
     in_runs(t, o, n, whole, 0);
     in_runs(t, o, n, whole, 40);
     if (i % 8 == 0) in_runs(t, o, n, whole, 1);
@@ -337,6 +411,9 @@ int main(int argc, char **argv) {
     if (by_line == 0) differ("caption: no line of a directory", o, 0, 0, 1);
     history(&t, messages / 4);
     dated(&t, messages / 8);
+    if (!in_first || !in_later || !in_last) differ("no fault in the first, a later or the last parameter", o, 0, 0, 1);
+    printf("parameters: %lu messages with a fault in the first, %lu in a later one, %lu of them in the 85th\n",
+           in_first, in_later, in_last);
     printf("traffic: %ld messages, %lu answers as the second reader has them\n", messages, compared);
     return 0;
 }

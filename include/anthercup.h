@@ -1,7 +1,7 @@
 /*
  * Anthercup for the boxes' firmware: the listener, the reader, what counts, the
  * caption and the desk (document 01, Listening, Drafts, What counts, The caption
- * and The desk; document 02, Q-6).
+ * and The desk; document 02, Q-2, Q-3 and Q-6).
  *
  * Link with the archive: cc app.c -lanthercup (tools/install puts header,
  * archive and a pkg-config file in place). The archive is for x86-64 alone,
@@ -38,8 +38,13 @@
  *   octets 5 and 6    listen gives the octets that this call took, the
  *                     spoiling one included, 0 with 17; counted gives the
  *                     start of what counts; 0 in all other answers
- *   octet 7           0, kept: bits 0 to 6 for the parameter's number, bit 7
- *                     for the edition
+ *   octet 7           bits 0 to 6 the parameter's number: with 3, 4 and 5
+ *                     which parameter of the message is at fault, from 1 to
+ *                     85, carried and repeated ones counted; a type that is
+ *                     refused (3) has the number that its parameter would
+ *                     have; 0 in all other answers, message type, length and
+ *                     checksum (1, 2 and 6) being no parameter's. Bit 7 is 0,
+ *                     kept for the edition
  */
 #ifndef ANTHERCUP_H
 #define ANTHERCUP_H
@@ -53,8 +58,9 @@ extern "C" {
 
 /* ---- Sizes ---- */
 
-/* Which layout of records and words this header describes. */
-#define ANTHERCUP_LAYOUT 1
+/* Which layout of records and words this header describes. A record that an
+ * archive of another layout wrote is reset, not handed on. */
+#define ANTHERCUP_LAYOUT 2
 
 #define ANTHERCUP_MESSAGE_OCTETS 258 /* the longest message */
 #define ANTHERCUP_LISTENER_OCTETS 16
@@ -165,6 +171,12 @@ static inline unsigned anthercup_taken(uint64_t answer)
     return (unsigned)(answer >> 40 & 0xffff);
 }
 
+/* Which parameter is at fault, from 1; 0 where it is none, or no refusal. */
+static inline unsigned anthercup_parameter(uint64_t answer)
+{
+    return (unsigned)(answer >> 56 & 0x7f);
+}
+
 /* Of listen's answer alone: neither a message nor a refusal yet. */
 static inline int anthercup_listen_waits(uint64_t answer)
 {
@@ -192,7 +204,9 @@ static inline int anthercup_listen_waits(uint64_t answer)
  *            was left as the parameter began, its type counted, with 4 what is
  *            left behind these contents
  *    9       with 6 the refusal's number
- *   10 to 15 0, kept for the parameter's number, the edition and the way
+ *   10       the parameter's number: with 2, 3 and 4 how many parameters have
+ *            begun, those counted whose type has come; with 6 the refusal's
+ *   11 to 15 0, kept for the edition and the way
  *
  * A record is 17 where octet 0 is above 6 or a class above 10, an octet that
  * its stage does not use is not 0, or a number is out of range: with 0 and 1
@@ -200,8 +214,13 @@ static inline int anthercup_listen_waits(uint64_t answer)
  * with 3 the room is at least 1 and they add up to 6 to 258; with 4 the index
  * is below the length, and octets, length and room add up to 5 to 257 and the
  * index; a size is 6 to 258; a refusal has a number of 1 to 6 and a place up to
- * 257. Sum and memory are not judged: a record with another sum or memory than
- * any octets lead to is stepped by the same rule. */
+ * 257. Of the parameter's number, a parameter having three octets at least:
+ * with 2 three times it and 2 are at most the octets so far; with 3 it is at
+ * least 1, and three times it at most the octets so far; with 4 it is at least
+ * 1, and three times it, 1 and the index are together at most the octets so
+ * far; a refusal's is 1 to 85 with 3, 4 and 5, and 0 with 1, 2 and 6. Sum and
+ * memory are not judged: a record in range whose sum, memory or parameter's
+ * number no octets lead to is stepped by the same rule. */
 
 /* Makes the record that of a new listener, whatever it holds. Number 0, or 17
  * where listener_len is not ANTHERCUP_LISTENER_OCTETS. */
@@ -209,9 +228,9 @@ uint64_t anthercup_reset(uint8_t *listener, size_t listener_len);
 
 /* Takes a run of octets of any length, 0 included, and says what all octets
  * since the reset come to: it waits (number and size 0), has a message of a
- * size, or refuses with a number from 1 to 6 and a place counted from the
- * reset. After an answer it takes none and says the same again, until it is
- * reset. */
+ * size, or refuses with a number from 1 to 6, a place counted from the reset
+ * and the parameter's number, also where earlier calls heard its parameters.
+ * After an answer it takes none and says the same again, until it is reset. */
 uint64_t anthercup_listen(uint8_t *listener, size_t listener_len,
                           const uint8_t *octets, size_t octets_len);
 

@@ -61,7 +61,7 @@ static void say_read(size_t n, struct second_verdict v,
                      const struct second_draft *d)
 {
     if (v.number) {
-        SAY("read %u at %zu\n", v.number, v.place);
+        SAY("read %u at %zu in %zu\n", v.number, v.place, v.parameter);
         return;
     }
     SAY("read %02x %u %u\n", d->message_type, d->entries, d->text_octets);
@@ -77,7 +77,8 @@ static void say_room(const uint8_t *o, size_t n, size_t room)
     struct second_verdict v = second_read(o, n, room, &d);
 
     if (v.number)
-        SAY("room %zu: %u at %zu\n", room, v.number, v.place);
+        SAY("room %zu: %u at %zu in %zu\n", room, v.number, v.place,
+            v.parameter);
     else
         SAY("room %zu: texts %u\n", room, d.text_octets);
 }
@@ -87,8 +88,8 @@ static void say_steps(const uint8_t *o, struct second_verdict v,
                       const struct second_draft *d)
 {
     if (v.number) {
-        SAY("step %u at %zu\nstep %u at %zu\n", v.number, v.place, v.number,
-            v.place);
+        for (int i = 0; i < 2; i++)
+            SAY("step %u at %zu in %zu\n", v.number, v.place, v.parameter);
         SAY("begins 0\n");
         return;
     }
@@ -108,7 +109,7 @@ static void say_caption(const uint8_t *o, size_t n, const uint8_t *directory,
     int inside = p.slice == SECOND_IN_MESSAGE;
 
     if (p.number)
-        SAY("find %u at %zu\n", p.number, p.place);
+        SAY("find %u at %zu in %zu\n", p.number, p.place, p.parameter);
     else
         SAY("find %s %zu %zu\n", inside ? "message" : "directory", p.start,
             p.length);
@@ -157,6 +158,11 @@ static void put_case(const uint8_t *o, size_t n, const uint8_t *directory,
     "read 80 1 5\n02 3 3430393132\n" TWICE(WRITTEN("10", "other"))            \
     "room 5: texts 5\nstep 02 4 5\nstep none\nstep none\nbegins 1\n"
 
+/* a refusal, "6 at 5 in 0", to everything that is asked */
+#define REFUSED(room, refusal)                                                \
+    "read " refusal "\nroom " room ": " refusal "\n"                          \
+    TWICE("step " refusal "\n") "begins 0\nfind " refusal "\ncaption 7=\n"
+
 static const struct {
     const char *hex, *directory;
     size_t room;
@@ -183,7 +189,7 @@ static const struct {
     /* the name that counts goes before the directory */
     {"80 0A 02 05 34 30 39 31 32 07 01 41 26", "40912=x\n", 5,
      "read 80 2 6\n02 3 3430393132\n07 3 41\n" TWICE(WRITTEN("13", "other"))
-     "room 5: 9 at 6\nstep 02 4 5\nstep 07 11 1\nstep none\nstep none\n"
+     "room 5: 9 at 6 in 0\nstep 02 4 5\nstep 07 11 1\nstep none\nstep none\n"
      "begins 2\nfind message 11 1\ncaption 0=41\n"},
     /* a name behind 08H does not count */
     {"80 0D 08 01 50 07 01 41 02 05 34 30 39 31 32 CA", "40912=x\n", 6,
@@ -194,7 +200,7 @@ static const struct {
     /* no name and no caller count: the empty part at the message's start */
     {"80 06 04 01 50 02 01 37 EB", "7=x\n", 0,
      "read 80 2 1\n04 0 80 0 0 0\n02 3 37\n" TWICE(WRITTEN("9", "other"))
-     "room 0: 9 at 1\nstep 04 4 1\nstep 02 7 1\nstep none\nstep none\n"
+     "room 0: 9 at 1 in 0\nstep 04 4 1\nstep 02 7 1\nstep none\nstep none\n"
      "begins 2\nfind message 0 0\ncaption 0=\n"},
     {"82 03 0B 01 FF 70", "7=x\n", 0,
      "read 82 1 0\n0b 0 255 0 0 0\n" TWICE(WRITTEN("6", "same"))
@@ -202,20 +208,17 @@ static const struct {
      "find message 0 0\ncaption 0=\n"},
     /* refusals */
     {"", "40912=x\n", 0,
-     "read 8 at 0\nroom 0: 8 at 0\n" TWICE("step 8 at 0\n")
-     "begins 0\nfind 8 at 0\ncaption 7=\n"},
+     REFUSED("0", "8 at 0 in 0")},
     {"82 03 0B 01 FF 71", "=x\n", 0,
-     "read 6 at 5\nroom 0: 6 at 5\n" TWICE("step 6 at 5\n")
-     "begins 0\nfind 6 at 5\ncaption 7=\n"},
+     REFUSED("0", "6 at 5 in 0")},
     {"82 03 0B 01 FF 70 00", "", 253,
-     "read 7 at 6\nroom 253: 7 at 6\n" TWICE("step 7 at 6\n")
-     "begins 0\nfind 7 at 6\ncaption 7=\n"},
+     REFUSED("253", "7 at 6 in 0")},
     /* a date; a state with a reference; a carried type, and a repeat */
     {"80 11 01 08 30 36 31 35 31 34 33 30 02 05 34 30 39 31 32 CB",
      "40912=x\n", 4,
      "read 80 2 5\n01 1 6 15 14 30\n02 3 3430393132\n"
      TWICE(WRITTEN("20", "other"))
-     "room 4: 9 at 5\nstep 01 4 8\nstep 02 14 5\nstep none\nstep none\n"
+     "room 4: 9 at 5 in 0\nstep 01 4 8\nstep 02 14 5\nstep none\nstep none\n"
      "begins 2\nfind directory 6 1\ncaption 1=78\n"},
     {"82 0F 0D 03 FF 01 02 05 02 00 FF 13 01 02 03 01 31 0C", "", 3,
      "read 82 4 3\n0d 2 255 258 0 0\n05 4 00ff\n13 0 2 0 0 0\n03 3 31\n"
@@ -233,11 +236,26 @@ static const struct {
      "room 0: texts 0\nstep 01 4 8\nstep none\nstep none\nbegins 1\n"
      "find message 0 0\ncaption 0=\n"},
     {"80 0A 01 08 30 32 33 30 30 30 30 30 E8", "", 0,
-     "read 5 at 6\nroom 0: 5 at 6\n" TWICE("step 5 at 6\n")
-     "begins 0\nfind 5 at 6\ncaption 7=\n"},
+     REFUSED("0", "5 at 6 in 1")},
     {"80 0A 01 08 30 34 33 31 30 30 30 30 E5", "", 0,
-     "read 5 at 7\nroom 0: 5 at 7\n" TWICE("step 5 at 7\n")
-     "begins 0\nfind 5 at 7\ncaption 7=\n"},
+     REFUSED("0", "5 at 7 in 1")},
+    /* 02, Q-3: the parameter at fault: none in message type, length and
+     * checksum; type, length and contents of the first, the second and the
+     * third, behind a carried one and a repeat too; 9 is of none */
+    {"81", "7=x\n", 0, REFUSED("0", "1 at 0 in 0")},
+    {"80 02", "", 1, REFUSED("1", "2 at 1 in 0")},
+    {"80 04 04", "", 0, REFUSED("0", "3 at 2 in 1")},
+    {"80 03 02 00", "", 0, REFUSED("0", "4 at 3 in 1")},
+    {"80 07 04 01 50 04", "", 0, REFUSED("0", "3 at 5 in 2")},
+    {"80 06 04 01 50 02 02", "", 0, REFUSED("0", "4 at 6 in 2")},
+    {"80 06 02 01 37 02 01 2F", "7=x\n", 253, REFUSED("253", "5 at 7 in 2")},
+    {"80 09 05 01 00 05 01 00 04 01 51", "", 0, REFUSED("0", "5 at 10 in 3")},
+    {"82 09 13 01 02 13 01 05 0B 01 01", "", 0, REFUSED("0", "5 at 10 in 3")},
+    {"80 06 02 01 37 02 01 37 09", "", 0, REFUSED("0", "6 at 8 in 0")},
+    {"80 06 02 01 37 02 01 38 05", "7=x\n", 1,
+     "read 80 2 2\n02 3 37\n02 3 38\n" TWICE(WRITTEN("9", "other"))
+     "room 1: 9 at 2 in 0\nstep 02 4 1\nstep 02 7 1\nstep none\nstep none\n"
+     "begins 2\nfind directory 2 1\ncaption 1=78\n"},
 };
 
 /* the octets of "80 0B 01" */

@@ -1,10 +1,10 @@
 /*
  * Writes what the program `rows` reads and what it must print: the rows of
- * 01's table, of 02's calendar (Q-2) and of the other books, whose outcomes
- * stand here by hand, and both sides of every limit, with what the second
- * reader says; of the calendar's limits the places stand here too. Each case
- * is octets behind their length in two octets, whose two upper bits are the
- * book. Usage: rows CASES LINES
+ * 01's table, of 02's calendar (Q-2) and parameters at fault (Q-3) and of the
+ * other books, whose outcomes stand here by hand, and both sides of every
+ * limit, with what the second reader says; of the limits of 02 the refusals
+ * stand here too. Each case is octets behind their length in two octets, whose
+ * two upper bits are the book. Usage: rows CASES LINES
  */
 #include <stdio.h>
 #include <string.h>
@@ -34,11 +34,12 @@ static void put_case(const uint8_t *o, size_t n, const char *by_hand)
     else if (heard.answer == SECOND_MESSAGE)
         at += (size_t)sprintf(said + at, "| L size %zu", heard.size);
     else
-        at += (size_t)sprintf(said + at, "| L %u at %zu", heard.number,
-                              heard.place);
+        at += (size_t)sprintf(said + at, "| L %u at %zu in %zu", heard.number,
+                              heard.place, heard.parameter);
     at += (size_t)sprintf(said + at, ", took %zu", heard.taken);
     if (read.number)
-        sprintf(said + at, " | read %u at %zu", read.number, read.place);
+        sprintf(said + at, " | read %u at %zu in %zu", read.number, read.place,
+                read.parameter);
     else
         sprintf(said + at, " | read size %zu", n);
 
@@ -71,254 +72,332 @@ static void hex_case(const char *hex, const char *by_hand)
     put_case(o, octets_of(hex, o), by_hand);
 }
 
+/* The second reader must refuse these octets so; number 0: not at all. */
+static void spoilt_case(const uint8_t *o, size_t n, unsigned number,
+                        size_t place, size_t parameter)
+{
+    struct second_answer heard = second_listen(o, n);
+
+    put_case(o, n, NULL);
+    if (heard.number != number || heard.place != place
+        || heard.parameter != parameter) {
+        printf("rows: %zu octets to be %u at %zu in %zu: the second reader "
+               "says %u at %zu in %zu\n", n, number, place, parameter,
+               heard.number, heard.place, heard.parameter);
+        wrong = 1;
+    }
+}
+
+/* By hand: a refusal with number, place, parameter and octets taken; octets
+ * that end early; an accepted message. */
+#define SPOILT(k, p, q, taken)                                             \
+    "refused=" k " at=" p " in=" q " | L " k " at " p " in " q ", took "   \
+    taken " | read " k " at " p " in " q
+#define EARLY(n)                                                           \
+    "refused=8 at=" n " in=0 | L waits, took " n " | read 8 at " n " in 0"
+#define ACCEPTED(n) " | L size " n ", took " n " | read size " n
+
 /* ---- 01's table ---- */
 
 static const char *const table[][2] = {
-    {"", "refused=8 at=0 | L waits, took 0 | read 8 at 0"},
-    {"81", "refused=1 at=0 | L 1 at 0, took 1 | read 1 at 0"},
-    {"80 02", "refused=2 at=1 | L 2 at 1, took 2 | read 2 at 1"},
-    {"80 03", "refused=8 at=2 | L waits, took 2 | read 8 at 2"},
-    {"80 0B 01", "refused=3 at=2 | L 3 at 2, took 3 | read 3 at 2"},
-    {"80 0A 01", "refused=8 at=3 | L waits, took 3 | read 8 at 3"},
-    {"80 0C 01", "refused=3 at=2 | L 3 at 2, took 3 | read 3 at 2"},
-    {"80 0D 01", "refused=8 at=3 | L waits, took 3 | read 8 at 3"},
-    {"80 16 02 14", "refused=8 at=4 | L waits, took 4 | read 8 at 4"},
-    {"80 17 02 14", "refused=4 at=3 | L 4 at 3, took 4 | read 4 at 3"},
-    {"80 17 02 15", "refused=4 at=3 | L 4 at 3, took 4 | read 4 at 3"},
-    {"80 FF 05 FD", "refused=8 at=4 | L waits, took 4 | read 8 at 4"},
-    {"80 FF 05 FC", "refused=4 at=3 | L 4 at 3, took 4 | read 4 at 3"},
-    {"80 0A 01 08 31 33",
-     "refused=5 at=5 | L 5 at 5, took 6 | read 5 at 5"},
-    {"82 03 0B 01 80", "refused=5 at=4 | L 5 at 4, took 5 | read 5 at 4"},
+    {"", EARLY("0")},
+    {"81", SPOILT("1", "0", "0", "1")},
+    {"80 02", SPOILT("2", "1", "0", "2")},
+    {"80 03", EARLY("2")},
+    {"80 0B 01", SPOILT("3", "2", "1", "3")},
+    {"80 0A 01", EARLY("3")},
+    {"80 0C 01", SPOILT("3", "2", "1", "3")},
+    {"80 0D 01", EARLY("3")},
+    {"80 16 02 14", EARLY("4")},
+    {"80 17 02 14", SPOILT("4", "3", "1", "4")},
+    {"80 17 02 15", SPOILT("4", "3", "1", "4")},
+    {"80 FF 05 FD", EARLY("4")},
+    {"80 FF 05 FC", SPOILT("4", "3", "1", "4")},
+    {"80 0A 01 08 31 33", SPOILT("5", "5", "1", "6")},
+    {"82 03 0B 01 80", SPOILT("5", "4", "1", "5")},
     {"82 03 0B 01 FF 70",
-     "kind=notice lamp=on carried=0 | L size 6, took 6 | read size 6"},
-    {"82 03 0B 01 FF 71", "refused=6 at=5 | L 6 at 5, took 6 | read 6 at 5"},
+     "kind=notice lamp=on carried=0" ACCEPTED("6")},
+    {"82 03 0B 01 FF 71", SPOILT("6", "5", "0", "6")},
     {"82 03 0B 01 FF 70 00",
-     "refused=7 at=6 | L size 6, took 6 | read 7 at 6"},
+     "refused=7 at=6 in=0 | L size 6, took 6 | read 7 at 6 in 0"},
     {"82 03 13 01 02 65",
-     "kind=notice waiting=2 carried=0 | L size 6, took 6 | read size 6"},
+     "kind=notice waiting=2 carried=0" ACCEPTED("6")},
     {"82 06 13 01 02 13 01 05 49",
-     "kind=notice waiting=2 carried=0 | L size 9, took 9 | read size 9"},
+     "kind=notice waiting=2 carried=0" ACCEPTED("9")},
     {"80 06 04 01 50 02 01 37 EB",
-     "kind=call caller-absent=P carried=0 | L size 9, took 9 | read size 9"},
+     "kind=call caller-absent=P carried=0" ACCEPTED("9")},
     {"80 11 01 08 30 36 31 35 31 34 33 30 02 05 34 30 39 31 32 CB",
-     "kind=call time=06-15 14:30 caller=40912 carried=0 | L size 20, took 20 "
-     "| read size 20"},
+     "kind=call time=06-15 14:30 caller=40912 carried=0" ACCEPTED("20")},
 };
 
 /* ---- 02, Q-2: the day exists in its month ---- */
 
 static const char *const calendar_table[][2] = {
     /* in February a 3 spoils the message, and 29 is a day of it */
-    {"80 0A 01 08 30 32 33",
-     "refused=5 at=6 | L 5 at 6, took 7 | read 5 at 6"},
-    {"80 0A 01 08 30 32 32 39",
-     "refused=8 at=8 | L waits, took 8 | read 8 at 8"},
+    {"80 0A 01 08 30 32 33", SPOILT("5", "6", "1", "7")},
+    {"80 0A 01 08 30 32 32 39", EARLY("8")},
     {"80 0A 01 08 30 32 32 39 30 30 30 30 E0",
-     "kind=call time=02-29 00:00 carried=0 | L size 13, took 13 | "
-     "read size 13"},
-    {"80 0A 01 08 30 32 33 30 30 30 30 30 E8",
-     "refused=5 at=6 | L 5 at 6, took 7 | read 5 at 6"},
-    {"80 0A 01 08 30 32 30 30",
-     "refused=5 at=7 | L 5 at 7, took 8 | read 5 at 7"},
+     "kind=call time=02-29 00:00 carried=0" ACCEPTED("13")},
+    {"80 0A 01 08 30 32 33 30 30 30 30 30 E8", SPOILT("5", "6", "1", "7")},
+    {"80 0A 01 08 30 32 30 30", SPOILT("5", "7", "1", "8")},
     /* in April a 3 does not, but a 1 after it does */
-    {"80 0A 01 08 30 34 33",
-     "refused=8 at=7 | L waits, took 7 | read 8 at 7"},
-    {"80 0A 01 08 30 34 33 31",
-     "refused=5 at=7 | L 5 at 7, took 8 | read 5 at 7"},
+    {"80 0A 01 08 30 34 33", EARLY("7")},
+    {"80 0A 01 08 30 34 33 31", SPOILT("5", "7", "1", "8")},
     {"80 0A 01 08 30 34 33 30 32 33 35 39 D3",
-     "kind=call time=04-30 23:59 carried=0 | L size 13, took 13 | "
-     "read size 13"},
-    {"80 0A 01 08 30 34 33 31 32 33 35 39 D2",
-     "refused=5 at=7 | L 5 at 7, took 8 | read 5 at 7"},
+     "kind=call time=04-30 23:59 carried=0" ACCEPTED("13")},
+    {"80 0A 01 08 30 34 33 31 32 33 35 39 D2", SPOILT("5", "7", "1", "8")},
     /* in January neither does */
-    {"80 0A 01 08 30 31 33 31",
-     "refused=8 at=8 | L waits, took 8 | read 8 at 8"},
-    {"80 0A 01 08 30 31 33 32",
-     "refused=5 at=7 | L 5 at 7, took 8 | read 5 at 7"},
-    {"80 0A 01 08 30 31 30 30",
-     "refused=5 at=7 | L 5 at 7, took 8 | read 5 at 7"},
+    {"80 0A 01 08 30 31 33 31", EARLY("8")},
+    {"80 0A 01 08 30 31 33 32", SPOILT("5", "7", "1", "8")},
+    {"80 0A 01 08 30 31 30 30", SPOILT("5", "7", "1", "8")},
     /* the month bears on its own day alone: not on the hour, the minute, a
      * number or the next date */
     {"82 18 01 08 30 32 32 39 32 33 33 31 02 02 33 31 "
      "01 08 30 31 33 31 30 33 33 31 CA",
-     "kind=notice time=02-29 23:31 caller=31 carried=0 | L size 27, took 27 | "
-     "read size 27"},
+     "kind=notice time=02-29 23:31 caller=31 carried=0" ACCEPTED("27")},
     {"82 14 01 08 30 31 33 31 30 33 33 31 01 08 30 32 33",
-     "refused=5 at=16 | L 5 at 16, took 17 | read 5 at 16"},
+     SPOILT("5", "16", "2", "17")},
     /* a date that does not count is judged too */
     {"80 14 01 08 30 34 33 30 30 30 30 30 01 08 30 34 33 31",
-     "refused=5 at=17 | L 5 at 17, took 18 | read 5 at 17"},
+     SPOILT("5", "17", "2", "18")},
+};
+
+/* ---- 02, Q-3: which parameter was at fault ---- */
+
+static const char *const parameter_table[][2] = {
+    /* in the first: type, length, contents */
+    {"80 04 04", SPOILT("3", "2", "1", "3")},
+    {"80 03 02 00", SPOILT("4", "3", "1", "4")},
+    {"80 03 04 01 51", SPOILT("5", "4", "1", "5")},
+    /* the last octet of the first, the second's own, and the checksum */
+    {"80 08 02 02 31 2F", SPOILT("5", "5", "1", "6")},
+    {"80 08 02 02 31 32 04", SPOILT("3", "6", "2", "7")},
+    {"80 08 02 02 31 32 02 03", SPOILT("4", "7", "2", "8")},
+    {"80 08 02 02 31 32 02 02 2F", SPOILT("5", "8", "2", "9")},
+    {"80 08 02 02 31 32 02 02 33 2F", SPOILT("5", "9", "2", "10")},
+    {"80 08 02 02 31 32 02 02 33 34 A7", SPOILT("6", "10", "0", "11")},
+    {"80 08 02 02 31 32 02 02 33 34 A6",
+     "kind=call caller=12 carried=0" ACCEPTED("11")},
+    {"80 08 02 02 31 32 02 02 33 34 A6 00",
+     "refused=7 at=11 in=0 | L size 11, took 11 | read 7 at 11 in 0"},
+    {"80 08 02 02 31 32 02 02 33", EARLY("9")},
+    /* carried ones count, each of them */
+    {"80 06 05 01 00 04 01 51", SPOILT("5", "7", "2", "8")},
+    {"80 09 05 01 00 05 01 00 04 01 51", SPOILT("5", "10", "3", "11")},
+    {"80 0E 05 01 00 01", SPOILT("3", "5", "2", "6")},
+    {"80 07 05 01 00 06 01", SPOILT("4", "6", "2", "7")},
+    /* but not the octets in them, whatever these look like */
+    {"80 09 05 04 04 01 04 01 04 01 51", SPOILT("5", "10", "2", "11")},
+    /* and so do repeats, one of a pair that does not count, a second date */
+    {"82 06 0B 01 FF 0B 01 01", SPOILT("5", "7", "2", "8")},
+    {"82 09 13 01 02 13 01 05 0B 01 01", SPOILT("5", "10", "3", "11")},
+    {"80 09 02 01 37 04 01 50 02 01 2F", SPOILT("5", "10", "3", "11")},
+    {"80 17 01 08 30 36 31 35 31 34 33 30 01 08 30 36 31 35 31 34 33 30 02 02",
+     SPOILT("4", "23", "3", "24")},
+    /* none: message type, length, checksum */
+    {"83 06 13 01 02", SPOILT("1", "0", "0", "1")},
+    {"82 00 13 01 02", SPOILT("2", "1", "0", "2")},
+    {"82 06 13 01 02 13 01 05 4A", SPOILT("6", "8", "0", "9")},
 };
 
 /* ---- The other books: 1 the present edition with unlisted types refused, 2
  * the old edition (source 001), 3 the old one with unlisted types refused. The
- * second reader does not know them: number and place stand here by hand, 0
- * where a listener waits and SIZE where the octets are a message. ---- */
+ * second reader does not know them: number, place and parameter stand here by
+ * hand, 0 where a listener waits, SIZE where the octets are a message. ---- */
 
 #define SIZE 255
 
 static const struct {
     uint8_t book;
     const char *hex;
-    unsigned number, place;
+    unsigned number, place, parameter;
 } by_book[] = {
     /* an unlisted type, in any room and ahead of 3; listed ones as ever */
-    {1, "80 03 05", 10, 2},
-    {1, "80 04 05", 10, 2},
-    {1, "80 FF 05", 10, 2},
-    {1, "80 03 00", 10, 2},
-    {1, "80 03 17", 10, 2},
-    {1, "80 03 FF", 10, 2},
-    {1, "82 06 13 01 02 05", 10, 5},
-    {1, "80 04 04", 3, 2},
-    {1, "80 06 0D", 3, 2},
-    {1, "80 05 0D", 0, 0},
-    {1, "80 03 02", 0, 0},
-    {1, "80 16 02 14", 0, 0},
-    {1, "80 17 02 15", 4, 3},
-    {1, "80 03 16 01 01", 0, 0},
-    {1, "82 03 13 01 02 65", SIZE, 0},
-    {1, "82 03 13 01 02 66", 6, 5},
+    {1, "80 03 05", 10, 2, 1},
+    {1, "80 04 05", 10, 2, 1},
+    {1, "80 FF 05", 10, 2, 1},
+    {1, "80 03 00", 10, 2, 1},
+    {1, "80 03 17", 10, 2, 1},
+    {1, "80 03 FF", 10, 2, 1},
+    {1, "82 06 13 01 02 05", 10, 5, 2},
+    {1, "80 04 04", 3, 2, 1},
+    {1, "80 06 0D", 3, 2, 1},
+    {1, "80 05 0D", 0, 0, 0},
+    {1, "80 03 02", 0, 0, 0},
+    {1, "80 16 02 14", 0, 0, 0},
+    {1, "80 17 02 15", 4, 3, 1},
+    {1, "80 03 16 01 01", 0, 0, 0},
+    {1, "82 03 13 01 02 65", SIZE, 0, 0},
+    {1, "82 03 13 01 02 66", 6, 5, 0},
     /* dates by the calendar (02, Q-2) in every book */
-    {1, "80 0A 01 08 30 32 32 39", 0, 0},
-    {1, "80 0A 01 08 30 32 33", 5, 6},
-    {1, "80 0A 01 08 30 34 33 30", 0, 0},
-    {1, "80 0A 01 08 30 34 33 31", 5, 7},
-    {1, "80 0A 01 08 31 32 33 31", 0, 0},
-    {1, "80 0A 01 08 31 32 33 32", 5, 7},
-    {1, "80 0A 01 08 30 32 30 30", 5, 7},
-    {1, "80 0A 01 08 30 32 32 39 30 30 30 30 E0", SIZE, 0},
-    {2, "80 0A 01 08 30 32 32 39", 0, 0},
-    {2, "80 0A 01 08 30 32 33", 5, 6},
-    {2, "80 0A 01 08 30 34 33 30", 0, 0},
-    {2, "80 0A 01 08 30 34 33 31", 5, 7},
-    {2, "80 0A 01 08 31 32 33 31", 0, 0},
-    {2, "80 0A 01 08 31 32 33 32", 5, 7},
-    {2, "80 0A 01 08 30 32 30 30", 5, 7},
-    {2, "80 0A 01 08 30 32 32 39 30 30 30 30 E0", SIZE, 0},
-    {3, "80 0A 01 08 30 32 32 39", 0, 0},
-    {3, "80 0A 01 08 30 32 33", 5, 6},
-    {3, "80 0A 01 08 30 34 33 30", 0, 0},
-    {3, "80 0A 01 08 30 34 33 31", 5, 7},
-    {3, "80 0A 01 08 31 32 33 31", 0, 0},
-    {3, "80 0A 01 08 31 32 33 32", 5, 7},
-    {3, "80 0A 01 08 30 32 30 30", 5, 7},
-    {3, "80 0A 01 08 30 32 32 39 30 30 30 30 E0", SIZE, 0},
+    {1, "80 0A 01 08 30 32 32 39", 0, 0, 0},
+    {1, "80 0A 01 08 30 32 33", 5, 6, 1},
+    {1, "80 0A 01 08 30 34 33 30", 0, 0, 0},
+    {1, "80 0A 01 08 30 34 33 31", 5, 7, 1},
+    {1, "80 0A 01 08 31 32 33 31", 0, 0, 0},
+    {1, "80 0A 01 08 31 32 33 32", 5, 7, 1},
+    {1, "80 0A 01 08 30 32 30 30", 5, 7, 1},
+    {1, "80 0A 01 08 30 32 32 39 30 30 30 30 E0", SIZE, 0, 0},
+    {2, "80 0A 01 08 30 32 32 39", 0, 0, 0},
+    {2, "80 0A 01 08 30 32 33", 5, 6, 1},
+    {2, "80 0A 01 08 30 34 33 30", 0, 0, 0},
+    {2, "80 0A 01 08 30 34 33 31", 5, 7, 1},
+    {2, "80 0A 01 08 31 32 33 31", 0, 0, 0},
+    {2, "80 0A 01 08 31 32 33 32", 5, 7, 1},
+    {2, "80 0A 01 08 30 32 30 30", 5, 7, 1},
+    {2, "80 0A 01 08 30 32 32 39 30 30 30 30 E0", SIZE, 0, 0},
+    {3, "80 0A 01 08 30 32 32 39", 0, 0, 0},
+    {3, "80 0A 01 08 30 32 33", 5, 6, 1},
+    {3, "80 0A 01 08 30 34 33 30", 0, 0, 0},
+    {3, "80 0A 01 08 30 34 33 31", 5, 7, 1},
+    {3, "80 0A 01 08 31 32 33 31", 0, 0, 0},
+    {3, "80 0A 01 08 31 32 33 32", 5, 7, 1},
+    {3, "80 0A 01 08 30 32 30 30", 5, 7, 1},
+    {3, "80 0A 01 08 30 32 32 39 30 30 30 30 E0", SIZE, 0, 0},
     /* numbers of 1 to 18 digits */
-    {2, "80 03 02 00", 4, 3},
-    {2, "80 14 02 12", 0, 0},
-    {2, "80 15 02 13", 4, 3},
-    {2, "80 14 12 12", 0, 0},
-    {2, "80 15 12 13", 4, 3},
-    {2, "80 03 02 01 2F", 5, 4},
-    {2, "80 03 02 01 30", 0, 0},
-    {2, "80 03 02 01 39", 0, 0},
-    {2, "80 03 02 01 3A", 5, 4},
-    {2, "80 03 02 01 2A", 5, 4},
-    {2, "80 03 02 01 23", 5, 4},
-    {2, "80 03 02 01 20", 5, 4},
-    {2, "80 03 02 01 2D", 5, 4},
-    {2, "80 03 02 01 28", 5, 4},
-    {2, "80 03 12 01 2A", 5, 4},
-    {2, "80 03 12 01 30", 0, 0},
+    {2, "80 03 02 00", 4, 3, 1},
+    {2, "80 14 02 12", 0, 0, 0},
+    {2, "80 15 02 13", 4, 3, 1},
+    {2, "80 14 12 12", 0, 0, 0},
+    {2, "80 15 12 13", 4, 3, 1},
+    {2, "80 03 02 01 2F", 5, 4, 1},
+    {2, "80 03 02 01 30", 0, 0, 0},
+    {2, "80 03 02 01 39", 0, 0, 0},
+    {2, "80 03 02 01 3A", 5, 4, 1},
+    {2, "80 03 02 01 2A", 5, 4, 1},
+    {2, "80 03 02 01 23", 5, 4, 1},
+    {2, "80 03 02 01 20", 5, 4, 1},
+    {2, "80 03 02 01 2D", 5, 4, 1},
+    {2, "80 03 02 01 28", 5, 4, 1},
+    {2, "80 03 12 01 2A", 5, 4, 1},
+    {2, "80 03 12 01 30", 0, 0, 0},
     /* names of 1 to 20 characters */
-    {2, "80 16 07 14", 0, 0},
-    {2, "80 17 07 15", 4, 3},
-    {2, "80 03 07 01 1F", 5, 4},
-    {2, "80 03 07 01 20", 0, 0},
-    {2, "80 03 07 01 7E", 0, 0},
-    {2, "80 03 07 01 7F", 5, 4},
+    {2, "80 16 07 14", 0, 0, 0},
+    {2, "80 17 07 15", 4, 3, 1},
+    {2, "80 03 07 01 1F", 5, 4, 1},
+    {2, "80 03 07 01 20", 0, 0, 0},
+    {2, "80 03 07 01 7E", 0, 0, 0},
+    {2, "80 03 07 01 7F", 5, 4, 1},
     /* dates, the letters, the lamp */
-    {2, "80 0A 01", 0, 0},
-    {2, "80 0B 01", 3, 2},
-    {2, "80 0A 01 08 31 33", 5, 5},
-    {2, "80 03 04 01 4E", 5, 4},
-    {2, "80 03 04 01 4F", 0, 0},
-    {2, "80 03 04 01 50", 0, 0},
-    {2, "80 03 04 01 51", 5, 4},
-    {2, "82 03 0B 01 00", 0, 0},
-    {2, "82 03 0B 01 01", 5, 4},
-    {2, "82 03 0B 01 FE", 5, 4},
-    {2, "82 03 0B 01 FF 70", SIZE, 0},
+    {2, "80 0A 01", 0, 0, 0},
+    {2, "80 0B 01", 3, 2, 1},
+    {2, "80 0A 01 08 31 33", 5, 5, 1},
+    {2, "80 03 04 01 4E", 5, 4, 1},
+    {2, "80 03 04 01 4F", 0, 0, 0},
+    {2, "80 03 04 01 50", 0, 0, 0},
+    {2, "80 03 04 01 51", 5, 4, 1},
+    {2, "82 03 0B 01 00", 0, 0, 0},
+    {2, "82 03 0B 01 01", 5, 4, 1},
+    {2, "82 03 0B 01 FE", 5, 4, 1},
+    {2, "82 03 0B 01 FF 70", SIZE, 0, 0},
     /* forwarding 00H to 06H */
-    {2, "80 03 15 01 00", 0, 0},
-    {2, "80 03 15 01 06", 0, 0},
-    {2, "80 03 15 01 07", 5, 4},
-    {2, "80 03 15 01 80", 5, 4},
-    {2, "80 03 15 01 FF", 5, 4},
+    {2, "80 03 15 01 00", 0, 0, 0},
+    {2, "80 03 15 01 06", 0, 0, 0},
+    {2, "80 03 15 01 07", 5, 4, 1},
+    {2, "80 03 15 01 80", 5, 4, 1},
+    {2, "80 03 15 01 FF", 5, 4, 1},
     /* the sheet's nine values for the calling user, and those between them */
-    {2, "80 03 16 01 00", 0, 0},
-    {2, "80 03 16 01 01", 5, 4},
-    {2, "80 03 16 01 02", 5, 4},
-    {2, "80 03 16 01 03", 0, 0},
-    {2, "80 03 16 01 04", 0, 0},
-    {2, "80 03 16 01 05", 0, 0},
-    {2, "80 03 16 01 06", 5, 4},
-    {2, "80 03 16 01 07", 5, 4},
-    {2, "80 03 16 01 08", 5, 4},
-    {2, "80 03 16 01 09", 5, 4},
-    {2, "80 03 16 01 0A", 0, 0},
-    {2, "80 03 16 01 0B", 0, 0},
-    {2, "80 03 16 01 0C", 0, 0},
-    {2, "80 03 16 01 0D", 0, 0},
-    {2, "80 03 16 01 0E", 5, 4},
-    {2, "80 03 16 01 0F", 0, 0},
-    {2, "80 03 16 01 10", 5, 4},
+    {2, "80 03 16 01 00", 0, 0, 0},
+    {2, "80 03 16 01 01", 5, 4, 1},
+    {2, "80 03 16 01 02", 5, 4, 1},
+    {2, "80 03 16 01 03", 0, 0, 0},
+    {2, "80 03 16 01 04", 0, 0, 0},
+    {2, "80 03 16 01 05", 0, 0, 0},
+    {2, "80 03 16 01 06", 5, 4, 1},
+    {2, "80 03 16 01 07", 5, 4, 1},
+    {2, "80 03 16 01 08", 5, 4, 1},
+    {2, "80 03 16 01 09", 5, 4, 1},
+    {2, "80 03 16 01 0A", 0, 0, 0},
+    {2, "80 03 16 01 0B", 0, 0, 0},
+    {2, "80 03 16 01 0C", 0, 0, 0},
+    {2, "80 03 16 01 0D", 0, 0, 0},
+    {2, "80 03 16 01 0E", 5, 4, 1},
+    {2, "80 03 16 01 0F", 0, 0, 0},
+    {2, "80 03 16 01 10", 5, 4, 1},
     /* all other types are carried: 03H with any octet, 08H of 5 octets */
-    {2, "80 03 03 01 00", 0, 0},
-    {2, "80 07 08 05", 0, 0},
-    {2, "80 03 0D", 0, 0},
-    {2, "80 04 13", 0, 0},
-    {2, "80 FF 0D FD", 0, 0},
-    {2, "80 FF 0D FC", 4, 3},
-    {2, "80 06 02 01 37 04 01 50 EB", SIZE, 0},
+    {2, "80 03 03 01 00", 0, 0, 0},
+    {2, "80 07 08 05", 0, 0, 0},
+    {2, "80 03 0D", 0, 0, 0},
+    {2, "80 04 13", 0, 0, 0},
+    {2, "80 FF 0D FD", 0, 0, 0},
+    {2, "80 FF 0D FC", 4, 3, 1},
+    {2, "80 06 02 01 37 04 01 50 EB", SIZE, 0, 0},
     /* and in the strict way refused */
-    {3, "80 03 05", 10, 2},
-    {3, "80 03 03", 10, 2},
-    {3, "80 04 08", 10, 2},
-    {3, "80 05 0D", 10, 2},
-    {3, "80 03 0E", 10, 2},
-    {3, "80 03 11", 10, 2},
-    {3, "80 03 13", 10, 2},
-    {3, "80 03 14", 10, 2},
-    {3, "82 06 0B 01 FF 13", 10, 5},
-    {3, "80 0A 01", 0, 0},
-    {3, "80 0B 01", 3, 2},
-    {3, "80 03 02", 0, 0},
-    {3, "80 03 04", 0, 0},
-    {3, "80 04 04", 3, 2},
-    {3, "80 03 07", 0, 0},
-    {3, "80 03 0B", 0, 0},
-    {3, "80 03 12", 0, 0},
-    {3, "80 03 15", 0, 0},
-    {3, "80 03 16", 0, 0},
-    {3, "80 14 02 12", 0, 0},
-    {3, "80 15 02 13", 4, 3},
-    {3, "80 03 16 01 01", 5, 4},
-    {3, "80 03 16 01 0F", 0, 0},
-    {3, "80 06 02 01 37 04 01 50 EB", SIZE, 0},
+    {3, "80 03 05", 10, 2, 1},
+    {3, "80 03 03", 10, 2, 1},
+    {3, "80 04 08", 10, 2, 1},
+    {3, "80 05 0D", 10, 2, 1},
+    {3, "80 03 0E", 10, 2, 1},
+    {3, "80 03 11", 10, 2, 1},
+    {3, "80 03 13", 10, 2, 1},
+    {3, "80 03 14", 10, 2, 1},
+    {3, "82 06 0B 01 FF 13", 10, 5, 2},
+    {3, "80 0A 01", 0, 0, 0},
+    {3, "80 0B 01", 3, 2, 1},
+    {3, "80 03 02", 0, 0, 0},
+    {3, "80 03 04", 0, 0, 0},
+    {3, "80 04 04", 3, 2, 1},
+    {3, "80 03 07", 0, 0, 0},
+    {3, "80 03 0B", 0, 0, 0},
+    {3, "80 03 12", 0, 0, 0},
+    {3, "80 03 15", 0, 0, 0},
+    {3, "80 03 16", 0, 0, 0},
+    {3, "80 14 02 12", 0, 0, 0},
+    {3, "80 15 02 13", 4, 3, 1},
+    {3, "80 03 16 01 01", 5, 4, 1},
+    {3, "80 03 16 01 0F", 0, 0, 0},
+    {3, "80 06 02 01 37 04 01 50 EB", SIZE, 0, 0},
+    /* the parameter's number (02, Q-3), in the first, the second, the third;
+     * repeats count, and so do carried ones */
+    {1, "80 09 05", 10, 2, 1},
+    {1, "80 09 04 01 50 05", 10, 5, 2},
+    {1, "80 09 04 01 50 04 01 50 05", 10, 8, 3},
+    {1, "80 0A 04 01 50 04 01 50 04", 3, 8, 3},
+    {1, "80 09 04 01 50 04 01 50 04 02", 4, 9, 3},
+    {1, "80 09 04 01 50 04 01 50 04 01 51", 5, 10, 3},
+    {1, "80 09 04 01 50 04 01 50 04 01 50 78", SIZE, 0, 0},
+    {1, "80 09 04 01 50 04 01 50 04 01 50 79", 6, 11, 0},
+    {2, "80 06 03 01 00 02 01 2A", 5, 7, 2},
+    {2, "80 09 13 01 02 13 01 05 02 01 2A", 5, 10, 3},
+    {2, "80 0E 08 01 00 01", 3, 5, 2},
+    {2, "80 07 0D 01 00 02 01", 4, 6, 2},
+    {2, "80 06 03 01 00 03 01 00 6F", 6, 8, 0},
+    {3, "80 09 03", 10, 2, 1},
+    {3, "80 09 04 01 50 03", 10, 5, 2},
+    {3, "80 09 04 01 50 04 01 50 03", 10, 8, 3},
+    {3, "80 0A 04 01 50 04 01 50 04", 3, 8, 3},
+    {3, "80 09 04 01 50 04 01 50 02 02", 4, 9, 3},
+    {3, "80 09 04 01 50 04 01 50 02 01 2A", 5, 10, 3},
+    {3, "80 09 04 01 50 04 01 50 04 01 50 79", 6, 11, 0},
 };
 
-static void book_case(size_t i)
+static void book_case(unsigned book, const uint8_t *o, size_t n,
+                      unsigned number, unsigned place, unsigned parameter)
 {
-    uint8_t o[300];
-    size_t n = octets_of(by_book[i].hex, o);
-    unsigned number = by_book[i].number, place = by_book[i].place;
-    uint8_t size[2] = {(uint8_t)(by_book[i].book << 6), (uint8_t)n};
+    uint8_t size[2] = {(uint8_t)(book << 6 | n >> 8), (uint8_t)n};
 
     fwrite(size, 1, 2, cases);
     fwrite(o, 1, n, cases);
     for (size_t k = 0; k < n; k++)
         fprintf(lines, "%02x ", o[k]);
-    fprintf(lines, "| book %u ", by_book[i].book);
+    fprintf(lines, "| book %u ", book);
     if (number == 0)
-        fprintf(lines, "| L waits, took %zu | read 8 at %zu\n", n, n);
+        fprintf(lines, "| L waits, took %zu | read 8 at %zu in 0\n", n, n);
     else if (number == SIZE)
         fprintf(lines, "| L size %zu, took %zu | read size %zu\n", n, n, n);
     else
-        fprintf(lines, "| L %u at %u, took %u | read %u at %u\n", number, place,
-                place + 1, number, place);
+        fprintf(lines,
+                "| L %u at %u in %u, took %u | read %u at %u in %u\n", number,
+                place, parameter, place + 1, number, place, parameter);
+}
+
+static void books(void)
+{
+    uint8_t o[300];
+
+    for (size_t i = 0; i < sizeof by_book / sizeof *by_book; i++)
+        book_case(by_book[i].book, o, octets_of(by_book[i].hex, o),
+                  by_book[i].number, by_book[i].place, by_book[i].parameter);
 }
 
 /* ---- Both sides of every limit ---- */
@@ -448,7 +527,6 @@ static void date_case(const char *month_day, const char *hour_minute, size_t n,
                       size_t spoilt)
 {
     uint8_t o[13] = {0x80, 0x0A, 0x01, 0x08};
-    struct second_answer heard;
     unsigned sum = 0;
 
     memcpy(o + 4, month_day, 4);
@@ -456,15 +534,10 @@ static void date_case(const char *month_day, const char *hour_minute, size_t n,
     for (size_t i = 0; i < 12; i++)
         sum += o[i];
     o[12] = (uint8_t)(256 - sum % 256);
-    put_case(o, n, NULL);
-    heard = second_listen(o, n);
-    if (spoilt >= n)
-        spoilt = 0;
-    if (heard.number != (spoilt ? 5 : 0) || heard.place != spoilt) {
-        printf("rows: %s, %zu octets: the second reader says %u at %zu\n",
-               month_day, n, heard.number, heard.place);
-        wrong = 1;
-    }
+    if (spoilt == 0 || spoilt >= n)
+        spoilt_case(o, n, 0, 0, 0);
+    else
+        spoilt_case(o, n, 5, spoilt, 1);
 }
 
 static void calendar(void)
@@ -518,13 +591,21 @@ static void add(uint8_t type, uint8_t n, uint8_t x)
     built[1] = (uint8_t)(built[1] + 2 + n);
 }
 
-static void end(void)
+/* What makes the sum of the first n octets 0. */
+static uint8_t sum_before(size_t n)
 {
     unsigned sum = 0;
-    size_t n = 2u + built[1];
+
     for (size_t i = 0; i < n; i++)
         sum += built[i];
-    built[n] = (uint8_t)(256 - sum % 256);
+    return (uint8_t)(256 - sum % 256);
+}
+
+static void end(void)
+{
+    size_t n = 2u + built[1];
+
+    built[n] = sum_before(n);
     put_case(built, n + 1, NULL);
     built[n + 1] = '\n';
     put_case(built, n + 2, NULL);
@@ -564,6 +645,77 @@ static void whole(void)
     end();
 }
 
+/* ---- 02, Q-3: the first parameters and the last that there can be ---- */
+
+/* What stands before the parameter at fault: three octets each. */
+static const struct {
+    uint8_t type, x;
+} before[][2] = {
+    {{0x05, 0x00}, {0x05, 0x00}}, /* carried ones */
+    {{0x04, 0x50}, {0x04, 0x50}}, /* a type that is listed, repeated */
+    {{0x13, 0xFF}, {0x99, 0x13}}, /* in turn */
+};
+
+/* Parameters up to the k-th, which has this room; gives its place. */
+static size_t before_the(size_t sort, size_t k, uint8_t room)
+{
+    begin(0x80);
+    for (size_t i = 1; i < k; i++)
+        add(before[sort][i % 2].type, 1, before[sort][i % 2].x);
+    built[1] = (uint8_t)(built[1] + room);
+    return 3 * k - 1;
+}
+
+/* A fault in each octet of the k-th parameter, and in the checksum after it;
+ * for the 85th there is room for three octets and no more. */
+static void faults_in(size_t sort, size_t k)
+{
+    size_t at = before_the(sort, k, k < 85 ? 4 : 3);
+
+    built[at] = k < 85 ? 0x04 : 0x01;
+    spoilt_case(built, at + 1, 3, at, k);
+    at = before_the(sort, k, 3);
+    built[at] = 0x0D;
+    spoilt_case(built, at + 1, 3, at, k);
+    memcpy(built + at, "\x02\x02", 2);
+    spoilt_case(built, at + 2, 4, at + 1, k);
+    memcpy(built + at, "\x02\x01\x2F", 3);
+    spoilt_case(built, at + 3, 5, at + 2, k);
+    memcpy(built + at, "\x02\x01\x30", 3);
+    spoilt_case(built, at + 3, 0, 0, 0);
+    built[at + 3] = (uint8_t)(sum_before(at + 3) + 1);
+    spoilt_case(built, at + 4, 6, at + 3, 0);
+    built[at + 3]--;
+    spoilt_case(built, at + 4, 0, 0, 0);
+}
+
+/* By the strict books an unlisted type as the k-th; the old one lists no
+ * 13H. */
+static void unlisted_as(size_t k)
+{
+    size_t at = before_the(1, k, 3);
+
+    built[at] = 0x05;
+    book_case(1, built, at + 1, 10, (unsigned)at, (unsigned)k);
+    built[at] = 0x13;
+    book_case(3, built, at + 1, 10, (unsigned)at, (unsigned)k);
+}
+
+static void parameters(void)
+{
+    static const size_t at_fault[] = {1, 2, 3, 84, 85};
+
+    for (size_t i = 0; i < sizeof at_fault / sizeof *at_fault; i++) {
+        for (size_t sort = 0; sort < sizeof before / sizeof *before; sort++)
+            if (sort == 0 || at_fault[i] > 1)
+                faults_in(sort, at_fault[i]);
+        unlisted_as(at_fault[i]);
+    }
+    /* as late in the message, and only the second */
+    begin(0x80), add(0x05, 250, 0x04), add(0x04, 1, 'Q');
+    spoilt_case(built, 257, 5, 256, 2);
+}
+
 int main(int argc, char **argv)
 {
     if (argc != 3)
@@ -576,11 +728,14 @@ int main(int argc, char **argv)
         hex_case(table[i][0], table[i][1]);
     for (size_t i = 0; i < sizeof calendar_table / sizeof *calendar_table; i++)
         hex_case(calendar_table[i][0], calendar_table[i][1]);
-    for (size_t i = 0; i < sizeof by_book / sizeof *by_book; i++)
-        book_case(i);
+    for (size_t i = 0; i < sizeof parameter_table / sizeof *parameter_table;
+         i++)
+        hex_case(parameter_table[i][0], parameter_table[i][1]);
+    books();
     limits();
     calendar();
     whole();
+    parameters();
     wrong |= ferror(cases) | ferror(lines);
     wrong |= fclose(cases) | fclose(lines);
     return wrong ? 1 : 0;

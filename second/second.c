@@ -5,7 +5,9 @@
  * listing look only at octets that are known to be a message. No state is
  * handed from octet to octet. -DSECOND_WRONG=N makes it wrong on
  * purpose: 1 in a limit, 2 in the line for a caller, 3 in what counts, 4 in
- * the days of February, 5 in where a 30th of February is refused.
+ * the days of February, 5 in where a 30th of February is refused; in the
+ * parameter's number 6, which counts from 0, and 7, which passes over carried
+ * ones.
  */
 #include "second.h"
 
@@ -296,6 +298,17 @@ int second_can_go_on(const uint8_t *o, size_t n)
         && begins_parameters(o + place, n - place, o[1] + 2u - place);
 }
 
+size_t second_begun(const uint8_t *o, size_t n)
+{
+    size_t begin = 2, begun = 0;
+
+    while (begin < n && begin < o[1] + 2u) {
+        begun += SECOND_WRONG != 7 || is_listed(o[begin]);
+        begin = begin + 1 < n ? begin + 2 + o[begin + 1] : n;
+    }
+    return SECOND_WRONG == 6 && begun > 0 ? begun - 1 : begun;
+}
+
 /* ---- "Listening" ---- */
 
 /* The number that belongs to the role of the octet at place, the octets
@@ -313,9 +326,19 @@ static unsigned number_of_role(const uint8_t *o, size_t place)
     return place == begin ? 3 : place == begin + 1 ? 4 : 5;
 }
 
+/* The parameter that the octet at place belongs to, likewise: the last that
+ * begins there or before (02, Q-3). Message type, length and checksum belong
+ * to none. */
+static size_t parameter_of_role(const uint8_t *o, size_t place)
+{
+    if (place < 2 || place == o[1] + 2u)
+        return 0;
+    return second_begun(o, place + 1);
+}
+
 struct second_answer second_listen(const uint8_t *o, size_t n)
 {
-    struct second_answer a = {SECOND_WAITS, 0, 0, 0, n};
+    struct second_answer a = {SECOND_WAITS, 0, 0, 0, 0, n};
 
     for (size_t k = 0; k <= n; k++) {
         if (second_is_message(o, k)) {
@@ -327,6 +350,7 @@ struct second_answer second_listen(const uint8_t *o, size_t n)
             a.answer = SECOND_REFUSED;
             a.number = number_of_role(o, k - 1);
             a.place = k - 1;
+            a.parameter = parameter_of_role(o, k - 1);
             a.taken = k;
             break;
         }
@@ -338,11 +362,12 @@ struct second_answer second_listen(const uint8_t *o, size_t n)
 static struct second_verdict judge(const uint8_t *o, size_t n)
 {
     struct second_answer a = second_listen(o, n);
-    struct second_verdict v = {0, 0};
+    struct second_verdict v = {0, 0, 0};
 
     if (a.answer == SECOND_REFUSED) {
         v.number = a.number;
         v.place = a.place;
+        v.parameter = a.parameter;
     } else if (a.answer == SECOND_WAITS) {
         v.number = 8;
         v.place = n;
@@ -522,7 +547,7 @@ static void replace(struct second_desk *desk, long from, long to)
 struct second_verdict second_settle(struct second_desk *desk,
                                     const uint8_t *o, size_t n)
 {
-    struct second_verdict v = {17, 0};
+    struct second_verdict v = {17, 0, 0};
     struct parameter q;
 
     if (out_of_range(desk))
@@ -678,6 +703,7 @@ size_t second_listing(const uint8_t *o, size_t n, char *out)
     } else {
         put_number_line(&page, "refused", v.number);
         put_number_line(&page, "at", v.place);
+        put_number_line(&page, "in", v.parameter);
     }
     return page.n;
 }
@@ -719,7 +745,8 @@ struct second_part second_caption(const uint8_t *o, size_t n,
                                   const uint8_t *directory, size_t octets)
 {
     struct second_verdict v = judge(o, n);
-    struct second_part part = {v.number, v.place, SECOND_IN_MESSAGE, 0, 0};
+    struct second_part part = {v.number, v.place, v.parameter,
+                               SECOND_IN_MESSAGE, 0, 0};
     struct parameter q;
     int named;
 

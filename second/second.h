@@ -18,17 +18,23 @@ int second_is_message(const uint8_t *o, size_t n);
 /* 1 if some accepted message begins with o[0..n) and is longer than n. */
 int second_can_go_on(const uint8_t *o, size_t n);
 
+/* How many parameters begin among o[0..n), carried ones and repeats too: those
+ * whose type octet is there (02, Q-3). The octets are a message or begin one;
+ * the last may be the one that spoils it. */
+size_t second_begun(const uint8_t *o, size_t n);
+
 /* ---- "Listening" ---- */
 
 enum { SECOND_WAITS, SECOND_MESSAGE, SECOND_REFUSED };
 
 /* Fields without a meaning for the answer are 0. */
 struct second_answer {
-    int answer;      /* SECOND_WAITS, SECOND_MESSAGE or SECOND_REFUSED */
-    unsigned number; /* 1 to 6 when refused */
-    size_t place;    /* of the spoiling octet, counted from the reset */
-    size_t size;     /* of the message */
-    size_t taken;    /* octets taken since the reset, spoiling one included */
+    int answer;       /* SECOND_WAITS, SECOND_MESSAGE or SECOND_REFUSED */
+    unsigned number;  /* 1 to 6 when refused */
+    size_t place;     /* of the spoiling octet, counted from the reset */
+    size_t parameter; /* that it belongs to, from 1, or 0 (02, Q-3) */
+    size_t size;      /* of the message */
+    size_t taken;     /* octets taken since the reset, spoiling one included */
 };
 
 /* What a listener says that was offered o[0..n) since its reset. */
@@ -37,8 +43,9 @@ struct second_answer second_listen(const uint8_t *o, size_t n);
 /* ---- "Drafts" and the whole read ---- */
 
 struct second_verdict {
-    unsigned number; /* 0: not declined */
+    unsigned number;  /* 0: not declined */
     size_t place;
+    size_t parameter; /* at fault, from 1; 0 where it is none (02, Q-3) */
 };
 
 enum { SECOND_CODE, SECOND_DATE, SECOND_STATE, SECOND_TEXT, SECOND_CARRIED };
@@ -114,9 +121,10 @@ size_t second_listing(const uint8_t *o, size_t n, char *out);
 enum { SECOND_IN_MESSAGE, SECOND_IN_DIRECTORY };
 
 struct second_part {
-    unsigned number; /* 0, or 1 to 8 with the empty part at the start */
+    unsigned number;  /* 0, or 1 to 8 with the empty part at the start */
     size_t place;
-    int slice; /* SECOND_IN_MESSAGE or SECOND_IN_DIRECTORY */
+    size_t parameter; /* at fault, likewise */
+    int slice;        /* SECOND_IN_MESSAGE or SECOND_IN_DIRECTORY */
     size_t start;
     size_t length;
 };

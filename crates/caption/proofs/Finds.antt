@@ -17,7 +17,7 @@ use Rattle.rules.specs.Message.{Message, octets, LegalMessage, Accepts}
 use Rattle.rules.specs.Counting.{counted, Counts}
 use Rattle.rules.proofs.Counting.{counted-iff}
 use Rattle.rules.specs.declared.Fault.{Fault}
-use Rattle.rules.specs.Refusals.{noted}
+use Rattle.rules.specs.Refusals.{notedIn}
 use Rattle.rules.specs.Language.{languageOf}
 use Rattle.rules.proofs.Grammar.{spoken-of}
 use Rattle.message.specs.declared.Verdict.{Verdict}
@@ -49,11 +49,11 @@ use Rattle.caption.specs.Finds.{Shows, Captions, Finds}
 module _ (o d : List ℕ) (start : ℕ) (v : List ℕ) where
   message-shows : take (length v) (drop start o) ≡ v → Shows o d (InMessage start (length v)) 0 start v
   unfolding told sliceOf partText
-  message-shows e = record { number = refl; place = refl; side = refl; start = refl; size = refl; text = e }
+  message-shows e = record { number = refl; place = refl; parameter = refl; side = refl; start = refl; size = refl; text = e }
 
   directory-shows : take (length v) (drop start d) ≡ v → Shows o d (InDirectory start (length v)) 1 start v
   unfolding told sliceOf partText
-  directory-shows e = record { number = refl; place = refl; side = refl; start = refl; size = refl; text = e }
+  directory-shows e = record { number = refl; place = refl; parameter = refl; side = refl; start = refl; size = refl; text = e }
 
 module _ (book : Book) where
   -- ---- the caption of a message
@@ -197,8 +197,8 @@ module _ (book : Book) where
       verdict = v;
       judged = J;
       refused =
-          λ k p l. Iff·trans (told-refused _ k p l)
-          (Iff·trans (refused-of o d v (noted k p)) (Iff·symm (told-declined v k p l)));
+          λ k p b l. Iff·trans (told-refused _ k p b l)
+          (Iff·trans (refused-of o d v (notedIn k p b)) (Iff·symm (told-declined v k p b l)));
       numbers = numbers-of o d v (number-of J);
       inside = part-inside o d (rulesOf book);
       caption = captions-of;

@@ -51,7 +51,7 @@ captions-one R m d r s A B = by-name (counted R m 0x07) refl
     by-name (some v) k = let c = counted-iff R m 0x07 v .0 k in same (A .name v c) (B .name v c)
 
 module _ (R : Rules) (o d : List ℕ) where
-  -- what the one refuses, the other refuses with the same number and place
+  -- what the one refuses, the other refuses with the same number, place and parameter
   refused-too : (r s : Shown) → Finds R o d r → Finds R o d s → (f : Fault) → r ≡ Refused f → s ≡ Refused f
   refused-too r s A B f e =
       refused-iff B f (some-number A f e) .1

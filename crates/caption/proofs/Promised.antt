@@ -63,7 +63,7 @@ module _ (b : Book) (o d : List ℕ) where
         let e = sym (find-is r h) in
         (c .0 ∙ ap (λ (z : Shown). partText z o d) e, c .1 ∙ ap (λ (z : Shown). codeOf z x) e)
 
-    -- a code that is no side is found again exactly where `find` refuses, which then has number and place; the part
+    -- a code that is no side is found again exactly where `find` refuses, and tells which refusal; the part
     -- is empty
     pub code-kept : 2 ≤ x → (y ≡ x) ↔ ((f : Fault) × (r ≡ Refused f) × (p ≡ []))
     unfolding codeOf partText told sliceOf

@@ -1,4 +1,4 @@
--- Number and place tell a refusal of the caption finder, which has a number; it is the verdict's.
+-- Number, place and parameter tell a refusal of the caption finder, which has a number; it is the verdict's.
 -- Assumes nothing.
 use Prim.Native.Nat.{ℕ, _≤_}
 use mathlib.Core.Path.{_≡_, refl, ap, subst}
@@ -7,7 +7,7 @@ use mathlib.Core.List.{List}
 use native.Mathlib.Omega.{arith}
 use Rattle.rules.proofs.Tests.{clash}
 use Rattle.rules.specs.Table.{Rules}
-use Rattle.rules.specs.Refusals.{noted}
+use Rattle.rules.specs.Refusals.{notedIn}
 use Rattle.rules.specs.declared.Fault.{Fault}
 use Rattle.message.specs.declared.Verdict.the-variants.{Declined}
 use Rattle.message.proofs.Told.{told-declined}
@@ -19,13 +19,13 @@ use Rattle.caption.specs.Finds.{Finds}
 number-is : {s t : Told} → s ≡ t → s .number ≡ t .number
 number-is e = ap (λ (t : Told). t .number) e
 
-pub told-refused : (r : Shown) (k p : ℕ) → 1 ≤ k → (told r ≡ refusal k p) ↔ (r ≡ Refused (noted k p))
+pub told-refused : (r : Shown) (k p b : ℕ) → 1 ≤ k → (told r ≡ refusal k p b) ↔ (r ≡ Refused (notedIn k p b))
 unfolding told
-told-refused (InMessage start n) k p l = (λ e. absurd (omega (arith, number-is e)), λ e. clash cc)
-told-refused (InDirectory start n) k p l = (λ e. absurd (omega (arith, number-is e)), λ e. clash cc)
-told-refused (Refused f) k p l = (
-  λ e i. Refused (noted (e i .number) (e i .place)),
-  λ e. let d : f ≡ noted k p = cc in ap (λ (g : Fault). refusal (g .number) (g .place)) d,
+told-refused (InMessage start n) k p b l = (λ e. absurd (omega (arith, number-is e)), λ e. clash cc)
+told-refused (InDirectory start n) k p b l = (λ e. absurd (omega (arith, number-is e)), λ e. clash cc)
+told-refused (Refused f) k p b l = (
+  λ e i. Refused (notedIn (e i .number) (e i .place) (e i .parameter)),
+  λ e. let d : f ≡ notedIn k p b = cc in ap (λ (g : Fault). refusal (g .number) (g .place) (g .parameter)) d,
 )
 
 pub clear-of : (r : Shown) → ((f : Fault) → r ≡ Refused f → 1 ≤ f .number) → Clear r
@@ -39,8 +39,9 @@ module _ {R : Rules} {o d : List ℕ} {r : Shown} (x : Finds R o d r) where
 
   pub refused-iff : (f : Fault) → 1 ≤ f .number → (r ≡ Refused f) ↔ (x .verdict ≡ Declined f)
   refused-iff f l =
-      Iff·trans (Iff·symm (told-refused r (f .number) (f .place) l))
-      (Iff·trans (x .refused (f .number) (f .place) l) (told-declined (x .verdict) (f .number) (f .place) l))
+      Iff·trans (Iff·symm (told-refused r (f .number) (f .place) (f .parameter) l))
+      (Iff·trans (x .refused (f .number) (f .place) (f .parameter) l)
+      (told-declined (x .verdict) (f .number) (f .place) (f .parameter) l))
 
   -- a refusal is the verdict's
   pub declined-so : (f : Fault) → r ≡ Refused f → x .verdict ≡ Declined f

@@ -48,7 +48,7 @@ unfoldable pub byName : Rules → Part → List ℕ → List ℕ → Shown
 byName R (At start n) o d = InMessage start n
 byName R Nowhere o d = byCaller (countedAt R o 0x02) o d
 
--- octets that the whole read declines get its number and place
+-- octets that the whole read declines get its number, place and parameter
 unfoldable pub findUnder : Rules → Verdict → List ℕ → List ℕ → Shown
 findUnder R (Accepted n) o d = byName R (countedAt R o 0x07) o d
 findUnder R (Declined f) o d = Refused f

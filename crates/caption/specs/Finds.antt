@@ -27,6 +27,7 @@ use Rattle.message.specs.Places.{contentsAt}
 pub record Shows (o d : List ℕ) (r : Shown) (which at : ℕ) (v : List ℕ) : Type 0 where
   pub number : told r .number ≡ 0
   pub place : told r .place ≡ 0
+  pub parameter : told r .parameter ≡ 0
   pub side : told r .side ≡ which
   pub start : told r .start ≡ at
   pub size : told r .size ≡ length v
@@ -47,15 +48,15 @@ pub record Captions (R : Rules) (m : Message) (d : List ℕ) (r : Shown) : Type 
 
 -- the message's octets o and the directory d went in, and r came back
 pub record Finds (R : Rules) (o d : List ℕ) (r : Shown) : Type 0 where
-  -- number, place and part tell it
+  -- number, place, parameter and part tell it
   pub clear : Clear r
   -- number 0 exactly when the octets are a message
   pub done : (told r .number ≡ 0) ↔ Accepts R o
-  -- refused exactly as the whole read declines the octets, with its number and place, and with the empty part at the
-  -- message's start
+  -- refused exactly as the whole read declines the octets, with its number, place and parameter, and with the empty
+  -- part at the message's start
   pub verdict : Verdict
   pub judged : Judges (calls R) o verdict
-  pub refused : (k p : ℕ) → 1 ≤ k → (told r ≡ refusal k p) ↔ (message.told verdict ≡ message.refusal k p)
+  pub refused : (k p b : ℕ) → 1 ≤ k → (told r ≡ refusal k p b) ↔ (message.told verdict ≡ message.refusal k p b)
   -- no number but 1 to 8, and 10
   pub numbers : (told r .number ≡ 0) ⊎ T (verdictNumber (calls R) (told r .number))
   -- the part lies inside the slice that it names

@@ -12,9 +12,9 @@ use Rattle.rules.specs.Table.{ascii, rulesOf, classFault, rowIn, rowOf, listedI
 use Rattle.rules.specs.declared.Book.the-variants.{PresentLenient}
 use Rattle.rules.specs.Message.{messageKind}
 use Rattle.rules.specs.ContentJudge.{opens, tensFit, onesFit, pairAt, dayFits, calendarAt, calendarKeep, columnAt, judgeOf}
-use Rattle.rules.specs.Refusals.{noted}
+use Rattle.rules.specs.Refusals.{noted, notedIn}
 use Rattle.rules.specs.Machine.{step, run}
-use Rattle.rules.specs.Judge.{roomFits, rangePossible, somePossible, possible, final, fits, contents, after, fault, machine}
+use Rattle.rules.specs.Judge.{roomFits, rangePossible, somePossible, possible, final, fits, contents, after, fault, standsIn, machine}
 use Rattle.message.specs.Verdict.{judged, verdictOf}
 use Rattle.message.specs.Parts.{parameterAt, matched, searchFrom, countedAt}
 use Rattle.caption.specs.declared.Shown.the-variants.{InMessage, InDirectory, Refused}
@@ -54,9 +54,12 @@ pub record Claim : Type 0 where
   pub no-caller : findOf (rulesOf PresentLenient) callerless (ascii "7=A\n") ≡ InMessage 0 0
   pub wrong-kind : findOf (rulesOf PresentLenient) (0x81 ∷ []) (ascii "7=A\n") ≡ Refused (noted 1 0)
   pub too-short : findOf (rulesOf PresentLenient) [] [] ≡ Refused (noted 8 0)
+  -- a wrong octet in the second parameter, behind a carried one (document 02, Q-3)
+  pub second-wrong : findOf (rulesOf PresentLenient)
+      (0x80 ∷ 0x06 ∷ 0x05 ∷ 0x01 ∷ 0x00 ∷ 0x02 ∷ 0x01 ∷ 0x41 ∷ []) (ascii "7=A\n") ≡ Refused (notedIn 5 7 2)
 
 pub rows : Claim
-unfolding _≤?_ _=?_ _and_ _or_ pick checksum within inSet whole digit ascii rowIn rowOf listedIn listed classOf rivalOf typeFault rulesOf classFault someLength messageKind opens tensFit onesFit pairAt shortMonth days dayFits calendarAt calendarKeep columnAt judgeOf step run roomFits rangePossible somePossible possible final fits contents after fault machine judged verdictOf parameterAt matched searchFrom countedAt onFirst linesOf indexOf before behind pairwise names lookupFrom byEntry byCaller byName findUnder findOf
+unfolding _≤?_ _=?_ _and_ _or_ pick checksum within inSet whole digit ascii rowIn rowOf listedIn listed classOf rivalOf typeFault rulesOf classFault someLength messageKind opens tensFit onesFit pairAt shortMonth days dayFits calendarAt calendarKeep columnAt judgeOf step run roomFits rangePossible somePossible possible final fits contents after fault standsIn machine judged verdictOf parameterAt matched searchFrom countedAt onFirst linesOf indexOf before behind pairwise names lookupFrom byEntry byCaller byName findUnder findOf
 rows = record {
   first-line = refl;
   last-line = refl;
@@ -69,4 +72,5 @@ rows = record {
   no-caller = refl;
   wrong-kind = refl;
   too-short = refl;
+  second-wrong = refl;
 }

@@ -29,7 +29,7 @@ use Rattle.desk.specs.References.{absent, held}
 use Rattle.desk.specs.Holding.{Lowest, Added, Removed}
 use Rattle.desk.specs.Settles.{Notices, Settles}
 use Rattle.desk.proofs.Holding.{closed-of, open-of}
-use Rattle.desk.proofs.Told.{told-done, unfit-iff, refused-iff, full-iff, done-iff, some-number, number-of}
+use Rattle.desk.proofs.Told.{told-done, unfit-iff, refused-iff, full-iff, done-iff, some-number, number-of, noted-at}
 use Rattle.desk.proofs.Told.{refusal-leaves}
 use Rattle.desk.proofs.Counted.{waiting-octet, lamp-octet, identity-octets}
 
@@ -108,15 +108,19 @@ module _ (R : Rules) (d : Desk) (o : List ℕ) (r s : Outcome) (A : Settles R d 
       l : 1 ≤ f .number
       l = some-number A f e
 
-      at : (k : ℕ) → f .number ≡ k → Refused f ≡ Refused (noted k (f .place))
-      at k z = ap (λ (n : ℕ). Refused (noted n (f .place))) z
+      at : (k : ℕ) → f .number ≡ k → (k ≡ 17) ⊎ (k ≡ 21) → Refused f ≡ Refused (noted k (f .place))
+      at k z w = ap Refused (noted-at A f e k z w)
 
       go : T (verdictNumber (calls R) (f .number)) ⊎ ((f .number ≡ 17) ⊎ (f .number ≡ 21)) → s .answer ≡ Refused f
       go (inl t) =
           let x = refused-iff A f l t .0 e in
           refused-iff B f l t .1 (x .0, sym (judges-one (calls R) o _ _ (A .judged) (B .judged)) ∙ x .1)
-      go (inr (inl k)) = unfit-iff B (f .place) .1 (unfit-iff A (f .place) .0 (e ∙ at 17 k)) ∙ sym (at 17 k)
-      go (inr (inr k)) = full-iff B (f .place) .1 (full-iff A (f .place) .0 (e ∙ at 21 k)) ∙ sym (at 21 k)
+      go (inr (inl k)) =
+          let z = at 17 k (inl refl) in
+          unfit-iff B (f .place) .1 (unfit-iff A (f .place) .0 (e ∙ z)) ∙ sym z
+      go (inr (inr k)) =
+          let z = at 21 k (inr refl) in
+          full-iff B (f .place) .1 (full-iff A (f .place) .0 (e ∙ z)) ∙ sym z
 
 kinds : (x : ℕ) → T (messageKind x) → (x ≡ 0x80) ⊎ (x ≡ 0x82)
 unfolding messageKind

@@ -16,7 +16,7 @@ use Rattle.rules.specs.Table.{rulesOf}
 use Rattle.rules.specs.declared.Book.{Book}
 use Rattle.rules.specs.Message.{Message, octets, LegalMessage, Accepts}
 use Rattle.rules.specs.declared.Fault.{Fault}
-use Rattle.rules.specs.Refusals.{noted}
+use Rattle.rules.specs.Refusals.{noted, notedIn}
 use Rattle.rules.specs.Language.{languageOf}
 use Rattle.rules.proofs.Grammar.{spoken-of}
 use Rattle.message.specs.declared.Verdict.{Verdict}
@@ -36,7 +36,7 @@ use Rattle.desk.specs.Holding.{Fit}
 use Rattle.desk.proofs.Holding.{fit-of, of-fit}
 use Rattle.desk.proofs.Changes.{fit-after, as-many-after, room-again, same-again}
 use Rattle.desk.specs.Told.{Told, told, success, refusal, Clear}
-use Rattle.desk.proofs.Told.{number-is, place-is}
+use Rattle.desk.proofs.Told.{number-is, place-is, parameter-is}
 use Rattle.desk.specs.Settle as settle
 use Rattle.desk.specs.Settle.{refusedWith, waitingAfter, lampAfter, changeOf, noticed, countedIn, settledNotice, settledMessage, settledUnder, settleOf}
 use Rattle.desk.proofs.Counted.{small-change}
@@ -46,7 +46,7 @@ use Rattle.desk.proofs.Notice.{kind-of, notices, fills-of, of-fills}
 -- ---- the ways that settling goes
 -- what an outcome tells
 told-refusal : (f : Fault) (d : Desk) (r : Outcome) → r ≡ settle.refused f d →
-    told (r .answer) ≡ refusal (f .number) (f .place)
+    told (r .answer) ≡ refusal (f .number) (f .place) (f .parameter)
 unfolding told
 told-refusal f d r e = ap (λ (x : Outcome). told (x .answer)) e
 
@@ -56,6 +56,10 @@ told-success r e = ap told e
 
 clear-refusal : (f : Fault) (d : Desk) (r : Outcome) → r ≡ settle.refused f d → 1 ≤ f .number → Clear (r .answer)
 clear-refusal f d r e l = subst (λ (x : Outcome). Clear (x .answer)) (sym e) l
+
+above : (k : ℕ) → k ≤ 10 → (k ≡ 17) ⊎ (k ≡ 21) → ⊥
+above k h (inl e) = omega arith
+above k h (inr e) = omega arith
 
 abbrev fault : ℕ → Fault
 fault n = noted n 0
@@ -132,16 +136,17 @@ module _ (book : Book) where
           record {
             clear = clear-refusal (fault 17) d r e (omega arith);
             seventeen =
-                λ p. (λ x. (place-is (sym x ∙ a), n), λ x. a ∙ ap (λ (i : ℕ). refusal 17 i) (sym (x .0)));
+                λ p. (λ x. (place-is (sym x ∙ a), n), λ x. a ∙ ap (λ (i : ℕ). refusal 17 i 0) (sym (x .0)));
             verdict = v;
             judged = J;
             refused =
-                λ i p l. (
+                λ i p b l. (
                   λ x. absurd (omega (arith, told-small (spoken-of book) _ l .1, number-is (sym x ∙ a))),
                   λ x. absurd (n (x .0)),
                 );
             full = λ p. (λ x. absurd (omega (arith, number-is (sym x ∙ a))), λ x. absurd (n (x .1)));
             done = (λ x. absurd (omega (arith, number-is (sym x ∙ a))), λ x. absurd (n (x .0)));
+            no-parameter = λ _. parameter-is a;
             numbers = λ _. inr (inl (number-is a));
             refusal-stays = λ _. k;
             call-stays = λ m l x c. k;
@@ -165,16 +170,16 @@ module _ (book : Book) where
           let b = told-small (spoken-of book) _ t in
           let none : (x : Accepts (rulesOf book) o) → ⊥ =
           λ x. no-verdict _ _ (sym (accepted-iff J (length o) .1 (refl, x)) ∙ c) in
-          let g = told-declined v (f .number) (f .place) (b .0) .1 c in
+          let g = told-declined v (f .number) (f .place) (f .parameter) (b .0) .1 c in
           record {
             clear = clear-refusal f d r e (b .0);
             seventeen = λ p. (λ x. absurd (omega (arith, b .1, number-is (sym x ∙ a))), λ x. absurd (x .1 w));
             verdict = v;
             judged = J;
             refused =
-                λ i p l. (
-                  λ x. (w, g ∙ ap (λ (z : Told). message.refusal (z .number) (z .place)) (sym a ∙ x)),
-                  λ x. a ∙ ap (λ (z : message.Told). refusal (z .number) (z .place)) (sym g ∙ x .1),
+                λ i p b l. (
+                  λ x. (w, g ∙ ap (λ (z : Told). message.refusal (z .number) (z .place) (z .parameter)) (sym a ∙ x)),
+                  λ x. a ∙ ap (λ (z : message.Told). refusal (z .number) (z .place) (z .parameter)) (sym g ∙ x .1),
                 );
             full =
                 λ p. (
@@ -183,6 +188,7 @@ module _ (book : Book) where
                       (none (x .2 .m, x .2 .legal, x .2 .is)),
                 );
             done = (λ x. absurd (omega (arith, b .0, number-is (sym x ∙ a))), λ x. absurd (none (x .1)));
+            no-parameter = λ z. absurd (above _ (b .1) (subst (λ (j : ℕ). (j ≡ 17) ⊎ (j ≡ 21)) (number-is a) z));
             numbers = λ _. inl (subst (λ (k : ℕ). T (verdictNumber (languageOf book) k)) (sym (number-is a)) t);
             refusal-stays = λ _. k;
             call-stays = λ m l x y. k;
@@ -199,10 +205,11 @@ module _ (book : Book) where
         accepts : Accepts (rulesOf book) o
         accepts = accepted-iff J n .0 c .1
 
-        not-declined : (k p : ℕ) → T (verdictNumber (languageOf book) k) → message.told v ≡ message.refusal k p → ⊥
-        not-declined k p l x =
-            let y : Accepted n ≡ Declined (noted k p) =
-            sym c ∙ told-declined v k p (told-small (spoken-of book) _ l .0) .0 x in
+        not-declined : (k p b : ℕ) → T (verdictNumber (languageOf book) k) →
+            message.told v ≡ message.refusal k p b → ⊥
+        not-declined k p b l x =
+            let y : Accepted n ≡ Declined (notedIn k p b) =
+            sym c ∙ told-declined v k p b (told-small (spoken-of book) _ l .0) .0 x in
             clash cc
 
         kind-here : (m : Message) → octets m ≡ o → getD o 0 0 ≡ m .kind
@@ -221,16 +228,17 @@ module _ (book : Book) where
               verdict = v;
               judged = J;
               refused =
-                  λ i p l. (
+                  λ i p b l. (
                     λ x. absurd (omega (arith, told-small (spoken-of book) _ l .1, number-is (sym x ∙ a))),
-                    λ x. absurd (not-declined i p l (x .1)),
+                    λ x. absurd (not-declined i p b l (x .1)),
                   );
               full =
                   λ p. (
                     λ x. (place-is (sym x ∙ a), w, f),
-                    λ x. a ∙ ap (λ (i : ℕ). refusal 21 i) (sym (x .0)),
+                    λ x. a ∙ ap (λ (i : ℕ). refusal 21 i 0) (sym (x .0)),
                   );
               done = (λ x. absurd (omega (arith, number-is (sym x ∙ a))), λ x. absurd (x .2 f));
+              no-parameter = λ _. parameter-is a;
               numbers = λ _. inr (inr (number-is a));
               refusal-stays = λ _. k;
               call-stays = λ m l x z. k;
@@ -253,12 +261,13 @@ module _ (book : Book) where
               verdict = v;
               judged = J;
               refused =
-                  λ i p l. (
+                  λ i p b l. (
                     λ x. absurd (omega (arith, told-small (spoken-of book) _ l .0, number-is (sym a ∙ x))),
-                    λ x. absurd (not-declined i p l (x .1)),
+                    λ x. absurd (not-declined i p b l (x .1)),
                   );
               full = λ p. (λ x. absurd (omega (arith, number-is (sym a ∙ x))), λ x. absurd (f (x .2)));
               done = (λ x. (w, accepts, f), λ x. a);
+              no-parameter = λ _. parameter-is a;
               numbers = λ l. absurd (omega (arith, l, number-is a));
               refusal-stays = λ l. absurd (omega (arith, l, number-is a));
               call-stays = λ m l x b. k (kind-here m x ∙ b);

@@ -13,8 +13,8 @@ use Rattle.rules.specs.declared.Book.the-variants.{PresentLenient}
 use Rattle.rules.specs.Message.{messageKind}
 use Rattle.rules.specs.ContentJudge.{opens, tensFit, onesFit, pairAt, dayFits, calendarAt, calendarKeep, columnAt, judgeOf}
 use Rattle.rules.specs.Machine.{step, run}
-use Rattle.rules.specs.Judge.{roomFits, rangePossible, somePossible, possible, final, fits, contents, after, fault, machine}
-use Rattle.rules.specs.Refusals.{noted}
+use Rattle.rules.specs.Judge.{roomFits, rangePossible, somePossible, possible, final, fits, contents, after, fault, standsIn, machine}
+use Rattle.rules.specs.Refusals.{noted, notedIn}
 use Rattle.message.specs.Verdict.{judged, verdictOf}
 use Rattle.message.specs.Parts.{parameterAt, matched, searchFrom, countedAt, partOf}
 use Rattle.desk.specs.declared.Waiting.{Waiting}
@@ -69,6 +69,10 @@ pub record Claim : Type 0 where
       refused 6 5 newDesk
   pub followed : settleOf (rulesOf PresentLenient) newDesk (0x82 ∷ 0x03 ∷ 0x0B ∷ 0x01 ∷ 0xFF ∷ 0x70 ∷ 0x00 ∷ []) ≡
       refused 7 6 newDesk
+  -- a wrong code in the second parameter, behind a carried one (document 02, Q-3)
+  pub second-wrong : settleOf (rulesOf PresentLenient) newDesk
+      (0x82 ∷ 0x06 ∷ 0x05 ∷ 0x01 ∷ 0x00 ∷ 0x0B ∷ 0x01 ∷ 0x41 ∷ []) ≡
+      record { desk = newDesk; answer = Refused (notedIn 5 7 2) }
   pub reference-added : settleOf (rulesOf PresentLenient) newDesk
       (0x82 ∷ 0x05 ∷ 0x0D ∷ 0x03 ∷ 0xFF ∷ 0x01 ∷ 0x02 ∷ 0x67 ∷ []) ≡ settled (holding (held 0x102 ∷ replicate 15 free))
   pub reference-there : settleOf (rulesOf PresentLenient) (holding (held 0x102 ∷ replicate 15 free))
@@ -98,7 +102,7 @@ pub record Claim : Type 0 where
       (0x82 ∷ 0x05 ∷ 0x0D ∷ 0x03 ∷ 0x00 ∷ 0xFF ∷ 0xFF ∷ 0x6B ∷ []) ≡ settled newDesk
 
 pub rows : Claim
-unfolding _≤?_ _=?_ _and_ _or_ pick checksum within inSet whole digit rowIn rowOf listedIn listed classOf rivalOf typeFault rulesOf classFault someLength messageKind opens tensFit onesFit pairAt shortMonth days dayFits calendarAt calendarKeep columnAt judgeOf step run roomFits rangePossible somePossible possible final fits contents after fault machine judged verdictOf parameterAt matched searchFrom countedAt partOf waitingAfter lampAfter changeIn changeOf noticed countedIn settledNotice settledMessage settledUnder refusedWith settleOf placeWith absent mayStand placesFit changeBy isFull placesAfter
+unfolding _≤?_ _=?_ _and_ _or_ pick checksum within inSet whole digit rowIn rowOf listedIn listed classOf rivalOf typeFault rulesOf classFault someLength messageKind opens tensFit onesFit pairAt shortMonth days dayFits calendarAt calendarKeep columnAt judgeOf step run roomFits rangePossible somePossible possible final fits contents after fault standsIn machine judged verdictOf parameterAt matched searchFrom countedAt partOf waitingAfter lampAfter changeIn changeOf noticed countedIn settledNotice settledMessage settledUnder refusedWith settleOf placeWith absent mayStand placesFit changeBy isFull placesAfter
 rows = record {
   lamp-on = refl;
   lamp-off = refl;
@@ -109,6 +113,7 @@ rows = record {
   wrong-kind = refl;
   wrong-sum = refl;
   followed = refl;
+  second-wrong = refl;
   reference-added = refl;
   reference-there = refl;
   lowest-free = refl;

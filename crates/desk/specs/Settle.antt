@@ -76,7 +76,7 @@ countedIn R o t = partOf o (countedAt R o t)
 unfoldable pub settledMessage : Rules → List ℕ → Desk → Outcome
 settledMessage R o d = pick (getD o 0 0 =? 0x82) (settledNotice (countedIn R o) d) (done d)
 
--- octets that the whole read declines get its number and place, and leave the desk as it was
+-- octets that the whole read declines get its number, place and parameter, and leave the desk as it was
 unfoldable pub settledUnder : Rules → Verdict → List ℕ → Desk → Outcome
 settledUnder R (Accepted n) o d = settledMessage R o d
 settledUnder R (Declined f) o d = refused f d

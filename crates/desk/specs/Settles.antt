@@ -53,17 +53,21 @@ pub record Fills (R : Rules) (ps o : List ℕ) : Type 0 where
 
 -- the desk d and the octets o went in, and r came back
 pub record Settles (R : Rules) (d : Desk) (o : List ℕ) (r : Outcome) : Type 0 where
-  -- number and place tell the answer
+  -- number, place and parameter tell the answer
   pub clear : Clear (r .answer)
   -- 17 exactly for a desk with a place out of range or a reference twice
-  pub seventeen : (p : ℕ) → (told (r .answer) ≡ refusal 17 p) ↔ ((p ≡ 0) × (Fit (d .places) → ⊥))
-  -- else 1 to 8 and 10 exactly as the whole read declines the octets, with its number and place
+  pub seventeen : (p : ℕ) → (told (r .answer) ≡ refusal 17 p 0) ↔ ((p ≡ 0) × (Fit (d .places) → ⊥))
+  -- else 1 to 8 and 10 exactly as the whole read declines the octets, with its number, place and parameter
   pub verdict : Verdict
   pub judged : Judges (calls R) o verdict
-  pub refused : (k p : ℕ) → T (verdictNumber (calls R) k) →
-      (told (r .answer) ≡ refusal k p) ↔ (Fit (d .places) × (message.told verdict ≡ message.refusal k p))
+  pub refused : (k p b : ℕ) → T (verdictNumber (calls R) k) →
+      (told (r .answer) ≡ refusal k p b) ↔ (Fit (d .places) × (message.told verdict ≡ message.refusal k p b))
   -- else 21 exactly where a reference to be added has no place
-  pub full : (p : ℕ) → (told (r .answer) ≡ refusal 21 p) ↔ ((p ≡ 0) × Fit (d .places) × Fills R (d .places) o)
+  pub full : (p : ℕ) → (told (r .answer) ≡ refusal 21 p 0) ↔ ((p ≡ 0) × Fit (d .places) × Fills R (d .places) o)
+  -- 17 and 21 name no parameter
+  pub no-parameter :
+      let k = told (r .answer) .number in
+      (k ≡ 17) ⊎ (k ≡ 21) → told (r .answer) .parameter ≡ 0
   -- else done
   pub done : (told (r .answer) ≡ success) ↔ (Fit (d .places) × Accepts R o × (Fills R (d .places) o → ⊥))
   -- no other number

@@ -65,6 +65,7 @@ fields-laid f e =
       memory = f .memory;
       room = f .room;
       number = f .number;
+      parameter = f .parameter;
       spare = sym e i;
     }
 
@@ -140,8 +141,8 @@ fifth n h a b = omega arith
 
 same-fields : (f g : Fields) → f .stage ≡ g .stage → f .sum ≡ g .sum → f .place ≡ g .place → f .class ≡ g .class →
     f .length ≡ g .length → f .index ≡ g .index → f .memory ≡ g .memory → f .room ≡ g .room → f .number ≡ g .number →
-    f .spare ≡ g .spare → f ≡ g
-same-fields f g a b c d e h m r n s =
+    f .parameter ≡ g .parameter → f .spare ≡ g .spare → f ≡ g
+same-fields f g a b c d e h m r n p s =
     λ i. record {
       stage = a i;
       sum = b i;
@@ -152,6 +153,7 @@ same-fields f g a b c d e h m r n s =
       memory = m i;
       room = r i;
       number = n i;
+      parameter = p i;
       spare = s i;
     }
 
@@ -168,17 +170,17 @@ module _ (f : Fields) (l : Listener) where
       picked-by Back _ _ _ _ e
       (λ t e. let k = eq-of _ _ t in let n = known-is _ _ l e in
       rw (n .1) (same-fields _ f (omega arith) refl refl (omega arith) (omega arith) (omega arith) (omega arith)
-      (omega arith) (omega arith) (omega arith)))
+      (omega arith) (omega arith) refl (omega arith)))
       (λ a e.
       picked-by Back _ _ _ _ e
       (λ t e. let k = eq-of _ _ t in let n = known-is _ _ l e in
       rw (n .1) (same-fields _ f (omega arith) refl refl (omega arith) (omega arith) (omega arith) (omega arith)
-      (omega arith) (omega arith) (omega arith)))
+      (omega arith) (omega arith) refl (omega arith)))
       (λ b e.
       let s : f .stage ≡ 2 = third (f .stage) h (λ k. a (of-eq _ _ k)) (λ k. b (of-eq _ _ k)) in
       let n = known-is _ _ l e in
       rw (n .1) (same-fields _ f (omega arith) refl refl (omega arith) (omega arith) (omega arith) (omega arith)
-      refl (omega arith) (omega arith))))
+      refl (omega arith) refl (omega arith))))
 
   parameter-back : f .stage ≤ 4 → (f .stage ≤ 2 → ⊥) →
       parameterState (f .stage) (spotOf f) (f .class) (f .length) (f .index) (f .memory) (f .room)
@@ -191,26 +193,26 @@ module _ (f : Fields) (l : Listener) where
       picked-by Back _ _ _ _ e
       (λ t e. let k = eq-of _ _ t in let n = known-is _ _ l e in
       rw (n .1) (same-fields _ f (omega arith) refl refl c (omega arith) (omega arith) (omega arith) refl
-      (omega arith) (omega arith)))
+      (omega arith) refl (omega arith)))
       (λ b e.
       let s : f .stage ≡ 4 = fifth (f .stage) h g (λ k. b (of-eq _ _ k)) in
       let n = known-is _ _ l e in
-      rw (n .1) (same-fields _ f (omega arith) refl refl c refl refl refl refl (omega arith) (omega arith))))
+      rw (n .1) (same-fields _ f (omega arith) refl refl c refl refl refl refl (omega arith) refl (omega arith))))
       (λ _ e. absurd (unknown-not l e))
 
-  ended-back : endedOf (f .stage) (f .place) (f .number)
+  ended-back : endedOf (f .stage) (f .place) (f .number) (f .parameter)
       (f .class + f .length + f .index + f .memory + f .sum + f .room + f .spare) ≡ Known l → Back
   unfolding endedOf fieldsFor fieldsEnded
   ended-back e =
       picked-by Back _ _ _ _ e
       (λ t e. let k = eq-of _ _ t in let n = known-is _ _ l e in
       rw (n .1) (same-fields _ f (omega arith) (omega arith) refl (omega arith) (omega arith) (omega arith)
-      (omega arith) (omega arith) (omega arith) (omega arith)))
+      (omega arith) (omega arith) (omega arith) (omega arith) (omega arith)))
       (λ _ e.
       picked-by Back _ _ _ _ e
       (λ t e. let k = eq-of _ _ t in let n = known-is _ _ l e in
       rw (n .1) (same-fields _ f (omega arith) (omega arith) refl (omega arith) (omega arith) (omega arith)
-      (omega arith) (omega arith) refl (omega arith)))
+      (omega arith) (omega arith) refl refl (omega arith)))
       (λ _ e. absurd (unknown-not l e)))
 
   fields-state : stateOf f ≡ Known l → Back
@@ -243,13 +245,12 @@ laid-fields (a0 ∷ a1 ∷ a2 ∷ a3 ∷ a4 ∷ a5 ∷ a6 ∷ a7 ∷ a8 ∷ a9 �
 laid-fields (a0 ∷ a1 ∷ a2 ∷ a3 ∷ a4 ∷ a5 ∷ a6 ∷ a7 ∷ a8 ∷ a9 ∷ a10 ∷ a11 ∷ a12 ∷ a13 ∷ a14 ∷ a15 ∷ []) n o e =
     let p : (a2 + 256 * a3) % 256 ≡ a2 = omega (arith, o .1 .1 .0) in
     let q : (a2 + 256 * a3) / 256 ≡ a3 = omega (arith, o .1 .1 .0) in
-    let z10 : 0 ≡ a10 = omega arith in
     let z11 : 0 ≡ a11 = omega arith in
     let z12 : 0 ≡ a12 = omega arith in
     let z13 : 0 ≡ a13 = omega arith in
     let z14 : 0 ≡ a14 = omega arith in
     let z15 : 0 ≡ a15 = omega arith in
-    λ i. a0 ∷ a1 ∷ p i ∷ q i ∷ a4 ∷ a5 ∷ a6 ∷ a7 ∷ a8 ∷ a9 ∷ z10 i ∷ z11 i ∷ z12 i ∷ z13 i ∷ z14 i ∷ z15 i ∷ []
+    λ i. a0 ∷ a1 ∷ p i ∷ q i ∷ a4 ∷ a5 ∷ a6 ∷ a7 ∷ a8 ∷ a9 ∷ a10 ∷ z11 i ∷ z12 i ∷ z13 i ∷ z14 i ∷ z15 i ∷ []
 
 pub encode-decode : (c : List ℕ) (l : Listener) → Octets c → decodeOf c ≡ Known l → recordOf l ≡ c
 unfolding recordOf decodeOf

@@ -36,7 +36,8 @@ module _ (c o : List ℕ) (got : Decoded) (p : got ≡ decodeOf c) where
   unknown-answers r q g = let e : decodeOf c ≡ Unknown = sym p ∙ q in (rw e g, rw e)
 
 pub heard-word : (l : Listener) (o : List ℕ) (h : Heard) (w : ℕ) → h ≡ heardOf l o →
-    w ≡ packed (told (h .answer) .number) (told (h .answer) .place) (told (h .answer) .size) (h .taken) →
+    w ≡ packed (told (h .answer) .number) (told (h .answer) .place) (told (h .answer) .parameter)
+    (told (h .answer) .size) (h .taken) →
     _≡_ {A = HeardWord} (record { listener = h .listener; word = w }) (heardWordOf l o)
 unfolding heardWordOf wordOf
 heard-word l o h w e f = rw (f, e)

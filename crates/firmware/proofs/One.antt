@@ -31,7 +31,7 @@ use Rattle.desk.proofs.One.{settles-one}
 use Rattle.caption.specs.declared.Shown.{Shown}
 use Rattle.caption.specs.Told as caption
 use Rattle.caption.proofs.One.{finds-one}
-use Rattle.firmware.specs.Word.{packed, wordNumber, wordPlace, wordSize, wordTaken, Unpacked, Seventeen}
+use Rattle.firmware.specs.Word.{packed, wordNumber, wordPlace, wordParameter, wordSize, wordTaken, Unpacked, Seventeen}
 use Rattle.firmware.specs.DraftRecord.{draftRecord}
 use Rattle.firmware.specs.DeskRecord.{deskRecord}
 use Rattle.firmware.specs.PartRecord.{partRecord}
@@ -45,33 +45,34 @@ positive : (k : ℕ) → (T (k =? 0) → ⊥) → 1 ≤ k
 positive k n = let z : k ≡ 0 → ⊥ = λ e. n (of-eq _ _ e) in omega arith
 
 -- words of the same fields are one
-words-one : (k p n t w v : ℕ) → Unpacked k p n t w → Unpacked k p n t v → w ≡ v
-words-one k p n t w v a b = a .whole ∙ sym (b .whole)
+words-one : (k p q n t w v : ℕ) → Unpacked k p q n t w → Unpacked k p q n t v → w ≡ v
+words-one k p q n t w v a b = a .whole ∙ sym (b .whole)
 
 -- 17 is one word, and the record as it was
 pub seventeen-one : (c : List ℕ) (w : ℕ) (d : List ℕ) (v : ℕ) (e : List ℕ) → Seventeen c w d → Seventeen c v e →
     (w ≡ v) × (d ≡ e)
-seventeen-one c w d v e a b = (words-one 17 0 0 0 w v (a .word) (b .word), a .cells ∙ sym (b .cells))
+seventeen-one c w d v e a b = (words-one 17 0 0 0 0 w v (a .word) (b .word), a .cells ∙ sym (b .cells))
 
 -- hearing
 pub record-hears-one : (L : Language) (h o : List ℕ) (w v : ℕ) → RecordHears L h o w → RecordHears L h o v → w ≡ v
 record-hears-one L h o w v A B = go (decide (wordNumber w =? 0)) (decide (wordSize w =? 0))
   where
-    same : wordNumber w ≡ wordNumber v → wordPlace w ≡ wordPlace v → wordSize w ≡ wordSize v →
-        wordTaken w ≡ wordTaken v → w ≡ v
-    same a b c d = A .whole ∙ (λ i. packed (a i) (b i) (c i) (d i)) ∙ sym (B .whole)
+    same : wordNumber w ≡ wordNumber v → wordPlace w ≡ wordPlace v → wordParameter w ≡ wordParameter v →
+        wordSize w ≡ wordSize v → wordTaken w ≡ wordTaken v → w ≡ v
+    same a b q c d = A .whole ∙ (λ i. packed (a i) (b i) (q i) (c i) (d i)) ∙ sym (B .whole)
 
     waiting : wordNumber w ≡ 0 → wordSize w ≡ 0 → w ≡ v
     waiting a b =
         let x = B .waits .1 (A .waits .0 (a, b)) in
-        same (a ∙ sym (x .0)) (A .no-place a ∙ sym (B .no-place (x .0))) (b ∙ sym (x .1))
+        same (a ∙ sym (x .0)) (A .no-place a ∙ sym (B .no-place (x .0)))
+        (A .no-parameter a ∙ sym (B .no-parameter (x .0))) (b ∙ sym (x .1))
         (A .taken-waiting a b ∙ sym (B .taken-waiting (x .0) (x .1)))
 
     heard : wordNumber w ≡ 0 → 1 ≤ wordSize w → w ≡ v
     heard a b =
         let x : wordSize v ≡ wordSize w = B .has-message (wordSize w) b .1 (A .has-message (wordSize w) b .0 refl) in
         let y : wordNumber v ≡ 0 = no-number (decide (wordNumber v =? 0)) x in
-        same (a ∙ sym y) (A .no-place a ∙ sym (B .no-place y)) (sym x)
+        same (a ∙ sym y) (A .no-place a ∙ sym (B .no-place y)) (A .no-parameter a ∙ sym (B .no-parameter y)) (sym x)
         (omega (arith, A .taken-message (wordSize w) b refl, B .taken-message (wordSize w) b x))
       where
         no-number : T (wordNumber v =? 0) ⊎ (T (wordNumber v =? 0) → ⊥) → wordSize v ≡ wordSize w → wordNumber v ≡ 0
@@ -82,9 +83,10 @@ record-hears-one L h o w v A B = go (decide (wordNumber w =? 0)) (decide (wordSi
     refused a =
         let k = wordNumber w in
         let p = wordPlace w in
-        let x = B .refuses k p a .1 (A .refuses k p a .0 (refl, refl)) in
+        let q = wordParameter w in
+        let x = B .refuses k p q a .1 (A .refuses k p q a .0 (refl, refl, refl)) in
         let b : 1 ≤ wordNumber v = omega (arith, x .0) in
-        same (sym (x .0)) (sym (x .1)) (A .no-size a ∙ sym (B .no-size b))
+        same (sym (x .0)) (sym (x .1)) (sym (x .2)) (A .no-size a ∙ sym (B .no-size b))
         (omega (arith, A .taken-refused a, B .taken-refused b, x .1))
 
     go : T (wordNumber w =? 0) ⊎ (T (wordNumber w =? 0) → ⊥) → T (wordSize w =? 0) ⊎ (T (wordSize w =? 0) → ⊥) → w ≡ v
@@ -98,7 +100,8 @@ pub record-reads-one : (o c t : List ℕ) (w : ℕ) (c' t' : List ℕ) (v : ℕ)
 record-reads-one o c t w c' t' v d u A B =
     let e = reads-one (rulesOf PresentLenient) o t (A .reading) t' (B .reading) u (A .reads) (B .reads) in
     let a = ap (λ (r : Reading). r .answer) (e .0) in (
-      A .word .whole ∙ (λ i. packed (reader.told (a i) .number) (reader.told (a i) .place) (reader.told (a i) .size) 0)
+      A .word .whole ∙ (λ i. packed (reader.told (a i) .number) (reader.told (a i) .place) (reader.told (a i) .parameter)
+          (reader.told (a i) .size) 0)
           ∙ sym (B .word .whole),
       cells (e .0) (decide (reader.told (A .reading .answer) .number =? 0)),
       e .1,
@@ -120,7 +123,8 @@ pub record-settles-one : (d : Desk) (o : List ℕ) (w : ℕ) (c : List ℕ) (v :
     RecordSettles d o w c → RecordSettles d o v e → (w ≡ v) × (c ≡ e)
 record-settles-one d o w c v e A B =
     let x = settles-one PresentLenient d o (A .outcome) (B .outcome) (A .settles) (B .settles) in (
-      A .word .whole ∙ (λ i. packed (desk.told (x i .answer) .number) (desk.told (x i .answer) .place) 0 0)
+      A .word .whole ∙ (λ i. packed (desk.told (x i .answer) .number) (desk.told (x i .answer) .place)
+          (desk.told (x i .answer) .parameter) 0 0)
           ∙ sym (B .word .whole),
       A .cells ∙ ap (λ (r : Outcome). deskRecord (r .desk)) x ∙ sym (B .cells),
     )
@@ -132,10 +136,10 @@ record-counts-one o t w v A B = go (A .verdict) refl
   where
     of-message : (a : Accepts (rulesOf PresentLenient) o) (x : Option (List ℕ)) →
         counted (rulesOf PresentLenient) (a .0) t ≡ x → w ≡ v
-    of-message (m, l, e) none z = words-one 0 0 0 0 w v (A .none-counts m l e z) (B .none-counts m l e z)
+    of-message (m, l, e) none z = words-one 0 0 0 0 0 w v (A .none-counts m l e z) (B .none-counts m l e z)
     of-message (m, l, e) (some y) z =
         let c = counted-iff (rulesOf PresentLenient) m t y .0 z in
-        words-one _ _ _ _ w v (A .counts m l e y c) (B .counts m l e y c)
+        words-one _ _ _ _ _ w v (A .counts m l e y c) (B .counts m l e y c)
 
     go : (x : Verdict) → A .verdict ≡ x → w ≡ v
     go (Accepted n) e = of-message (accepted-iff (A .judged) n .0 e .1) _ refl
@@ -143,15 +147,15 @@ record-counts-one o t w v A B = go (A .verdict) refl
         let k = judges-one (languageOf PresentLenient) o _ _ (A .judged) (B .judged) in
         let l : 1 ≤ message.told (A .verdict) .number =
         subst (λ (x : Verdict). 1 ≤ message.told x .number) (sym e) (some-number (A .judged) f e) in
-        words-one _ _ _ _ w v (A .refused l)
-        (subst (λ (x : Verdict). Unpacked (message.told x .number) (message.told x .place) 0 0 v) (sym k)
+        words-one _ _ _ _ _ w v (A .refused l)
+        (subst (λ (x : Verdict). Unpacked (message.told x .number) (message.told x .place) (message.told x .parameter) 0 0 v) (sym k)
         (B .refused (subst (λ (x : Verdict). 1 ≤ message.told x .number) k l)))
 
 -- the caption
 pub record-finds-one : (o d c : List ℕ) (w : ℕ) (c' : List ℕ) (v : ℕ) (e : List ℕ) → RecordFinds o d c w c' →
     RecordFinds o d c v e → (w ≡ v) × (c' ≡ e)
 record-finds-one o d c w c' v e A B = (
-  A .word .whole ∙ (λ i. packed (caption.told (x i) .number) (caption.told (x i) .place) 0 0)
+  A .word .whole ∙ (λ i. packed (caption.told (x i) .number) (caption.told (x i) .place) (caption.told (x i) .parameter) 0 0)
       ∙ sym (B .word .whole),
   cells (decide (caption.told (A .found) .number =? 0)),
 )

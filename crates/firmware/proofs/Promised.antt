@@ -16,7 +16,7 @@ use Rattle.desk.specs.Settle.{newDesk}
 use Rattle.desk.specs.History.{OpenBy}
 use Rattle.firmware.specs.Record.{recordOf}
 use Rattle.firmware.specs.DeskRecord.{isRecord, deskIn}
-use Rattle.firmware.specs.Word.{packed, wordNumber, wordPlace, wordSize, wordTaken, Unpacked, Seventeen}
+use Rattle.firmware.specs.Word.{packed, wordNumber, wordPlace, wordParameter, wordSize, wordTaken, Unpacked, Seventeen}
 use Rattle.firmware.specs.Exports.{resetAnswer, resetRecord, wordOf, listenAnswer, listenRecord, readAnswer, readRecord, readTexts, newDeskAnswer, newDeskRecord, settleAnswer, settleRecord, countedAnswer, captionAnswer, captionRecord}
 use Rattle.firmware.specs.RecordHears.{SameEnd, RecordHears, Sound}
 use Rattle.firmware.specs.RecordReads.{RecordReads}
@@ -80,7 +80,7 @@ module _ (c : List ℕ) (w : ℕ) (c' : List ℕ) (h : reset-gives c w c') where
   reset-cells = sym (h .5) ∙ h .3 .1 ∙ (λ i. resetRecord (h .4 i))
 
   -- a record of 16 octets is that of a new listener, whatever it held; any other is 17, and stays
-  pub reset-is-new : length c ≡ listenerSize → Unpacked 0 0 0 0 w × (c' ≡ recordOf (newListener PresentLenient))
+  pub reset-is-new : length c ≡ listenerSize → Unpacked 0 0 0 0 0 w × (c' ≡ recordOf (newListener PresentLenient))
   reset-is-new n = hears.reset-new c w c' reset-word reset-cells n
 
   pub reset-seventeen : (length c ≡ listenerSize → ⊥) → Seventeen c w c'
@@ -102,9 +102,9 @@ module _ (c o : List ℕ) (w : ℕ) (c' : List ℕ) (h : listen-gives c o w c') 
   pub numbers : Sound c → Octets o → wordNumber w ≤ 6
   numbers s q = hears.sound-number c s o q w listen-word
 
-  -- its word has number, place, size and octets taken, and nothing else
-  pub sound-word : Sound c → Octets o → (k : ℕ) × (p : ℕ) × (n : ℕ) × (t : ℕ) × Unpacked k p n t w
-  sound-word s q = (_, _, _, _, hears.sound-fields c s o q w listen-word)
+  -- its word has number, place, parameter, size and octets taken, and nothing else
+  pub sound-word : Sound c → Octets o → (k : ℕ) × (p : ℕ) × (b : ℕ) × (n : ℕ) × (t : ℕ) × Unpacked k p b n t w
+  sound-word s q = (_, _, _, _, _, hears.sound-fields c s o q w listen-word)
 
   pub by-the-rule : (s : Sound c) →
       (w ≡ wordOf (stepped (languageOf (s .listener .book)) (s .listener) o))
@@ -138,7 +138,7 @@ module _ (c h : List ℕ) (d : RecordHasHeard c h) (o : List ℕ) (q : Octets o)
   -- a message or a refusal, once given, is given again by each call after it, which takes none and leaves the record
   -- as it was
   pub answer-stays : (((wordNumber w ≡ 0) × (wordSize w ≡ 0)) → ⊥) → (o' : List ℕ) (w' : ℕ) (c'' : List ℕ) →
-      listen-gives c' o' w' c'' → (w' ≡ packed (wordNumber w) (wordPlace w) (wordSize w) 0) × (c'' ≡ c')
+      listen-gives c' o' w' c'' → (w' ≡ packed (wordNumber w) (wordPlace w) (wordParameter w) (wordSize w) 0) × (c'' ≡ c')
   answer-stays n o' w' c'' x =
       hears.answer-stays c h (led-by c h d) o q w (listen-word c o w c' k) c' (listen-cells c o w c' k) n o' w' c''
       (listen-word c' o' w' c'' x) (listen-cells c' o' w' c'' x)
@@ -176,7 +176,7 @@ module _ (c : List ℕ) (w : ℕ) (c' : List ℕ) (h : new-desk-gives c w c') wh
 
   -- a record of 52 octets is that of a desk of which nothing is known and which holds no reference, whatever it held;
   -- any other is 17, and stays
-  pub new-desk : length c ≡ deskSize → Unpacked 0 0 0 0 w × T (isRecord c') × (deskIn c' ≡ newDesk)
+  pub new-desk : length c ≡ deskSize → Unpacked 0 0 0 0 0 w × T (isRecord c') × (deskIn c' ≡ newDesk)
   new-desk n = settles.new c w c' new-desk-word new-desk-cells n
 
   pub new-desk-seventeen : (length c ≡ deskSize → ⊥) → Seventeen c w c'

@@ -33,7 +33,7 @@ use Rattle.listener.proofs.Hears.{in-range-heard, out-of-range-heard}
 use Rattle.firmware.specs.declared.Decoded.{Decoded}
 use Rattle.firmware.specs.declared.Decoded.the-variants.{Known, Unknown}
 use Rattle.firmware.specs.Record.{decodeOf, recordOf}
-use Rattle.firmware.specs.Word.{packed, wordNumber, wordPlace, wordSize, wordTaken, Unpacked, unpacked, Seventeen, seventeen}
+use Rattle.firmware.specs.Word.{packed, wordNumber, wordPlace, wordParameter, wordSize, wordTaken, Unpacked, unpacked, Seventeen, seventeen}
 use Rattle.firmware.specs.Exports.{badRecord, resetAnswer, resetRecord, wordOf, answered, recorded, listenAnswer, listenRecord}
 use Rattle.firmware.proofs.Coding.{Good, decode-encode, encode-decode, decoded-good}
 use Rattle.firmware.proofs.Classes.{Coded, run-coded, number-six}
@@ -41,18 +41,25 @@ use Rattle.firmware.specs.RecordHears.{RecordHears, Sound, SameEnd}
 use Rattle.firmware.specs.Sizes.{listenerSize}
 
 -- the word of an answer is read back field by field
-small-fields : (a : Answer) → Ranged a → (told a .number < 256) × (told a .place < 65536) × (told a .size < 65536)
+small-fields : (a : Answer) → Ranged a →
+    (told a .number < 256) × (told a .place < 65536) × (told a .parameter < 128) × (told a .size < 65536)
 unfolding told
-small-fields Waits g = (omega arith, omega arith, omega arith)
-small-fields (Message n) g = (omega arith, omega arith, omega arith)
-small-fields (Refused f) g = (omega arith, omega arith, omega arith)
+small-fields Waits g = (omega arith, omega arith, omega arith, omega arith)
+small-fields (Message n) g = (omega arith, omega arith, omega arith, omega arith)
+small-fields (Refused f) g = (omega arith, omega arith, omega arith, omega arith)
 
--- a place with a number alone, a size with none
+-- a place and a parameter with a number alone, a size with none
 no-place : (a : Answer) → Ranged a → told a .number ≡ 0 → told a .place ≡ 0
 unfolding told
 no-place Waits g e = refl
 no-place (Message n) g e = refl
 no-place (Refused f) g e = absurd (omega arith)
+
+no-parameter : (a : Answer) → Ranged a → told a .number ≡ 0 → told a .parameter ≡ 0
+unfolding told
+no-parameter Waits g e = refl
+no-parameter (Message n) g e = refl
+no-parameter (Refused f) g e = absurd (omega arith)
 
 no-size : (a : Answer) → 1 ≤ told a .number → told a .size ≡ 0
 unfolding told
@@ -61,9 +68,10 @@ no-size (Message n) e = absurd (omega arith)
 no-size (Refused f) e = refl
 
 read-back : (x : Heard) → Ranged (x .answer) → x .taken ≤ 258 →
-    Unpacked (told (x .answer) .number) (told (x .answer) .place) (told (x .answer) .size) (x .taken) (wordOf x)
+    Unpacked (told (x .answer) .number) (told (x .answer) .place) (told (x .answer) .parameter)
+    (told (x .answer) .size) (x .taken) (wordOf x)
 unfolding wordOf
-read-back x g t = let b = small-fields (x .answer) g in unpacked _ _ _ _ (b .0) (b .1) (b .2) (omega arith)
+read-back x g t = let b = small-fields (x .answer) g in unpacked _ _ _ _ _ (b .0) (b .1) (b .2) (b .3) (omega arith)
 
 -- ---- any record at all
 pub sound-or-not : (c : List ℕ) → Sound c ⊎ (Sound c → ⊥)
@@ -111,7 +119,8 @@ module _ (c : List ℕ) (s : Sound c) (o : List ℕ) where
 
   pub sound-fields : Octets o → (w : ℕ) → w ≡ listenAnswer c o →
       Unpacked (told (heardOf (s .listener) o .answer) .number) (told (heardOf (s .listener) o .answer) .place)
-      (told (heardOf (s .listener) o .answer) .size) (heardOf (s .listener) o .taken) w
+      (told (heardOf (s .listener) o .answer) .parameter) (told (heardOf (s .listener) o .answer) .size)
+      (heardOf (s .listener) o .taken) w
   sound-fields q w e = rw (e, sound-word) (read-back _ (sound-ranged q) (taken-small (s .listener) o q))
 
   pub good : Good (s .listener)
@@ -185,6 +194,7 @@ module _ (c a b : List ℕ) (w w₁ w₂ : ℕ) (d d₁ d₂ : List ℕ) (e : w 
         left = f ∙ sound-record c s (a ++ b) ∙ ap recordOf (k .0) ∙ sym (f₂ ∙ sound-record d₁ s₁ b);
         number = u .number ∙ ap (λ (x : Answer). told x .number) (k .1) ∙ sym (u₂ .number);
         place = u .place ∙ ap (λ (x : Answer). told x .place) (k .1) ∙ sym (u₂ .place);
+        parameter = u .parameter ∙ ap (λ (x : Answer). told x .parameter) (k .1) ∙ sym (u₂ .parameter);
         size = u .size ∙ ap (λ (x : Answer). told x .size) (k .1) ∙ sym (u₂ .size);
         taken = omega (arith, u .taken, u₁ .taken, u₂ .taken, k .2);
       }
@@ -202,6 +212,7 @@ module _ (c a b : List ℕ) (w w₁ w₂ : ℕ) (d d₁ d₂ : List ℕ) (e : w 
         left = z .cells ∙ sym (z₂ .cells);
         number = z .word .number ∙ sym (z₂ .word .number);
         place = z .word .place ∙ sym (z₂ .word .place);
+        parameter = z .word .parameter ∙ sym (z₂ .word .parameter);
         size = z .word .size ∙ sym (z₂ .word .size);
         taken = omega (arith, z .word .taken, z₁ .word .taken, z₂ .word .taken);
       }
@@ -230,7 +241,7 @@ module _ (c h : List ℕ) (s : RecordLedBy c h) (o : List ℕ) (q : Octets o) (w
 
   fields :
       let a = told (heard .answer) in
-      Unpacked (a .number) (a .place) (a .size) (heard .taken) w
+      Unpacked (a .number) (a .place) (a .parameter) (a .size) (heard .taken) w
   fields = sound-fields c (led-sound c h s) o q w e
 
   record-hears-in : RecordHears (languageOf (s .listener .book)) h o w
@@ -241,7 +252,8 @@ module _ (c h : List ℕ) (s : RecordLedBy c h) (o : List ℕ) (q : Octets o) (w
         waits = rw (fields .number, fields .size) (Iff·trans (fields-waiting _ (said .clear)) (said .waits));
         has-message = λ n l. rw (fields .size) (Iff·trans (fields-message _ n l) (said .has-message n l));
         refuses =
-            λ k p l. rw (fields .number, fields .place) (Iff·trans (fields-refusal _ k p l) (said .refuses k p l));
+            λ k p b l. rw (fields .number, fields .place, fields .parameter)
+            (Iff·trans (fields-refusal _ k p b l) (said .refuses k p b l));
         taken-waiting =
             λ a b. fields .taken ∙ said .taken-waiting
             (fields-waiting _ (said .clear) .0 (sym (fields .number) ∙ a, sym (fields .size) ∙ b));
@@ -251,18 +263,21 @@ module _ (c h : List ℕ) (s : RecordLedBy c h) (o : List ℕ) (q : Octets o) (w
         taken-refused = λ l.
             let k = told (heard .answer) .number in
             let p = told (heard .answer) .place in
+            let b = told (heard .answer) .parameter in
             let m : 1 ≤ k = omega (arith, fields .number) in
             ap (λ (t : ℕ). length h + t) (fields .taken)
-            ∙ said .taken-refused k p m (fields-refusal _ k p m .0 (refl, refl))
+            ∙ said .taken-refused k p b m (fields-refusal _ k p b m .0 (refl, refl, refl))
             ∙ ap suc (sym (fields .place));
         no-place = λ a. fields .place ∙ no-place _ g (sym (fields .number) ∙ a);
+        no-parameter = λ a. fields .parameter ∙ no-parameter _ g (sym (fields .number) ∙ a);
         no-size = λ l. fields .size ∙ no-size _ (omega (arith, fields .number));
         whole =
             let u = sym (fields .number) in
             let v = sym (fields .place) in
+            let b = sym (fields .parameter) in
             let x = sym (fields .size) in
             let y = sym (fields .taken) in
-            fields .whole ∙ (λ i. packed (u i) (v i) (x i) (y i));
+            fields .whole ∙ (λ i. packed (u i) (v i) (b i) (x i) (y i));
         answers-by-258 =
             λ a b. said .answers-by-258
             (fields-waiting _ (said .clear) .0 (sym (fields .number) ∙ a, sym (fields .size) ∙ b));
@@ -283,7 +298,8 @@ module _ (c h : List ℕ) (s : RecordLedBy c h) (o : List ℕ) (q : Octets o) (w
 module _ (c h : List ℕ) (s : RecordLedBy c h) (o : List ℕ) (q : Octets o) (w : ℕ) (e : w ≡ listenAnswer c o)
     (d : List ℕ) (f : d ≡ listenRecord c o) where
   pub answer-stays : (((wordNumber w ≡ 0) × (wordSize w ≡ 0)) → ⊥) → (o' : List ℕ) (w' : ℕ) (d' : List ℕ) →
-      w' ≡ listenAnswer d o' → d' ≡ listenRecord d o' → (w' ≡ packed (wordNumber w) (wordPlace w) (wordSize w) 0) × (d' ≡ d)
+      w' ≡ listenAnswer d o' → d' ≡ listenRecord d o' →
+      (w' ≡ packed (wordNumber w) (wordPlace w) (wordParameter w) (wordSize w) 0) × (d' ≡ d)
   unfolding wordOf
   answer-stays n o' w' d' e' f' =
       let l = s .listener in
@@ -296,8 +312,9 @@ module _ (c h : List ℕ) (s : RecordLedBy c h) (o : List ℕ) (q : Octets o) (w
       (heardOf (r .listener) o') refl in
       let x = sym (u .number) in
       let y = sym (u .place) in
+      let b = sym (u .parameter) in
       let z = sym (u .size) in (
-        e' ∙ sound-word d t o' ∙ ap wordOf k ∙ (λ i. packed (x i) (y i) (z i) 0),
+        e' ∙ sound-word d t o' ∙ ap wordOf k ∙ (λ i. packed (x i) (y i) (b i) (z i) 0),
         f' ∙ sound-record d t o' ∙ ap (λ (v : Heard). recordOf (v .listener)) k
             ∙ sym (f ∙ sound-record c (led-sound c h s) o),
       )
@@ -314,12 +331,12 @@ reset-led c d n e =
     }
 
 pub reset-new : (c : List ℕ) (w : ℕ) (d : List ℕ) → w ≡ resetAnswer c → d ≡ resetRecord c →
-    length c ≡ listenerSize → Unpacked 0 0 0 0 w × (d ≡ recordOf (newListener PresentLenient))
+    length c ≡ listenerSize → Unpacked 0 0 0 0 0 w × (d ≡ recordOf (newListener PresentLenient))
 unfolding resetAnswer resetRecord
 reset-new c w d e f n =
     let t = of-eq _ _ n in (
-      subst (Unpacked 0 0 0 0) (sym (e ∙ pick-yes _ _ _ t))
-          (unpacked 0 0 0 0 (omega arith) (omega arith) (omega arith) (omega arith)),
+      subst (Unpacked 0 0 0 0 0) (sym (e ∙ pick-yes _ _ _ t))
+          (unpacked 0 0 0 0 0 (omega arith) (omega arith) (omega arith) (omega arith) (omega arith)),
       f ∙ pick-yes _ _ _ t,
     )
 

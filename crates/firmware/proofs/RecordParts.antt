@@ -23,7 +23,7 @@ use Rattle.message.specs.Told as message
 use Rattle.message.specs.declared.Part.{Part}
 use Rattle.message.specs.declared.Part.the-variants.{At, Nowhere}
 use Rattle.message.specs.Verdict.{verdictOf}
-use Rattle.message.proofs.Judges.{judges-of, told-small, near-declined}
+use Rattle.message.proofs.Judges.{judges-of, told-small, near-declined, few-declined}
 use Rattle.message.proofs.Told.{accepted-iff, number-of}
 use Rattle.message.specs.Parts.{countedAt, partOf}
 use Rattle.message.proofs.Searching.{counted-part}
@@ -42,29 +42,29 @@ use Rattle.firmware.specs.Exports.{badRecord, partWord, countedUnder, co
 use Rattle.firmware.specs.RecordParts.{RecordCounts, RecordFinds}
 use Rattle.firmware.specs.Sizes.{partSize}
 
--- number and place of a verdict fit their octets
+-- number, place and parameter of a verdict fit their octets
 refusal-word : (o : List ℕ) → Octets o → (f : Fault) → verdictOf (rulesOf PresentLenient) o ≡ Declined f →
-    Unpacked (f .number) (f .place) 0 0 (packed (f .number) (f .place) 0 0)
+    Unpacked (f .number) (f .place) (f .parameter) 0 0 (packed (f .number) (f .place) (f .parameter) 0 0)
 refusal-word o q f e =
     let j = judges-of PresentLenient o q in
-    unpacked (f .number) (f .place) 0 0
+    unpacked (f .number) (f .place) (f .parameter) 0 0
     (omega (arith, told-small (spoken-of PresentLenient) _ (number-of j f e) .1))
-    (omega (arith, near-declined j f e)) (omega arith) (omega arith)
+    (omega (arith, near-declined j f e)) (omega (arith, few-declined j f e)) (omega arith) (omega arith)
 
 module _ (o : List ℕ) (t w : ℕ) (a : w ≡ countedAnswer o t) (q : Octets o) where
   abbrev v : Verdict
   v = verdictOf (rulesOf PresentLenient) o
 
-  refused-is : (f : Fault) → v ≡ Declined f → w ≡ packed (f .number) (f .place) 0 0
+  refused-is : (f : Fault) → v ≡ Declined f → w ≡ packed (f .number) (f .place) (f .parameter) 0 0
   unfolding countedAnswer countedUnder
   refused-is f e = a ∙ ap (λ (x : Verdict). countedUnder x o t) e
 
   refused-word : (x : Verdict) → v ≡ x → 1 ≤ message.told x .number →
-      Unpacked (message.told x .number) (message.told x .place) 0 0 w
+      Unpacked (message.told x .number) (message.told x .place) (message.told x .parameter) 0 0 w
   unfolding message.told
   refused-word (Accepted n) e l = absurd (omega arith)
   refused-word (Declined f) e l =
-      subst (Unpacked (f .number) (f .place) 0 0) (sym (refused-is f e)) (refusal-word o q f e)
+      subst (Unpacked (f .number) (f .place) (f .parameter) 0 0) (sym (refused-is f e)) (refusal-word o q f e)
 
   part-is : (m : Message) → LegalMessage (rulesOf PresentLenient) m → octets m ≡ o →
       w ≡ partWord (countedAt (rulesOf PresentLenient) o t)
@@ -74,29 +74,29 @@ module _ (o : List ℕ) (t w : ℕ) (a : w ≡ countedAnswer o t) (q : Octets o)
       (accepted-iff (judges-of PresentLenient o q) (length o) .1 (refl, (m, l, e)))
 
   counts-word : (m : Message) → LegalMessage (rulesOf PresentLenient) m → octets m ≡ o →
-      (x : List ℕ) (c : Counts (rulesOf PresentLenient) m t x) → Unpacked 0 0 (length x) (contentsAt (c .first)) w
+      (x : List ℕ) (c : Counts (rulesOf PresentLenient) m t x) → Unpacked 0 0 0 (length x) (contentsAt (c .first)) w
   unfolding partWord
   counts-word m l e x c =
       let p = ap (λ (z : List ℕ). countedAt (rulesOf PresentLenient) z t) (sym e)
       ∙ counted-at (rulesOf PresentLenient) m t x c in
       let i = counted-inside o (rulesOf PresentLenient) t _ _ p in
       let n = accepted-size (rulesOf PresentLenient) o (m, l, e) .1 in
-      subst (Unpacked 0 0 (length x) (contentsAt (c .first))) (sym (part-is m l e ∙ ap partWord p))
-      (unpacked 0 0 (length x) (contentsAt (c .first)) (omega arith) (omega arith) (omega (arith, i, n))
+      subst (Unpacked 0 0 0 (length x) (contentsAt (c .first))) (sym (part-is m l e ∙ ap partWord p))
+      (unpacked 0 0 0 (length x) (contentsAt (c .first)) (omega arith) (omega arith) (omega arith) (omega (arith, i, n))
       (omega (arith, i, n)))
 
-  nowhere : (p : Part) → partOf o p ≡ none → partWord p ≡ packed 0 0 0 0
+  nowhere : (p : Part) → partOf o p ≡ none → partWord p ≡ packed 0 0 0 0 0
   unfolding partOf partWord
   nowhere (At start n) e = clash cc
   nowhere Nowhere e = refl
 
   none-word : (m : Message) → LegalMessage (rulesOf PresentLenient) m → octets m ≡ o →
-      counted (rulesOf PresentLenient) m t ≡ none → Unpacked 0 0 0 0 w
+      counted (rulesOf PresentLenient) m t ≡ none → Unpacked 0 0 0 0 0 w
   none-word m l e n =
       let p = ap (λ (z : List ℕ). partOf z (countedAt (rulesOf PresentLenient) z t)) (sym e)
       ∙ counted-part (rulesOf PresentLenient) m t ∙ n in
-      subst (Unpacked 0 0 0 0) (sym (part-is m l e ∙ nowhere _ p))
-      (unpacked 0 0 0 0 (omega arith) (omega arith) (omega arith) (omega arith))
+      subst (Unpacked 0 0 0 0 0) (sym (part-is m l e ∙ nowhere _ p))
+      (unpacked 0 0 0 0 0 (omega arith) (omega arith) (omega arith) (omega arith) (omega arith))
 
   pub record-counts : RecordCounts o t w
   record-counts = record {
@@ -119,25 +119,26 @@ module _ (o d c : List ℕ) (w : ℕ) (c' : List ℕ) (a : w ≡ captionAnswer o
     abbrev r : Shown
     r = findOf (rulesOf PresentLenient) o d
 
-    found-small : (x : Shown) → ((f : Fault) → x ≡ found.Refused f → (f .number < 256) × (f .place ≤ 258)) →
-        (told x .number < 256) × (told x .place ≤ 258)
+    found-small : (x : Shown) → ((f : Fault) → x ≡ found.Refused f → (f .number < 256) × (f .place ≤ 258) × (f .parameter ≤ 85)) →
+        (told x .number < 256) × (told x .place ≤ 258) × (told x .parameter ≤ 85)
     unfolding told
-    found-small (found.InMessage start k) h = (omega arith, omega arith)
-    found-small (found.InDirectory start k) h = (omega arith, omega arith)
+    found-small (found.InMessage start k) h = (omega arith, omega arith, omega arith)
+    found-small (found.InDirectory start k) h = (omega arith, omega arith, omega arith)
     found-small (found.Refused f) h = h f refl
 
-    word-is : Unpacked (told r .number) (told r .place) 0 0 w
+    word-is : Unpacked (told r .number) (told r .place) (told r .parameter) 0 0 w
     unfolding captionAnswer foundWord
     word-is =
         let x = finds PresentLenient o d q in
         let k = found-small r (λ f e. let y = declined-so x f e in (
           omega (arith, told-small (spoken-of PresentLenient) _ (number-of (x .judged) f y) .1),
-          near-declined
-              (x .judged) f y,
+          near-declined (x .judged) f y,
+          few-declined (x .judged) f y,
         )) in
-        subst (Unpacked (told r .number) (told r .place) 0 0)
+        subst (Unpacked (told r .number) (told r .place) (told r .parameter) 0 0)
         (sym (a ∙ pick-yes (length c =? partSize) _ badRecord (of-eq _ _ n)))
-        (unpacked (told r .number) (told r .place) 0 0 (k .0) (omega (arith, k .1)) (omega arith) (omega arith))
+        (unpacked (told r .number) (told r .place) (told r .parameter) 0 0 (k .0) (omega (arith, k .1))
+        (omega (arith, k .2)) (omega arith) (omega arith))
 
     cells-are : c' ≡ partFrom c r
     unfolding captionRecord

@@ -48,14 +48,14 @@ module _ (o c t : List ℕ) (w : ℕ) (c' t' : List ℕ) (a : w ≡ readAnswer o
     abbrev p : Packed
     p = packOf (rulesOf PresentLenient) o (length t)
 
-    word-is : Unpacked (told p .number) (told p .place) (told p .size) 0 w
+    word-is : Unpacked (told p .number) (told p .place) (told p .parameter) (told p .size) 0 w
     unfolding readAnswer packedWord
     word-is =
         let k = near (rulesOf PresentLenient) (sound-rules PresentLenient) o t q in
-        subst (Unpacked (told p .number) (told p .place) (told p .size) 0)
+        subst (Unpacked (told p .number) (told p .place) (told p .parameter) (told p .size) 0)
         (sym (a ∙ pick-yes (length c =? draftSize) _ badRecord (of-eq _ _ n)))
-        (unpacked (told p .number) (told p .place) (told p .size) 0 (omega (arith, k .number))
-        (omega (arith, k .place)) (omega (arith, k .size)) (omega arith))
+        (unpacked (told p .number) (told p .place) (told p .parameter) (told p .size) 0 (omega (arith, k .number))
+        (omega (arith, k .place)) (omega (arith, k .parameter)) (omega (arith, k .size)) (omega arith))
 
     cells-are : c' ≡ recordFrom o c p
     unfolding readRecord

@@ -16,7 +16,7 @@ use Rattle.rules.specs.Octets.{Octets}
 use Rattle.rules.specs.Table.{rulesOf}
 use Rattle.rules.specs.declared.Book.the-variants.{PresentLenient}
 use Rattle.message.specs.Judges.{verdictNumber}
-use Rattle.message.proofs.Judges.{told-small, near-declined, verdict-lenient}
+use Rattle.message.proofs.Judges.{told-small, near-declined, few-declined, verdict-lenient}
 use Rattle.rules.proofs.ContentLaw.{lenient-others}
 use Rattle.rules.specs.declared.Fault.{Fault}
 use Rattle.rules.specs.Refusals.{noted}
@@ -33,7 +33,7 @@ use Rattle.desk.specs.History.{saidUnder, said, later, lastSaid, Call, OpenBy, 
 use Rattle.desk.proofs.Words as words
 use Rattle.desk.proofs.History.{History, open-by-last}
 use Rattle.desk.proofs.Settles as settles
-use Rattle.desk.proofs.Told.{unfit-iff, refused-iff, full-iff, done-iff, some-number, number-of, refusal-leaves}
+use Rattle.desk.proofs.Told.{unfit-iff, refused-iff, full-iff, done-iff, some-number, number-of, noted-at, refusal-leaves}
 use Rattle.desk.specs.Settles.{Settles}
 use Rattle.desk.specs.References.{placeCount}
 use Rattle.firmware.specs.DeskRecord.{isRecord, deskIn, deskRecord}
@@ -44,10 +44,7 @@ use Rattle.firmware.specs.Exports.{badRecord, deskWord, newDeskAnswer, n
 use Rattle.firmware.specs.RecordSettles.{RecordSettles, IsDesk, RecordCall, saidIn, lastSaidIn, NamesIn, SaysIn}
 use Rattle.firmware.specs.Sizes.{deskSize}
 
--- ---- numbers and places are small: a word has room for them
-fault-of : (f : Fault) (n : ℕ) → f .number ≡ n → f ≡ (record { number = n; place = f .place })
-fault-of f n e = λ i. record { number = e i; place = f .place }
-
+-- ---- numbers, places and parameters are small: a word has room for them
 module _ (d : Desk) (o : List ℕ) (x : Outcome) (s : Settles (rulesOf PresentLenient) d o x) where
   number-small : (a : Answer) → x .answer ≡ a → told a .number ≤ 21
   unfolding told
@@ -68,8 +65,19 @@ module _ (d : Desk) (o : List ℕ) (x : Outcome) (s : Settles (rulesOf PresentLe
       go : T (verdictNumber (languageOf PresentLenient) (f .number)) ⊎ ((f .number ≡ 17) ⊎ (f .number ≡ 21)) →
           f .place ≤ 258
       go (inl h) = near-declined (s .judged) f (refused-iff s f (some-number s f e) h .0 e .1)
-      go (inr (inl h)) = omega (arith, unfit-iff s (f .place) .0 (e ∙ ap Refused (fault-of f 17 h)) .0)
-      go (inr (inr h)) = omega (arith, full-iff s (f .place) .0 (e ∙ ap Refused (fault-of f 21 h)) .0)
+      go (inr (inl h)) = omega (arith, unfit-iff s (f .place) .0 (e ∙ ap Refused (noted-at s f e 17 h (inl refl))) .0)
+      go (inr (inr h)) = omega (arith, full-iff s (f .place) .0 (e ∙ ap Refused (noted-at s f e 21 h (inr refl))) .0)
+
+  few : (a : Answer) → x .answer ≡ a → told a .parameter ≤ 85
+  unfolding told
+  few Done e = omega arith
+  few (Refused f) e = go (number-of s f e)
+    where
+      go : T (verdictNumber (languageOf PresentLenient) (f .number)) ⊎ ((f .number ≡ 17) ⊎ (f .number ≡ 21)) →
+          f .parameter ≤ 85
+      go (inl h) = few-declined (s .judged) f (refused-iff s f (some-number s f e) h .0 e .1)
+      go (inr (inl h)) = omega (arith, ap (λ (g : Fault). g .parameter) (noted-at s f e 17 h (inl refl)))
+      go (inr (inr h)) = omega (arith, ap (λ (g : Fault). g .parameter) (noted-at s f e 21 h (inr refl)))
 
 module _ (c o : List ℕ) (w : ℕ) (c' : List ℕ) (a : w ≡ settleAnswer c o) (b : c' ≡ settleRecord c o) where
   pub seventeen : (T (isRecord c) → ⊥) → Seventeen c w c'
@@ -78,15 +86,17 @@ module _ (c o : List ℕ) (w : ℕ) (c' : List ℕ) (a : w ≡ settleAnswer c o)
 
   settled-word : Octets o → T (isRecord c) →
       Unpacked (told (settleOf (rulesOf PresentLenient) (deskIn c) o .answer) .number)
-      (told (settleOf (rulesOf PresentLenient) (deskIn c) o .answer) .place) 0 0 w
+      (told (settleOf (rulesOf PresentLenient) (deskIn c) o .answer) .place)
+      (told (settleOf (rulesOf PresentLenient) (deskIn c) o .answer) .parameter) 0 0 w
   unfolding settleAnswer deskWord
   settled-word q t =
       let x = settleOf (rulesOf PresentLenient) (deskIn c) o in
       let s = settles.settles PresentLenient (deskIn c) o q in
-      subst (Unpacked (told (x .answer) .number) (told (x .answer) .place) 0 0) (sym (a ∙ pick-yes _ _ _ t))
-      (unpacked (told (x .answer) .number) (told (x .answer) .place) 0 0
+      subst (Unpacked (told (x .answer) .number) (told (x .answer) .place) (told (x .answer) .parameter) 0 0) (sym (a ∙ pick-yes _ _ _ t))
+      (unpacked (told (x .answer) .number) (told (x .answer) .place) (told (x .answer) .parameter) 0 0
       (omega (arith, number-small (deskIn c) o x s (x .answer) refl))
-      (omega (arith, near (deskIn c) o x s (x .answer) refl)) (omega arith) (omega arith))
+      (omega (arith, near (deskIn c) o x s (x .answer) refl)) (omega (arith, few (deskIn c) o x s (x .answer) refl))
+      (omega arith) (omega arith))
 
   pub record-settles : Octets o → T (isRecord c) → RecordSettles (deskIn c) o w c'
   unfolding settleRecord
@@ -116,7 +126,7 @@ module _ (c o : List ℕ) (w : ℕ) (c' : List ℕ) (a : w ≡ settleAnswer c o)
         )
         desk t y (Refused f) e = (
           λ x i. unfit-iff (y .settles) (f .place) .0
-              (e ∙ ap Refused (fault-of f 17 (sym (word-number t y (Refused f) e) ∙ x))) .1 (i .places),
+              (e ∙ ap Refused (noted-at (y .settles) f e 17 (sym (word-number t y (Refused f) e) ∙ x) (inl refl))) .1 (i .places),
           λ n. word-number t y (Refused (noted 17 0))
               (unfit-iff (y .settles) 0 .1 (refl, λ i. n (record { codes = t; places = i }))),
         )
@@ -196,13 +206,13 @@ again c o k q w c₁ w₂ c₂ a b e f = go (decide (isRecord c))
 
 -- a record made new is that of a desk of which nothing is known and which holds no reference
 pub new : (c : List ℕ) (w : ℕ) (c' : List ℕ) → w ≡ newDeskAnswer c → c' ≡ newDeskRecord c → length c ≡ deskSize →
-    Unpacked 0 0 0 0 w × T (isRecord c') × (deskIn c' ≡ newDesk)
+    Unpacked 0 0 0 0 0 w × T (isRecord c') × (deskIn c' ≡ newDesk)
 unfolding newDeskAnswer newDeskRecord
 new c w c' a b n =
     let z : Small (newDesk .places) = record { long = refl; below = λ i. omega (arith, all-free placeCount i) } in
     let e : c' ≡ deskRecord newDesk = b ∙ pick-yes (length c =? deskSize) _ c (of-eq _ _ n) in (
-      subst (Unpacked 0 0 0 0) (sym (a ∙ pick-yes (length c =? deskSize) _ badRecord (of-eq _ _ n)))
-          (unpacked 0 0 0 0 (omega arith) (omega arith) (omega arith) (omega arith)),
+      subst (Unpacked 0 0 0 0 0) (sym (a ∙ pick-yes (length c =? deskSize) _ badRecord (of-eq _ _ n)))
+          (unpacked 0 0 0 0 0 (omega arith) (omega arith) (omega arith) (omega arith) (omega arith)),
       subst (λ (y : List ℕ). T (isRecord y)) (sym e) (record-is newDesk z),
       ap deskIn e ∙ decode-encode newDesk z,
     )

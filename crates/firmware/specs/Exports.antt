@@ -42,17 +42,19 @@ use Rattle.firmware.specs.Sizes.{listenerSize, draftSize, deskSize, part
 
 -- number 17 at place 0, and 0 in every other field
 abbrev pub badRecord : ℕ
-badRecord = packed 17 0 0 0
+badRecord = packed 17 0 0 0 0
 
 unfoldable pub resetAnswer : List ℕ → ℕ
-resetAnswer c = pick (length c =? listenerSize) (packed 0 0 0 0) badRecord
+resetAnswer c = pick (length c =? listenerSize) (packed 0 0 0 0 0) badRecord
 
 unfoldable pub resetRecord : List ℕ → List ℕ
 resetRecord c = pick (length c =? listenerSize) (recordOf (newListener PresentLenient)) c
 
 -- what a call of the listener answers, as a word
 unfoldable pub wordOf : Heard → ℕ
-wordOf h = packed (told (h .answer) .number) (told (h .answer) .place) (told (h .answer) .size) (h .taken)
+wordOf h =
+    packed (told (h .answer) .number) (told (h .answer) .place) (told (h .answer) .parameter)
+    (told (h .answer) .size) (h .taken)
 
 unfoldable pub heardWordOf : Listener → List ℕ → HeardWord
 heardWordOf l o = record { listener = heardOf l o .listener; word = wordOf (heardOf l o) }
@@ -74,7 +76,8 @@ listenRecord c o = recorded (decodeOf c) c o
 -- ---- the whole read: the record is only written, so its size alone is judged; the answer's size is the text octets
 -- laid down
 unfoldable pub packedWord : Packed → ℕ
-packedWord p = packed (reader.told p .number) (reader.told p .place) (reader.told p .size) 0
+packedWord p =
+    packed (reader.told p .number) (reader.told p .place) (reader.told p .parameter) (reader.told p .size) 0
 
 unfoldable pub readAnswer : List ℕ → List ℕ → List ℕ → ℕ
 readAnswer o c t = pick (length c =? draftSize) (packedWord (packOf (rulesOf PresentLenient) o (length t))) badRecord
@@ -92,14 +95,14 @@ readTexts o c t = pick (length c =? draftSize) (areaAfter (rulesOf PresentLenien
 
 -- ---- the desk
 unfoldable pub newDeskAnswer : List ℕ → ℕ
-newDeskAnswer c = pick (length c =? deskSize) (packed 0 0 0 0) badRecord
+newDeskAnswer c = pick (length c =? deskSize) (packed 0 0 0 0 0) badRecord
 
 unfoldable pub newDeskRecord : List ℕ → List ℕ
 newDeskRecord c = pick (length c =? deskSize) (deskRecord newDesk) c
 
--- number and place of an answer as a word
+-- number, place and parameter of an answer as a word
 unfoldable pub deskWord : desk.Answer → ℕ
-deskWord a = packed (settled.told a .number) (settled.told a .place) 0 0
+deskWord a = packed (settled.told a .number) (settled.told a .place) (settled.told a .parameter) 0 0
 
 -- a record that is a desk's: word and record of that desk's settling; any other is 17 and stays
 unfoldable pub settleAnswer : List ℕ → List ℕ → ℕ
@@ -111,20 +114,20 @@ settleRecord c o = pick (isRecord c) (deskRecord (settleOf (rulesOf PresentLenie
 -- ---- what counts: the size is the length of the contents that count, and their start stands in octets 5 and 6; 0
 -- and 0 where none count
 unfoldable pub partWord : Part → ℕ
-partWord (At start n) = packed 0 0 n start
-partWord Nowhere = packed 0 0 0 0
+partWord (At start n) = packed 0 0 0 n start
+partWord Nowhere = packed 0 0 0 0 0
 
--- octets that the whole read declines get its number and place
+-- octets that the whole read declines get its number, place and parameter
 unfoldable pub countedUnder : Verdict → List ℕ → ℕ → ℕ
 countedUnder (Accepted n) o t = partWord (countedAt (rulesOf PresentLenient) o t)
-countedUnder (Declined f) o t = packed (f .number) (f .place) 0 0
+countedUnder (Declined f) o t = packed (f .number) (f .place) (f .parameter) 0 0
 
 unfoldable pub countedAnswer : List ℕ → ℕ → ℕ
 countedAnswer o t = countedUnder (verdictOf (rulesOf PresentLenient) o) o t
 
 -- ---- the caption: the record is only written, so its size alone is judged
 unfoldable pub foundWord : Shown → ℕ
-foundWord r = packed (caption.told r .number) (caption.told r .place) 0 0
+foundWord r = packed (caption.told r .number) (caption.told r .place) (caption.told r .parameter) 0 0
 
 -- the record of the part that is found; as it was with a refusal
 unfoldable pub partFrom : List ℕ → Shown → List ℕ

@@ -1,13 +1,14 @@
 -- The record of a listener: 16 octets, and what they stand for.
 -- octet 0 the stage's code; 1 the sum; 2 and 3 the place, low octet first; 4 the class's code; 5 the length; 6 the
 -- index; 7 the memory; 8 the room;
--- 9 the number of a refusal; 10 to 15 are 0, kept for what may come.
+-- 9 the number of a refusal; 10 the parameter; 11 to 15 are 0, kept for what may come.
 -- Assumes nothing.
 use Prim.Native.Nat.{ℕ, _+_, _*_, _/_, _%_}
 use mathlib.Core.Bool.{Bool}
 use mathlib.Core.List.{List, [], _∷_}
 use lib.ListN.{length, getD}
 use Rattle.rules.specs.Tests.{_≤?_, _=?_, pick}
+use Rattle.rules.specs.Refusals.{notedIn}
 use Rattle.rules.specs.Codes.{lastPresent, classCode, classCoded}
 use Rattle.rules.specs.declared.Book.the-variants.{PresentLenient}
 use Rattle.rules.specs.declared.Spot.{Spot}
@@ -32,7 +33,8 @@ fieldsOf c = record {
   memory = getD c 7 0;
   room = getD c 8 0;
   number = getD c 9 0;
-  spare = getD c 10 0 + getD c 11 0 + getD c 12 0 + (getD c 13 0 + getD c 14 0 + getD c 15 0);
+  parameter = getD c 10 0;
+  spare = getD c 11 0 + getD c 12 0 + (getD c 13 0 + getD c 14 0 + getD c 15 0);
 }
 
 -- the fields of each state; what it does not use is 0
@@ -48,6 +50,7 @@ fieldsWaiting s q c n i m r =
       memory = m;
       room = r;
       number = 0;
+      parameter = q .parameter;
       spare = 0;
     }
 
@@ -58,8 +61,8 @@ fieldsAt (Header r) q = fieldsWaiting 2 q 0 0 0 0 r
 fieldsAt (Length c r) q = fieldsWaiting 3 q (classCode c) 0 0 0 r
 fieldsAt (Content c n i m r) q = fieldsWaiting 4 q (classCode c) n i m r
 
-unfoldable pub fieldsEnded : ℕ → ℕ → ℕ → Fields
-fieldsEnded s p k =
+unfoldable pub fieldsEnded : ℕ → ℕ → ℕ → ℕ → Fields
+fieldsEnded s p k b =
     record {
       stage = s;
       sum = 0;
@@ -70,19 +73,20 @@ fieldsEnded s p k =
       memory = 0;
       room = 0;
       number = k;
+      parameter = b;
       spare = 0;
     }
 
 unfoldable pub fieldsFor : State → Fields
 fieldsFor (Waiting s q) = fieldsAt s q
-fieldsFor (Message n) = fieldsEnded 5 n 0
-fieldsFor (Refused f) = fieldsEnded 6 (f .place) (f .number)
+fieldsFor (Message n) = fieldsEnded 5 n 0 0
+fieldsFor (Refused f) = fieldsEnded 6 (f .place) (f .number) (f .parameter)
 
 -- fields as 16 octets
 unfoldable pub laidFields : Fields → List ℕ
 laidFields f =
     f .stage ∷ f .sum ∷ f .place % 256 ∷ f .place /
-    256 ∷ f .class ∷ f .length ∷ f .index ∷ f .memory ∷ f .room ∷ f .number ∷ 0 ∷ 0 ∷ 0 ∷ 0 ∷ 0 ∷ 0 ∷ []
+    256 ∷ f .class ∷ f .length ∷ f .index ∷ f .memory ∷ f .room ∷ f .number ∷ f .parameter ∷ 0 ∷ 0 ∷ 0 ∷ 0 ∷ 0 ∷ []
 
 unfoldable pub recordOf : Listener → List ℕ
 recordOf l = laidFields (fieldsFor (l .state))
@@ -92,7 +96,7 @@ unfoldable pub known : Bool → State → Decoded
 known ok s = pick ok (Known (record { book = PresentLenient; state = s })) Unknown
 
 abbrev pub spotOf : Fields → Spot
-spotOf f = record { sum = f .sum; place = f .place }
+spotOf f = record { sum = f .sum; place = f .place; parameter = f .parameter }
 
 -- Where something is unused it must be 0; idle is the sum of what is.
 -- before a parameter: the message type, L, a parameter type or the checksum is to come
@@ -111,10 +115,10 @@ parameterState s q c n i m r idle =
     Unknown
 
 -- a message or a refusal
-unfoldable pub endedOf : ℕ → ℕ → ℕ → ℕ → Decoded
-endedOf s p k idle =
-    pick (s =? 5) (known (idle + k =? 0) (Message p))
-    (pick (s =? 6) (known (idle =? 0) (Refused (record { number = k; place = p })))
+unfoldable pub endedOf : ℕ → ℕ → ℕ → ℕ → ℕ → Decoded
+endedOf s p k b idle =
+    pick (s =? 5) (known (idle + k + b =? 0) (Message p))
+    (pick (s =? 6) (known (idle =? 0) (Refused (notedIn k p b)))
     Unknown)
 
 unfoldable pub stateOf : Fields → Decoded
@@ -123,7 +127,7 @@ stateOf f =
     (f .class + f .length + f .index + f .memory + f .number + f .spare))
     (pick (f .stage ≤? 4) (parameterState (f .stage) (spotOf f) (f .class) (f .length) (f .index) (f .memory)
     (f .room) (f .number + f .spare))
-    (endedOf (f .stage) (f .place) (f .number)
+    (endedOf (f .stage) (f .place) (f .number) (f .parameter)
     (f .class + f .length + f .index + f .memory + f .sum + f .room + f .spare)))
 
 -- a record of another size stands for nothing

@@ -11,7 +11,7 @@ use Rattle.rules.specs.Language.{Language, languageOf}
 use Rattle.listener.specs.declared.Listener.{Listener}
 use Rattle.firmware.specs.declared.Decoded.the-variants.{Known}
 use Rattle.firmware.specs.Record.{decodeOf}
-use Rattle.firmware.specs.Word.{packed, wordNumber, wordPlace, wordSize, wordTaken}
+use Rattle.firmware.specs.Word.{packed, wordNumber, wordPlace, wordParameter, wordSize, wordTaken}
 
 -- The record's listener had taken the octets h since its reset, was given the run o, and the call answered w.
 pub record RecordHears (L : Language) (h o : List ℕ) (w : ℕ) : Type 0 where
@@ -19,18 +19,19 @@ pub record RecordHears (L : Language) (h o : List ℕ) (w : ℕ) : Type 0 where
   pub waits : ((wordNumber w ≡ 0) × (wordSize w ≡ 0)) ↔ Ending (L .Accepts) (h ++ o)
   -- a size: exactly that of the first octets that are accepted
   pub has-message : (n : ℕ) → 1 ≤ n → (wordSize w ≡ n) ↔ ((n ≤ length (h ++ o)) × L .Accepts (take n (h ++ o)))
-  -- a number: exactly at the octet that spoils the message, with the number of that octet's role
-  pub refuses : (k p : ℕ) → 1 ≤ k →
-      ((wordNumber w ≡ k) × (wordPlace w ≡ p)) ↔
-      (Spoilt (L .Accepts) (h ++ o) p × Numbered (L .Accepts) (L .roles) (h ++ o) p k)
+  -- a number: exactly at the octet that spoils the message, with the number and the parameter of that octet's role
+  pub refuses : (k p b : ℕ) → 1 ≤ k →
+      ((wordNumber w ≡ k) × (wordPlace w ≡ p) × (wordParameter w ≡ b)) ↔
+      (Spoilt (L .Accepts) (h ++ o) p × Numbered (L .Accepts) (L .roles) (h ++ o) p k b)
   -- octets taken: the whole run while it waits, the message's octets and no more, the spoiling octet but none after it
   pub taken-waiting : wordNumber w ≡ 0 → wordSize w ≡ 0 → wordTaken w ≡ length o
   pub taken-message : (n : ℕ) → 1 ≤ n → wordSize w ≡ n → length h + wordTaken w ≡ n
   pub taken-refused : 1 ≤ wordNumber w → length h + wordTaken w ≡ suc (wordPlace w)
-  -- a place with a number alone, a size with none; and nothing else stands in the word
+  -- a place and a parameter with a number alone, a size with none; and nothing else stands in the word
   pub no-place : wordNumber w ≡ 0 → wordPlace w ≡ 0
+  pub no-parameter : wordNumber w ≡ 0 → wordParameter w ≡ 0
   pub no-size : 1 ≤ wordNumber w → wordSize w ≡ 0
-  pub whole : w ≡ packed (wordNumber w) (wordPlace w) (wordSize w) (wordTaken w)
+  pub whole : w ≡ packed (wordNumber w) (wordPlace w) (wordParameter w) (wordSize w) (wordTaken w)
   -- it has its answer after 258 octets at the latest
   pub answers-by-258 : wordNumber w ≡ 0 → wordSize w ≡ 0 → length (h ++ o) < 258
 
@@ -45,5 +46,6 @@ pub record SameEnd (w w₁ w₂ : ℕ) (d d₂ : List ℕ) : Type 0 where
   pub left : d ≡ d₂
   pub number : wordNumber w ≡ wordNumber w₂
   pub place : wordPlace w ≡ wordPlace w₂
+  pub parameter : wordParameter w ≡ wordParameter w₂
   pub size : wordSize w ≡ wordSize w₂
   pub taken : wordTaken w ≡ wordTaken w₁ + wordTaken w₂

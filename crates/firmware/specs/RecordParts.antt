@@ -23,24 +23,24 @@ use Rattle.firmware.specs.PartRecord.{partRecord, partSide, partStart, p
 
 -- the octets o and a type t went in, and the word w came back
 pub record RecordCounts (o : List ℕ) (t w : ℕ) : Type 0 where
-  -- octets that are no message: number and place are the whole read's, and the other fields 0
+  -- octets that are no message: number, place and parameter are the whole read's, and the other fields 0
   pub verdict : Verdict
   pub judged : Judges (languageOf PresentLenient) o verdict
   pub refused : 1 ≤ message.told verdict .number →
-      Unpacked (message.told verdict .number) (message.told verdict .place) 0 0 w
+      Unpacked (message.told verdict .number) (message.told verdict .place) (message.told verdict .parameter) 0 0 w
   -- of a message: the length of the contents that count, and where they start
   pub counts : (m : Message) → LegalMessage (rulesOf PresentLenient) m → octets m ≡ o →
-      (v : List ℕ) (c : Counts (rulesOf PresentLenient) m t v) → Unpacked 0 0 (length v) (contentsAt (c .first)) w
+      (v : List ℕ) (c : Counts (rulesOf PresentLenient) m t v) → Unpacked 0 0 0 (length v) (contentsAt (c .first)) w
   -- 0 in every field where none count
   pub none-counts : (m : Message) → LegalMessage (rulesOf PresentLenient) m → octets m ≡ o →
-      counted (rulesOf PresentLenient) m t ≡ none → Unpacked 0 0 0 0 w
+      counted (rulesOf PresentLenient) m t ≡ none → Unpacked 0 0 0 0 0 w
 
 -- the octets o, the directory d and a record c of 24 octets went in; the word w came back, and c' is what the record
 -- then held
 pub record RecordFinds (o d c : List ℕ) (w : ℕ) (c' : List ℕ) : Type 0 where
   pub found : Shown
   pub finds : Finds (rulesOf PresentLenient) o d found
-  pub word : Unpacked (told found .number) (told found .place) 0 0 w
+  pub word : Unpacked (told found .number) (told found .place) (told found .parameter) 0 0 w
   -- side, start and length of the part; as it was with a refusal
   pub part : told found .number ≡ 0 → c' ≡ partRecord (told found .side) (told found .start) (told found .size)
   pub refused : 1 ≤ told found .number → c' ≡ c

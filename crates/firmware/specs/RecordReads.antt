@@ -14,13 +14,14 @@ use Rattle.firmware.specs.Word.{Unpacked}
 use Rattle.draft.specs.Draft.{noEntry}
 use Rattle.firmware.specs.DraftRecord.{draftRecord, entryIn}
 
--- a record of 688 octets: the word has number, place and text octets of the read, the record is that of its draft, or
+-- a record of 688 octets: the word has what the read tells, the record is that of its draft, or
 -- with a refusal as it was
 pub record RecordReads (o c t : List ℕ) (w : ℕ) (c' t' : List ℕ) : Type 0 where
   pub reading : Reading
   pub reads : Reads (rulesOf PresentLenient) o t reading t'
   pub word :
-      Unpacked (told (reading .answer) .number) (told (reading .answer) .place) (told (reading .answer) .size) 0 w
+      Unpacked (told (reading .answer) .number) (told (reading .answer) .place) (told (reading .answer) .parameter)
+      (told (reading .answer) .size) 0 w
   pub drafted : told (reading .answer) .number ≡ 0 → c' ≡ draftRecord (reading .draft)
   pub refused : 1 ≤ told (reading .answer) .number → c' ≡ c
   -- and the header's readers read the draft back, whatever the area: message type, number of entries, and each entry

@@ -24,12 +24,14 @@ use Rattle.firmware.specs.DeskRecord.{isRecord, deskIn, deskRecord}
 use Rattle.firmware.specs.Word.{wordNumber, Unpacked}
 use Rattle.rules.specs.Octets.{referenceOf}
 
--- a record that is the desk d's: the word has number and place of that desk's settling, the record is that of the
+-- a record that is the desk d's: the word has what that desk's settling tells, the record is that of the
 -- desk it leaves
 pub record RecordSettles (d : Desk) (o : List ℕ) (w : ℕ) (c' : List ℕ) : Type 0 where
   pub outcome : Outcome
   pub settles : Settles (rulesOf PresentLenient) d o outcome
-  pub word : Unpacked (told (outcome .answer) .number) (told (outcome .answer) .place) 0 0 w
+  pub word :
+      Unpacked (told (outcome .answer) .number) (told (outcome .answer) .place) (told (outcome .answer) .parameter) 0 0
+      w
   pub cells : c' ≡ deskRecord (outcome .desk)
 
 -- size and codes are right, every place is in range, and no reference stands twice

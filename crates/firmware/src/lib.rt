@@ -48,6 +48,7 @@ struct Fields {
     room: u8,
     number: u8,
     spare: u16,
+    parameter: u8,
 }
 
 enum Decoded {
@@ -61,10 +62,10 @@ fn joined(low: u8, high: u8) -> u16
     low as u16 + 256 * (high as u16)
 }
 
-fn six(a: u8, b: u8, c: u8, d: u8, e: u8, f: u8) -> u16
-    ensures { λ r. ⌜ r ≡ a + b + c + (d + e + f) ⌝ }
+fn five(a: u8, b: u8, c: u8, d: u8, e: u8) -> u16
+    ensures { λ r. ⌜ r ≡ a + b + (c + d + e) ⌝ }
 {
-    a as u16 + b as u16 + c as u16 + (d as u16 + e as u16 + f as u16)
+    a as u16 + b as u16 + (c as u16 + d as u16 + e as u16)
 }
 
 fn fields_of(cells: &[u8]) -> Fields
@@ -79,14 +80,8 @@ fn fields_of(cells: &[u8]) -> Fields
     let memory = cells[7];
     let room = cells[8];
     let number = cells[9];
-    let spare = six(
-        cells[10],
-        cells[11],
-        cells[12],
-        cells[13],
-        cells[14],
-        cells[15],
-    );
+    let parameter = cells[10];
+    let spare = five(cells[11], cells[12], cells[13], cells[14], cells[15]);
     let place = joined(cells[2], cells[3]);
     Fields {
         stage,
@@ -99,6 +94,7 @@ fn fields_of(cells: &[u8]) -> Fields
         room,
         number,
         spare,
+        parameter,
     }
 }
 
@@ -165,14 +161,22 @@ fn parameter_of(
 }
 
 // A message or a refusal.
-fn ended_of(stage: u8, place: u16, number: u8, idle: u32) -> Decoded
+fn ended_of(stage: u8, place: u16, number: u8, parameter: u8, idle: u32) -> Decoded
     requires { ⌜ idle ≤ 100000 ⌝ }
-    ensures { λ r. ⌜ r ≡ record-of.endedOf stage place number idle ⌝ }
+    ensures { λ r. ⌜ r ≡ record-of.endedOf stage place number parameter idle ⌝ }
 {
     if stage == 5 {
-        known(idle + number as u32 == 0, State::Message(place))
+        known(
+            idle + number as u32 + parameter as u32 == 0,
+            State::Message(place),
+        )
     } else if stage == 6 {
-        known(idle == 0, State::Refused(Fault { number, place }))
+        let fault = Fault {
+            number,
+            place,
+            parameter,
+        };
+        known(idle == 0, State::Refused(fault))
     } else {
         Decoded::Unknown
     }
@@ -185,6 +189,7 @@ fn state_of(f: Fields) -> Decoded
     let q = Spot {
         sum: f.sum,
         place: f.place,
+        parameter: f.parameter,
     };
     if f.stage <= 2 {
         opening_of(f.stage, q, f.room, inner + f.number as u32 + f.spare as u32)
@@ -202,7 +207,7 @@ fn state_of(f: Fields) -> Decoded
         )
     } else {
         let idle = inner + f.sum as u32 + f.room as u32 + f.spare as u32;
-        ended_of(f.stage, f.place, f.number, idle)
+        ended_of(f.stage, f.place, f.number, f.parameter, idle)
     }
 }
 
@@ -239,6 +244,7 @@ fn fields_waiting(
         room,
         number: 0,
         spare: 0,
+        parameter: q.parameter,
     }
 }
 
@@ -262,8 +268,8 @@ fn fields_at(stage: Stage, q: Spot) -> Fields
     }
 }
 
-fn fields_ended(stage: u8, place: u16, number: u8) -> Fields
-    ensures { λ r. ⌜ r ≡ record-of.fieldsEnded stage place number ⌝ }
+fn fields_ended(stage: u8, place: u16, number: u8, parameter: u8) -> Fields
+    ensures { λ r. ⌜ r ≡ record-of.fieldsEnded stage place number parameter ⌝ }
 {
     Fields {
         stage,
@@ -276,6 +282,7 @@ fn fields_ended(stage: u8, place: u16, number: u8) -> Fields
         room: 0,
         number,
         spare: 0,
+        parameter,
     }
 }
 
@@ -284,8 +291,8 @@ fn fields_for(s: State) -> Fields
 {
     match s {
         State::Waiting(stage, q) => fields_at(stage, q),
-        State::Message(n) => fields_ended(5, n, 0),
-        State::Refused(f) => fields_ended(6, f.place, f.number),
+        State::Message(n) => fields_ended(5, n, 0, 0),
+        State::Refused(f) => fields_ended(6, f.place, f.number, f.parameter),
     }
 }
 
@@ -305,7 +312,7 @@ fn lay(cells: &mut [u8], f: Fields)
     cells[7] = f.memory;
     cells[8] = f.room;
     cells[9] = f.number;
-    cells[10] = 0;
+    cells[10] = f.parameter;
     cells[11] = 0;
     cells[12] = 0;
     cells[13] = 0;
@@ -321,21 +328,22 @@ fn encode(cells: &mut [u8], l: Listener)
     lay(cells, fields_for(state));
 }
 
-fn packed(number: u8, place: u16, size: u16, taken: usize) -> u64
+fn packed(number: u8, place: u16, parameter: u8, size: u16, taken: usize) -> u64
     requires { ⌜ taken ≤ 258 ⌝ }
-    ensures { λ r. ⌜ r ≡ word.packed number place size taken ⌝ }
+    ensures { λ r. ⌜ r ≡ word.packed number place parameter size taken ⌝ }
 {
-    number as u64 + 256 * (place as u64) + 16777216 * (size as u64) + 1099511627776 * (taken as u64)
+    let low = number as u64 + 256 * (place as u64) + 16777216 * (size as u64);
+    low + 1099511627776 * (taken as u64) + 72057594037927936 * (parameter as u64)
 }
 
 fn word_of(a: Answer, taken: usize) -> u64
     requires { ⌜ taken ≤ 258 ⌝ }
-    ensures { λ r. ⌜ r ≡ word.packed (told a .number) (told a .place) (told a .size) taken ⌝ }
+    ensures { λ r. ⌜ r ≡ word.packed (told a .number) (told a .place) (told a .parameter) (told a .size) taken ⌝ }
 {
     match a {
-        Answer::Waits => packed(0, 0, 0, taken),
-        Answer::Message(n) => packed(0, 0, n, taken),
-        Answer::Refused(f) => packed(f.number, f.place, 0, taken),
+        Answer::Waits => packed(0, 0, 0, 0, taken),
+        Answer::Message(n) => packed(0, 0, 0, n, taken),
+        Answer::Refused(f) => packed(f.number, f.place, f.parameter, 0, taken),
     }
 }
 
@@ -366,9 +374,9 @@ fn read_into(octets: &[u8], cells: &mut [u8], texts: &mut [u8]) -> u64
     match fitting {
         Fitting::Fits => {
             let used = drafts::lay_draft(octets, cells, texts);
-            packed(0, 0, used as u16, 0)
+            packed(0, 0, 0, used as u16, 0)
         }
-        Fitting::Refused { fault } => packed(fault.number, fault.place, 0, 0),
+        Fitting::Refused { fault } => packed(fault.number, fault.place, fault.parameter, 0, 0),
     }
 }
 
@@ -376,8 +384,8 @@ fn desk_word(a: desk::Answer) -> u64
     ensures { λ r. ⌜ r ≡ exports.deskWord a ⌝ }
 {
     match a {
-        desk::Answer::Done => packed(0, 0, 0, 0),
-        desk::Answer::Refused(f) => packed(f.number, f.place, 0, 0),
+        desk::Answer::Done => packed(0, 0, 0, 0, 0),
+        desk::Answer::Refused(f) => packed(f.number, f.place, f.parameter, 0, 0),
     }
 }
 
@@ -388,8 +396,8 @@ fn counted_in(octets: &[u8], kind: u8) -> u64
 {
     let part = message::counted(Book::PresentLenient, octets, kind);
     match part {
-        Part::At { start, length: n } => packed(0, 0, n as u16, start),
-        Part::Nowhere => packed(0, 0, 0, 0),
+        Part::At { start, length: n } => packed(0, 0, 0, n as u16, start),
+        Part::Nowhere => packed(0, 0, 0, 0, 0),
     }
 }
 
@@ -403,13 +411,13 @@ fn caption_into(octets: &[u8], directory: &[u8], cells: &mut [u8]) -> u64
     match found {
         Shown::InMessage { start, length: n } => {
             parts::lay_part(cells, 0, start, n);
-            packed(0, 0, 0, 0)
+            packed(0, 0, 0, 0, 0)
         }
         Shown::InDirectory { start, length: n } => {
             parts::lay_part(cells, 1, start, n);
-            packed(0, 0, 0, 0)
+            packed(0, 0, 0, 0, 0)
         }
-        Shown::Refused(f) => packed(f.number, f.place, 0, 0),
+        Shown::Refused(f) => packed(f.number, f.place, f.parameter, 0, 0),
     }
 }
 
@@ -420,9 +428,9 @@ pub extern "C" fn anthercup_reset(cells: &mut [u8]) -> u64
 {
     if cells.len() == LISTENER {
         encode(cells, listener::reset(Book::PresentLenient));
-        packed(0, 0, 0, 0)
+        packed(0, 0, 0, 0, 0)
     } else {
-        packed(17, 0, 0, 0)
+        packed(17, 0, 0, 0, 0)
     }
 }
 
@@ -439,7 +447,7 @@ pub extern "C" fn anthercup_listen(cells: &mut [u8], octets: &[u8]) -> u64
             encode(cells, listener);
             done.word
         }
-        Decoded::Unknown => packed(17, 0, 0, 0),
+        Decoded::Unknown => packed(17, 0, 0, 0, 0),
     }
 }
 
@@ -453,7 +461,7 @@ pub extern "C" fn anthercup_read(octets: &[u8], cells: &mut [u8], texts: &mut [u
     if cells.len() == DRAFT {
         read_into(octets, cells, texts)
     } else {
-        packed(17, 0, 0, 0)
+        packed(17, 0, 0, 0, 0)
     }
 }
 
@@ -464,9 +472,9 @@ pub extern "C" fn anthercup_new_desk(cells: &mut [u8]) -> u64
 {
     if cells.len() == DESK {
         desks::encode(cells, desk::new_desk());
-        packed(0, 0, 0, 0)
+        packed(0, 0, 0, 0, 0)
     } else {
-        packed(17, 0, 0, 0)
+        packed(17, 0, 0, 0, 0)
     }
 }
 
@@ -484,7 +492,7 @@ pub extern "C" fn anthercup_settle(cells: &mut [u8], octets: &[u8]) -> u64
         desks::encode(cells, after);
         desk_word(answer)
     } else {
-        packed(17, 0, 0, 0)
+        packed(17, 0, 0, 0, 0)
     }
 }
 
@@ -496,7 +504,7 @@ pub extern "C" fn anthercup_counted(octets: &[u8], kind: u8) -> u64
     let verdict = message::judge(Book::PresentLenient, octets);
     match verdict {
         Verdict::Accepted { size: _ } => counted_in(octets, kind),
-        Verdict::Declined { fault } => packed(fault.number, fault.place, 0, 0),
+        Verdict::Declined { fault } => packed(fault.number, fault.place, fault.parameter, 0, 0),
     }
 }
 
@@ -509,6 +517,6 @@ pub extern "C" fn anthercup_caption(octets: &[u8], directory: &[u8], cells: &mut
     if cells.len() == PART {
         caption_into(octets, directory, cells)
     } else {
-        packed(17, 0, 0, 0)
+        packed(17, 0, 0, 0, 0)
     }
 }

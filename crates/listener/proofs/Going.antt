@@ -109,4 +109,5 @@ module _ (R : Rules) (S : SoundRules R) where
             (r : State) →
             r ≡ declined (machine R) s 5 q → Onward R w o from (record { state = r; taken = i + 1 })
         unfolding final fits fault
-        stands-spoilt t s g r e = goes r (declines R here q (getD o i 0) r refl t e)
+        stands-spoilt t s g r e =
+            goes r (declines R here q (getD o i 0) r refl t (e ∙ ap (λ (z : Stage). declined (machine R) z 5 q) g))

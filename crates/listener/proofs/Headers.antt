@@ -1,6 +1,6 @@
 -- A run goes along parameters: where the turns came to is where the machine would have come, octet by octet.
 -- Assumes nothing.
-use Prim.Native.Nat.{ℕ, _+_, _-_, _≤_, _<_}
+use Prim.Native.Nat.{ℕ, _+_, _*_, _-_, _≤_, _<_}
 use mathlib.Core.Path.{_≡_, refl, sym, _∙_, ap, subst}
 use mathlib.Core.List.{List, [], _∷_}
 use native.Mathlib.Omega.{arith}
@@ -8,16 +8,19 @@ use native.Mathlib.Nat.{add-zero}
 use lib.ListN.{length, take, drop, length-drop}
 use lib.Seq.{take-all, drop-drop}
 use lib.Dec.{T}
-use Rattle.rules.specs.Tests.{pick}
+use Rattle.rules.specs.Tests.{_=?_, pick}
+use Rattle.rules.proofs.Tests.{both, join, pick-yes, pick-not, eq-of, of-eq}
+use Rattle.rules.specs.Contents.{within}
+use Rattle.rules.specs.Refusals.{notedIn}
 use Rattle.rules.specs.Octets.{Octets}
 use Rattle.rules.proofs.Octets.{octets-take, octets-drop}
 use Rattle.rules.specs.Table.{Rules}
 use Rattle.rules.proofs.ContentLaw.{SoundRules}
 use Rattle.rules.specs.Machine.{Machine, run, place}
-use Rattle.rules.specs.Judge.{machine, inRange}
+use Rattle.rules.specs.Judge.{machine, placeFits, countFits, inRange}
 use Rattle.rules.proofs.Language.{in-range-run}
 use Rattle.rules.proofs.Grammar.{spoken}
-use Rattle.rules.proofs.InRange.{low, high, inside}
+use Rattle.rules.proofs.InRange.{low, high, inside, of-behind, to-behind, few, refused-number}
 use Rattle.rules.proofs.Listening.{message-stays, refused-stays}
 use Rattle.rules.specs.declared.Spot.{Spot}
 use Rattle.rules.specs.declared.Stage.the-variants.{Header}
@@ -25,7 +28,7 @@ use Rattle.rules.specs.declared.State.{State}
 use Rattle.rules.specs.declared.State.the-variants.{Waiting, Message, Refused}
 use Rattle.turns.specs.declared.Stop.{Stop}
 use Rattle.turns.specs.Turns.{Turned, from}
-use Rattle.turns.proofs.Between.{along-from, along-room, along-inside, near, stop-inside}
+use Rattle.turns.proofs.Between.{along-from, along-room, along-count, along-inside, near, stop-inside}
 use Rattle.listener.specs.Heard.{stopped, taken, runFrom, Onward}
 use Rattle.listener.proofs.Runs.{place-taken, taken-most}
 
@@ -66,8 +69,12 @@ module _ (R : Rules) (S : SoundRules R) (o : List ℕ) (i : ℕ) (room : ℕ) (q
     all-there : rest ≡ drop i o
     all-there = take-all (length o - i) (drop i o) (omega (arith, length-drop i o))
 
-    begins : from R rest 0 room (q .sum) (q .place) ≡ run M w (drop i o)
-    begins = λ z. run M (Waiting (Header room) (record { sum = q .sum; place = add-zero (q .place) z })) (all-there z)
+    begins : from R rest 0 room (q .sum) 0 (q .place) (q .parameter) ≡ run M w (drop i o)
+    begins = λ z. run M (Waiting (Header room) (record {
+      sum = q .sum;
+      place = add-zero (q .place) z;
+      parameter = add-zero (q .parameter) z;
+    })) (all-there z)
 
     ends-in : T (inRange R (run M w (drop i o)))
     ends-in = in-range-run (spoken R S) w (drop i o) (octets-drop i o b) g
@@ -91,60 +98,106 @@ module _ (R : Rules) (S : SoundRules R) (o : List ℕ) (i : ℕ) (room : ℕ) (q
             place-is = p;
           }
 
-    module _ (s : Stop) (t : Turned R rest 0 room (q .sum) s) where
+    -- where the header stands
+    room-here : T (within (5, 257) (q .place + room))
+    unfolding inRange placeFits
+    room-here = both _ _ g .0
+
+    count-here : 3 * q .parameter + 2 ≤ q .place
+    unfolding inRange countFits
+    count-here = of-behind _ _ (both _ _ g .1)
+
+    module _ (s : Stop) (t : Turned R rest 0 room (q .sum) 0 s) where
       -- its place lies inside the octets, and is no further than a message's end
       pub there-place : i + s .place ≤ length o
       there-place = omega (arith, stop-inside R rest room (q .sum) s t, ap length all-there, length-drop i o)
 
       pub near-place : room ≤ 255 → q .place + s .place ≤ 65535
-      unfolding inRange
       near-place l =
           omega (
             arith,
-            high _ _ _ g,
-            near R rest S (octets-take (length o - i) (drop i o) (octets-drop i o b)) 0 room (q .sum)
-                (omega (arith, l)) s t,
+            high _ _ _ room-here,
+            near R rest S (octets-take (length o - i) (drop i o) (octets-drop i o b)) 0 room (q .sum) 0
+                (omega (arith, l)) (omega arith) s t,
           )
+
+      -- and its parameter is one of a message's
+      pub few-begun : q .parameter + s .parameter ≤ 255
+      few-begun = go s t
+        where
+          go : (s : Stop) → Turned R rest 0 room (q .sum) 0 s → q .parameter + s .parameter ≤ 255
+          go s (Turned.whole n f) = omega (arith, few R S (Header room) q g)
+          go s (Turned.early n r v c a x) =
+              omega (arith, along-count R rest a, along-room R rest a .1, count-here, high _ _ _ room-here)
+          go s (Turned.unsealed n f) = omega (arith, few R S (Header room) q g)
+          go s (Turned.spoilt k n c x y z f) =
+              let e = sym begins ∙ f (q .place) (q .parameter) in
+              omega (arith, refused-number R _ (subst (λ (x : State). T (inRange R x)) e ends-in) .2)
 
       pub to-message : s .number ≡ 0 → Jump (s .place) (Message (q .place + s .place))
       to-message e = go s t e
         where
-          go : (s : Stop) → Turned R rest 0 room (q .sum) s → s .number ≡ 0 →
+          go : (s : Stop) → Turned R rest 0 room (q .sum) 0 s → s .number ≡ 0 →
               Jump (s .place) (Message (q .place + s .place))
           go s (Turned.whole n f) e =
-              answered n (Message (q .place + n)) (sym begins ∙ f (q .place)) (message-stays M _ _) refl
-          go s (Turned.early n r v a x) e = absurd (omega arith)
-          go s (Turned.spoilt k n x y f) e = absurd (x e)
+              answered n (Message (q .place + n)) (sym begins ∙ f (q .place) (q .parameter)) (message-stays M _ _) refl
+          go s (Turned.early n r v c a x) e = absurd (omega arith)
+          go s (Turned.unsealed n f) e = absurd (omega arith)
+          go s (Turned.spoilt k n c x y z f) e = absurd (x e)
 
-      pub to-refusal : (s .number ≡ 0 → ⊥) → (s .number ≡ 8 → ⊥) →
-          Jump (s .place + 1) (Refused (record { number = s .number; place = q .place + s .place }))
+      pub to-refusal : (s .number ≡ 0 → ⊥) → (s .number ≡ 8 → ⊥) → (b : ℕ) →
+          b ≡ pick (s .number =? 6) 0 (q .parameter + s .parameter) →
+          Jump (s .place + 1) (Refused (notedIn (s .number) (q .place + s .place) b))
       to-refusal e d = go s t e d
         where
-          go : (s : Stop) → Turned R rest 0 room (q .sum) s → (s .number ≡ 0 → ⊥) → (s .number ≡ 8 → ⊥) →
-              Jump (s .place + 1) (Refused (record { number = s .number; place = q .place + s .place }))
-          go s (Turned.whole n f) e d = absurd (e refl)
-          go s (Turned.early n r v a x) e d = absurd (d refl)
-          go s (Turned.spoilt k n x y f) e d =
-              answered (n + 1) _ (sym begins ∙ f (q .place)) (refused-stays M _ _) (omega arith)
+          go : (s : Stop) → Turned R rest 0 room (q .sum) 0 s → (s .number ≡ 0 → ⊥) → (s .number ≡ 8 → ⊥) → (b : ℕ) →
+              b ≡ pick (s .number =? 6) 0 (q .parameter + s .parameter) →
+              Jump (s .place + 1) (Refused (notedIn (s .number) (q .place + s .place) b))
+          go s (Turned.whole n f) e d b u = absurd (e refl)
+          go s (Turned.early n r v c a x) e d b u = absurd (d refl)
+          go s (Turned.unsealed n f) e d b u =
+              subst (λ (k : ℕ). Jump (n + 1) (Refused (notedIn 6 (q .place + n) k)))
+              (sym (u ∙ pick-yes _ _ _ (of-eq _ _ refl)))
+              (answered (n + 1) _ (sym begins ∙ f (q .place) (q .parameter)) (refused-stays M _ _) (omega arith))
+          go s (Turned.spoilt k n c x y z f) e d b u =
+              subst (λ (j : ℕ). Jump (n + 1) (Refused (notedIn k (q .place + n) j)))
+              (sym (u ∙ pick-not _ _ _ (λ h. y (eq-of _ _ h))))
+              (answered (n + 1) _ (sym begins ∙ f (q .place) (q .parameter)) (refused-stays M _ _) (omega arith))
+
+      abbrev there-spot : Stop → Spot
+      there-spot s = record {
+        sum = s .sum;
+        place = q .place + s .place;
+        parameter = q .parameter + s .parameter;
+      }
 
       pub to-header : s .number ≡ 8 → (s .place ≡ 0 → ⊥) →
-          Jump (s .place) (Waiting (Header (s .room)) (record { sum = s .sum; place = q .place + s .place }))
-      unfolding inRange
+          Jump (s .place) (Waiting (Header (s .room)) (there-spot s))
+      unfolding inRange placeFits countFits
       to-header e d = go s t e d
         where
-          go : (s : Stop) → Turned R rest 0 room (q .sum) s → s .number ≡ 8 → (s .place ≡ 0 → ⊥) →
-              Jump (s .place) (Waiting (Header (s .room)) (record { sum = s .sum; place = q .place + s .place }))
+          go : (s : Stop) → Turned R rest 0 room (q .sum) 0 s → s .number ≡ 8 → (s .place ≡ 0 → ⊥) →
+              Jump (s .place) (Waiting (Header (s .room)) (there-spot s))
           go s (Turned.whole n f) e d = absurd (omega arith)
-          go s (Turned.spoilt k n x y f) e d = absurd (y e)
-          go s (Turned.early n r v a x) e d =
+          go s (Turned.unsealed n f) e d = absurd (omega arith)
+          go s (Turned.spoilt k n c x y z f) e d = absurd (z e)
+          go s (Turned.early n r v c a x) e d =
               let m = along-room R rest a .1 in
               let l = along-inside R rest a (omega arith) in
+              let k = along-count R rest a in
               record {
                 further = omega arith;
                 there = omega (arith, l, ap length all-there, length-drop i o);
-                in-range = inside 5 257 _ (omega (arith, m, low _ _ _ g)) (omega (arith, m, high _ _ _ g));
+                in-range =
+                    join _ _ (inside 5 257 _ (omega (arith, m, low _ _ _ room-here)) (omega (arith, m, high _ _ _ room-here)))
+                    (to-behind _ _ (omega (arith, k, count-here)));
                 same =
-                    ap (run M (Waiting (Header r) (record { sum = v; place = q .place + n })))
-                    (sym (ap (drop n) all-there ∙ drop-drop n i o)) ∙ sym (along-from R rest a (q .place)) ∙ begins;
+                    ap (run M (Waiting (Header r) (record {
+                      sum = v;
+                      place = q .place + n;
+                      parameter = q .parameter + c;
+                    })))
+                    (sym (ap (drop n) all-there ∙ drop-drop n i o))
+                    ∙ sym (along-from R rest a (q .place) (q .parameter)) ∙ begins;
                 place-is = refl;
               }

@@ -13,9 +13,12 @@ use lib.Dec.{T}
 use Rattle.rules.proofs.Tests.{pick-yes, pick-not, decide, clash}
 use Rattle.rules.specs.Octets.{Octets}
 use Rattle.rules.proofs.Octets.{octets-append, octets-take}
+use Rattle.rules.specs.Table.{rulesOf}
+use Rattle.rules.specs.Judge.{named}
+use Rattle.rules.proofs.InRange.{refused-named}
 use Rattle.rules.specs.declared.Book.{Book}
 use Rattle.rules.specs.Machine as machine
-use Rattle.rules.specs.Refusals.{noted}
+use Rattle.rules.specs.Refusals.{noted, notedIn}
 use Rattle.rules.specs.Machine.{answer, run, start, place}
 use Rattle.rules.proofs.Listening.{run-append}
 use Rattle.rules.specs.Language.{Language, languageOf}
@@ -99,13 +102,13 @@ answered (state.Refused f) n = refl
 abbrev pub Ranged : Answer → Type 0
 Ranged Waits = Unit {0}
 Ranged (Message n) = (6 ≤ n) × (n ≤ 258)
-Ranged (Refused f) = (1 ≤ f .number) × (f .number ≤ 10) × (f .place ≤ 257)
+Ranged (Refused f) = (1 ≤ f .number) × (f .number ≤ 10) × (f .place ≤ 257) × (f .parameter ≤ 85)
 
 pub ranged : {K : Language} → Spoken K → (w : State) → T (K .inRange w) → Ranged (answerOf w)
 unfolding answerOf
 ranged H (state.Waiting s q) t = tt
 ranged H (state.Message n) t = H .sized n t
-ranged H (state.Refused f) t = let d = H .refused f t in let k = H .numbers _ (d .0) in (k .0, k .1, d .1)
+ranged H (state.Refused f) t = let d = H .refused f t in let k = H .numbers _ (d .0) in (k .0, k .1, d .1, d .2)
 
 clear-of : {K : Language} → Spoken K → (w : State) → T (K .inRange w) → Clear (answerOf w)
 clear-of H w t = go (answerOf w) (ranged H w t)
@@ -189,12 +192,12 @@ module _ (l : Listener) (h : List ℕ) (s : LedBy l h) where
     message n k =
         Iff·trans (told-message _ n k) (λ a. is-message _ n (sym said ∙ a), λ a. said ∙ rw a (said-message n))
 
-    refused : (k p : ℕ) → 1 ≤ k →
-        (told (r .answer) ≡ refusal k p) ↔ (answer (M l) (h ++ o) ≡ state.Refused (noted k p))
-    refused k p m =
-        Iff·trans (told-refused _ k p m) (
-          λ a. is-refused _ (noted k p) (sym said ∙ a),
-          λ a. said ∙ rw a (said-refused (noted k p)),
+    refused : (k p b : ℕ) → 1 ≤ k →
+        (told (r .answer) ≡ refusal k p b) ↔ (answer (M l) (h ++ o) ≡ state.Refused (notedIn k p b))
+    refused k p b m =
+        Iff·trans (told-refused _ k p b m) (
+          λ a. is-refused _ (notedIn k p b) (sym said ∙ a),
+          λ a. said ∙ rw a (said-refused (notedIn k p b)),
         )
 
     pub hears : Hears (L l) h o r
@@ -202,10 +205,10 @@ module _ (l : Listener) (h : List ℕ) (s : LedBy l h) where
       clear = clear;
       waits = Iff·trans waits (demand3-of (l .book) .waits (h ++ o) all);
       has-message = λ n k. Iff·trans (message n k) (demand3-of (l .book) .has-message (h ++ o) all n);
-      refuses = λ k p m. Iff·trans (refused k p m) (demand3-of (l .book) .refuses (h ++ o) all (noted k p));
+      refuses = λ k p b m. Iff·trans (refused k p b m) (demand3-of (l .book) .refuses (h ++ o) all (notedIn k p b));
       taken-waiting = λ a. took ∙ taken-all (M l) (l .state) o (rw ran (not-stopped _ (waits .0 a)));
       taken-message = λ n k a. sym counts ∙ ap place (message n k .0 a);
-      taken-refused = λ k p m a. sym counts ∙ ap place (refused k p m .0 a);
+      taken-refused = λ k p b m a. sym counts ∙ ap place (refused k p b m .0 a);
       answers-by-258 = λ a. demand3-of (l .book) .answers-by-258 (h ++ o) all (waits .0 a);
     }
 
@@ -280,6 +283,15 @@ in-range-number l o q t r e f a =
     let w : run (M l) (l .state) o ≡ state.Refused f =
     is-refused _ f (sym (ap (λ (x : Heard). x .answer) (e ∙ in-range-heard l o t)) ∙ a) in
     S l .refused f (subst (λ (x : State). T (L l .inRange x)) w (in-range-run (S l) (l .state) o q t)) .0
+
+-- in a parameter that the number has
+pub in-range-names : (l : Listener) (o : List ℕ) → Octets o → T (L l .inRange (l .state)) → (r : Heard) →
+    r ≡ heardOf l o → (f : Fault) → r .answer ≡ Refused f → T (named (f .number) (f .parameter))
+in-range-names l o q t r e f a =
+    let w : run (M l) (l .state) o ≡ state.Refused f =
+    is-refused _ f (sym (ap (λ (x : Heard). x .answer) (e ∙ in-range-heard l o t)) ∙ a) in
+    refused-named (rulesOf (l .book)) f
+    (subst (λ (x : State). T (L l .inRange x)) w (in-range-run (S l) (l .state) o q t))
 
 -- it gives a number of its language, or 17 at 0 where it is out of range
 pub numbers : (l : Listener) (o : List ℕ) → Octets o → (r : Heard) → r ≡ heardOf l o → (f : Fault) →

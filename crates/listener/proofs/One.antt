@@ -29,12 +29,12 @@ hears-one L h o r s A B = go (r .answer) refl
         (e ∙ sym (told-message _ n l .0 b), omega (arith, A .taken-message n l a, B .taken-message n l b))
     go (Refused f) e =
         let l : 1 ≤ f .number = subst Clear e (A .clear) in
-        let a = told-refused _ (f .number) (f .place) l .1 e in
-        let b = B .refuses (f .number) (f .place) l .1 (A .refuses (f .number) (f .place) l .0 a) in (
-          e ∙ sym (told-refused _ (f .number) (f .place) l .0 b),
+        let a = told-refused _ (f .number) (f .place) (f .parameter) l .1 e in
+        let b = B .refuses (f .number) (f .place) (f .parameter) l .1 (A .refuses (f .number) (f .place) (f .parameter) l .0 a) in (
+          e ∙ sym (told-refused _ (f .number) (f .place) (f .parameter) l .0 b),
           omega (
             arith,
-            A .taken-refused (f .number) (f .place) l a,
-            B .taken-refused (f .number) (f .place) l b,
+            A .taken-refused (f .number) (f .place) (f .parameter) l a,
+            B .taken-refused (f .number) (f .place) (f .parameter) l b,
           ),
         )

@@ -10,6 +10,7 @@ use lib.ListN.{take}
 use lib.Dec.{T}
 use Rattle.rules.specs.Octets.{Octets}
 use Rattle.rules.specs.Refusals.{noted}
+use Rattle.rules.specs.Judge.{named}
 use Rattle.rules.specs.Language.{languageOf}
 use Rattle.rules.specs.declared.Book.{Book}
 use Rattle.rules.specs.declared.Fault.{Fault}
@@ -94,6 +95,11 @@ module _ (l : Listener) (o : List ℕ) (r : declared.Heard) (p : listen-gives l 
   pub numbers : Octets o → (f : Fault) → r .answer ≡ Refused f →
       T (languageOf (l .book) .given (f .number)) ⊎ (f ≡ noted 17 0)
   numbers q f e = hears.numbers l o q r (listen-is l o r p) f e
+
+  -- and one in range names a parameter as its number says
+  pub names : Octets o → T (languageOf (l .book) .inRange (l .state)) → (f : Fault) → r .answer ≡ Refused f →
+      T (named (f .number) (f .parameter))
+  names q t f e = hears.in-range-names l o q t r (listen-is l o r p) f e
 
   -- one in range, also where no octets lead to it, is stepped by the written rule of its book, and keeps that; answer
   -- and octets taken are the rule's too

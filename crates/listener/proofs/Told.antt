@@ -1,11 +1,11 @@
--- Number, place and size tell an answer of the listener: a message has a size, and a refusal a number.
+-- Number, place, parameter and size tell an answer of the listener: a message has a size, and a refusal a number.
 -- Assumes nothing.
 use Prim.Native.Nat.{ℕ, _≤_}
 use mathlib.Core.Path.{_≡_, refl, ap}
 use mathlib.Core.Logic.{_↔_}
 use native.Mathlib.Omega.{arith}
 use Rattle.rules.proofs.Tests.{clash}
-use Rattle.rules.specs.Refusals.{noted}
+use Rattle.rules.specs.Refusals.{notedIn}
 use Rattle.rules.specs.declared.Fault.{Fault}
 use Rattle.listener.specs.declared.Answer.{Answer}
 use Rattle.listener.specs.declared.Answer.the-variants.{Waits, Message, Refused}
@@ -33,13 +33,13 @@ told-message (Message m) n l = (
 )
 told-message (Refused f) n l = (λ e. absurd (omega (arith, size-is e)), λ e. clash cc)
 
-pub told-refused : (a : Answer) (k p : ℕ) → 1 ≤ k → (told a ≡ refusal k p) ↔ (a ≡ Refused (noted k p))
+pub told-refused : (a : Answer) (k p b : ℕ) → 1 ≤ k → (told a ≡ refusal k p b) ↔ (a ≡ Refused (notedIn k p b))
 unfolding told
-told-refused Waits k p l = (λ e. absurd (omega (arith, number-is e)), λ e. clash cc)
-told-refused (Message n) k p l = (λ e. absurd (omega (arith, number-is e)), λ e. clash cc)
-told-refused (Refused f) k p l = (
-  λ e i. Refused (noted (e i .number) (e i .place)),
-  λ e. let d : f ≡ noted k p = cc in ap (λ (g : Fault). refusal (g .number) (g .place)) d,
+told-refused Waits k p b l = (λ e. absurd (omega (arith, number-is e)), λ e. clash cc)
+told-refused (Message n) k p b l = (λ e. absurd (omega (arith, number-is e)), λ e. clash cc)
+told-refused (Refused f) k p b l = (
+  λ e i. Refused (notedIn (e i .number) (e i .place) (e i .parameter)),
+  λ e. let d : f ≡ notedIn k p b = cc in ap (λ (g : Fault). refusal (g .number) (g .place) (g .parameter)) d,
 )
 
 -- ---- field by field
@@ -55,12 +55,12 @@ fields-message Waits n l = (λ e. absurd (omega arith), λ e. size-is e)
 fields-message (Message m) n l = (λ e. ap (λ (x : ℕ). success x) e, λ e. size-is e)
 fields-message (Refused f) n l = (λ e. absurd (omega arith), λ e. size-is e)
 
-pub fields-refusal : (a : Answer) (k p : ℕ) → 1 ≤ k →
-    ((told a .number ≡ k) × (told a .place ≡ p)) ↔ (told a ≡ refusal k p)
+pub fields-refusal : (a : Answer) (k p b : ℕ) → 1 ≤ k →
+    ((told a .number ≡ k) × (told a .place ≡ p) × (told a .parameter ≡ b)) ↔ (told a ≡ refusal k p b)
 unfolding told
-fields-refusal Waits k p l = (λ e. absurd (omega (arith, e .0)), λ e. absurd (omega (arith, number-is e)))
-fields-refusal (Message n) k p l = (λ e. absurd (omega (arith, e .0)), λ e. absurd (omega (arith, number-is e)))
-fields-refusal (Refused f) k p l = (
-  λ e i. refusal (e .0 i) (e .1 i),
-  λ e. (number-is e, ap (λ (t : Told). t .place) e),
+fields-refusal Waits k p b l = (λ e. absurd (omega (arith, e .0)), λ e. absurd (omega (arith, number-is e)))
+fields-refusal (Message n) k p b l = (λ e. absurd (omega (arith, e .0)), λ e. absurd (omega (arith, number-is e)))
+fields-refusal (Refused f) k p b l = (
+  λ e i. refusal (e .0 i) (e .1 i) (e .2 i),
+  λ e. (number-is e, ap (λ (t : Told). t .place) e, ap (λ (t : Told). t .parameter) e),
 )

@@ -5,28 +5,29 @@ use Prim.Native.Nat.{ℕ, _≤_}
 use Rattle.listener.specs.declared.Answer.{Answer}
 use Rattle.listener.specs.declared.Answer.the-variants.{Waits, Message, Refused}
 
--- the number and place of a refusal, the size of a message; 0 where there is none
+-- number, place and parameter of a refusal, the size of a message; 0 where there is none
 pub record Told : Type 0 where
   pub number : ℕ
   pub place : ℕ
+  pub parameter : ℕ
   pub size : ℕ
 
 unfoldable pub told : Answer → Told
-told Waits = record { number = 0; place = 0; size = 0 }
-told (Message n) = record { number = 0; place = 0; size = n }
-told (Refused f) = record { number = f .number; place = f .place; size = 0 }
+told Waits = record { number = 0; place = 0; parameter = 0; size = 0 }
+told (Message n) = record { number = 0; place = 0; parameter = 0; size = n }
+told (Refused f) = record { number = f .number; place = f .place; parameter = f .parameter; size = 0 }
 
 -- it waits
 abbrev pub waiting : Told
-waiting = record { number = 0; place = 0; size = 0 }
+waiting = record { number = 0; place = 0; parameter = 0; size = 0 }
 
 -- a message of n octets
 abbrev pub success : ℕ → Told
-success n = record { number = 0; place = 0; size = n }
+success n = record { number = 0; place = 0; parameter = 0; size = n }
 
--- a refusal with number k at p
-abbrev pub refusal : ℕ → ℕ → Told
-refusal k p = record { number = k; place = p; size = 0 }
+-- a refusal with number k at p, in parameter b
+abbrev pub refusal : ℕ → ℕ → ℕ → Told
+refusal k p b = record { number = k; place = p; parameter = b; size = 0 }
 
 -- a message has a size, and a refusal a number: so what is told tells the answer
 abbrev pub Clear : Answer → Type 0

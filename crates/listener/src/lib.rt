@@ -7,14 +7,15 @@ use rules::Spot;
 use rules::Stage;
 use rules::State;
 ghost use mathlib.Core.Path.{_≡_};
-ghost use Prim.Native.Nat.{_<_};
+ghost use Prim.Native.Nat.{_≤_, _<_};
 ghost use lib.Dec.{T};
 ghost use lib.ListN as list;
 ghost use Rattle.rules.specs.Contents.{within};
 ghost use Rattle.rules.specs.Table.{rulesOf};
 ghost use Rattle.rules.specs.Machine as machine;
 ghost use Rattle.rules.specs.OctetRows.{AskedRow, AskedRows};
-ghost use Rattle.rules.specs.Judge.{given, inRange};
+ghost use Rattle.rules.specs.Tests.{_=?_, _or_, pick};
+ghost use Rattle.rules.specs.Judge.{given, inRange, placeFits, countFits};
 ghost use Rattle.rules.specs.Judge as judge;
 ghost use Rattle.rules.specs.declared.State.the-variants as state;
 ghost use Rattle.rules.specs.declared.Stage.the-variants as stage;
@@ -59,23 +60,28 @@ struct Inside {
     spot: Spot,
 }
 
-fn moved(book: Book, stage: Stage, q: Spot, x: u8) -> Spot
-    requires { ⌜ q .place < 65535 ⌝ }
+// The spot after an octet that a stage took, which stands in this parameter.
+fn moved(book: Book, stage: Stage, q: Spot, x: u8, parameter: u8) -> Spot
+    requires { ⌜ (q .place < 65535) × (parameter ≡ judge.standsIn stage (q .parameter)) ⌝ }
     ensures { λ r. ⌜ r ≡ machine.moved (judge.machine (rulesOf book)) stage q x ⌝ }
 {
     let sum = std::num::wrapping_add_u8(q.sum, x);
     Spot {
         sum,
         place: q.place + 1,
+        parameter,
     }
 }
 
-fn declined(book: Book, stage: Stage, number: u8, q: Spot) -> State
+// An octet that a stage refuses, which stands in this parameter.
+fn declined(book: Book, stage: Stage, number: u8, q: Spot, parameter: u8) -> State
+    requires { ⌜ parameter ≡ judge.standsIn stage (q .parameter) ⌝ }
     ensures { λ r. ⌜ r ≡ machine.declined (judge.machine (rulesOf book)) stage number q ⌝ }
 {
     State::Refused(Fault {
         number,
         place: q.place,
+        parameter,
     })
 }
 
@@ -101,9 +107,9 @@ fn at_kind(book: Book, q: Spot, x: u8) -> State
     ensures { λ r. ⌜ r ≡ machine.step (judge.machine (rulesOf book)) (state.Waiting stage.Kind q) x ⌝ }
 {
     if rules::message_kind(x) {
-        State::Waiting(Stage::Size, moved(book, Stage::Kind, q, x))
+        State::Waiting(Stage::Size, moved(book, Stage::Kind, q, x, 0))
     } else {
-        declined(book, Stage::Kind, 1, q)
+        declined(book, Stage::Kind, 1, q, 0)
     }
 }
 
@@ -112,9 +118,9 @@ fn at_size(book: Book, q: Spot, x: u8) -> State
     ensures { λ r. ⌜ r ≡ machine.step (judge.machine (rulesOf book)) (state.Waiting stage.Size q) x ⌝ }
 {
     if 3 <= x {
-        State::Waiting(Stage::Header { room: x }, moved(book, Stage::Size, q, x))
+        State::Waiting(Stage::Header { room: x }, moved(book, Stage::Size, q, x, 0))
     } else {
-        declined(book, Stage::Size, 2, q)
+        declined(book, Stage::Size, 2, q, 0)
     }
 }
 
@@ -125,26 +131,27 @@ fn at_check(book: Book, q: Spot, x: u8) -> State
     if x == std::num::wrapping_sub_u8(0, q.sum) {
         State::Message(q.place + 1)
     } else {
-        declined(book, Stage::Header { room: 0 }, 6, q)
+        State::Refused(rules::noted(6, q.place))
     }
 }
 
 fn at_header(book: Book, room: u8, q: Spot, x: u8) -> State
-    requires { ⌜ q .place < 65535 ⌝ }
+    requires { ⌜ (q .place < 65535) × (q .parameter < 255) ⌝ }
     ensures { λ r. ⌜ r ≡ machine.step (judge.machine (rulesOf book)) (state.Waiting (stage.Header room) q) x ⌝ }
 {
     if room == 0 {
         at_check(book, q, x)
     } else {
         let class = rules::class_of(book, x);
+        let begun = q.parameter + 1;
         if rules::possible(class, room) {
             State::Waiting(
                 Stage::Length { class, room },
-                moved(book, Stage::Header { room }, q, x),
+                moved(book, Stage::Header { room }, q, x, begun),
             )
         } else {
             let number = rules::class_fault(class);
-            declined(book, Stage::Header { room }, number, q)
+            declined(book, Stage::Header { room }, number, q, begun)
         }
     }
 }
@@ -155,9 +162,12 @@ fn at_length(book: Book, class: Class, room: u8, q: Spot, x: u8) -> State
 {
     if rules::length_fits(class, room, x) {
         let next = contents(class, x, 0, 0, room - 2 - x);
-        State::Waiting(next, moved(book, Stage::Length { class, room }, q, x))
+        State::Waiting(
+            next,
+            moved(book, Stage::Length { class, room }, q, x, q.parameter),
+        )
     } else {
-        declined(book, Stage::Length { class, room }, 4, q)
+        declined(book, Stage::Length { class, room }, 4, q, q.parameter)
     }
 }
 
@@ -183,7 +193,7 @@ fn further(book: Book, f: Frame, index: u8, memory: u8, q: Spot, x: u8) -> Insid
     let class = f.class;
     let here = content_at(f, index, memory);
     let kept = rules::remember(class, f.length, index, memory, x);
-    let spot = moved(book, here, q, x);
+    let spot = moved(book, here, q, x, q.parameter);
     Inside {
         index: index + 1,
         memory: kept,
@@ -240,7 +250,7 @@ fn by_octets(
         } else {
             let here = content_at(f, index, memory);
             return Ran {
-                state: declined(book, here, 5, q),
+                state: declined(book, here, 5, q, q.parameter),
                 taken: i + 1,
             };
         }
@@ -265,6 +275,13 @@ fn along(book: Book, f: Frame, first: u8, kept: u8, spot: Spot, octets: &[u8], f
     }
 }
 
+// The parameter of an octet that spoils a message: none at the checksum.
+fn parameter_of(number: u8, begun: u8) -> u8
+    ensures { λ r. ⌜ r ≡ pick (number =? 6) 0 begun ⌝ }
+{
+    if number == 6 { 0 } else { begun }
+}
+
 // Parameters from a header on: to the message or the refusal that they come to, or to the last header on the way; one
 // octet where that is this one.
 fn by_turns(book: Book, room: u8, q: Spot, octets: &[u8], i: usize) -> Ran
@@ -274,6 +291,7 @@ fn by_turns(book: Book, room: u8, q: Spot, octets: &[u8], i: usize) -> Ran
     let stop = turns::through(book, &octets[i..], room, q.sum);
     let gone = i + stop.place as usize;
     let place = q.place + stop.place;
+    let begun = q.parameter + stop.parameter;
     if stop.number == 0 {
         Ran {
             state: State::Message(place),
@@ -290,6 +308,7 @@ fn by_turns(book: Book, room: u8, q: Spot, octets: &[u8], i: usize) -> Ran
             let spot = Spot {
                 sum: stop.sum,
                 place,
+                parameter: begun,
             };
             Ran {
                 state: State::Waiting(Stage::Header { room: stop.room }, spot),
@@ -300,6 +319,7 @@ fn by_turns(book: Book, room: u8, q: Spot, octets: &[u8], i: usize) -> Ran
         let fault = Fault {
             number: stop.number,
             place,
+            parameter: parameter_of(stop.number, begun),
         };
         Ran {
             state: State::Refused(fault),
@@ -372,13 +392,13 @@ fn known_number(book: Book, k: u8) -> bool
     }
 }
 
-fn spot_in_range(book: Book, stage: Stage, q: Spot) -> bool
-    ensures { λ r. ⌜ r ≡ inRange (rulesOf book) (state.Waiting stage q) ⌝ }
+fn place_fits(stage: Stage, at: u16) -> bool
+    ensures { λ r. ⌜ r ≡ placeFits stage at ⌝ }
 {
-    let place = q.place as u32;
+    let place = at as u32;
     match stage {
-        Stage::Kind => q.place == 0,
-        Stage::Size => q.place == 1,
+        Stage::Kind => at == 0,
+        Stage::Size => at == 1,
         Stage::Header { room } => between(5, 257, place + room as u32),
         Stage::Length { class: _, room } => {
             if 1 <= room {
@@ -404,19 +424,85 @@ fn spot_in_range(book: Book, stage: Stage, q: Spot) -> bool
     }
 }
 
+fn amid(count: u32, index: u32, place: u32) -> bool
+    requires { ⌜ (count ≤ 255) × (index ≤ 256) ⌝ }
+    ensures { λ r. ⌜ r ≡ judge.amid count index place ⌝ }
+{
+    1 <= count && 3 * count + index <= place
+}
+
+fn count_fits(stage: Stage, at: u16, parameter: u8) -> bool
+    ensures { λ r. ⌜ r ≡ countFits stage at parameter ⌝ }
+{
+    let place = at as u32;
+    let count = parameter as u32;
+    match stage {
+        Stage::Kind => parameter == 0,
+        Stage::Size => parameter == 0,
+        Stage::Header { room: _ } => 3 * count + 2 <= place,
+        Stage::Length { class: _, room: _ } => amid(count, 0, place),
+        Stage::Content {
+            class: _,
+            length: _,
+            index,
+            memory: _,
+            room: _,
+        } => amid(count, 1 + index as u32, place),
+    }
+}
+
+// Is it the number of a type, a length or contents, which stand in a parameter?
+fn in_parameter(number: u8) -> bool
+    ensures { λ r. ⌜ r ≡ (within (3, 5) number or number =? 10) ⌝ }
+{
+    if between(3, 5, number as u32) {
+        true
+    } else {
+        number == 10
+    }
+}
+
+fn named(number: u8, parameter: u8) -> bool
+    ensures { λ r. ⌜ r ≡ judge.named number parameter ⌝ }
+{
+    if in_parameter(number) {
+        between(1, rules::MOST as u32, parameter as u32)
+    } else {
+        parameter == 0
+    }
+}
+
+fn fault_in_range(book: Book, f: Fault) -> bool
+    ensures { λ r. ⌜ r ≡ inRange (rulesOf book) (state.Refused f) ⌝ }
+{
+    if known_number(book, f.number) {
+        if f.place <= 257 {
+            named(f.number, f.parameter)
+        } else {
+            false
+        }
+    } else {
+        false
+    }
+}
+
+fn spot_in_range(book: Book, stage: Stage, q: Spot) -> bool
+    ensures { λ r. ⌜ r ≡ inRange (rulesOf book) (state.Waiting stage q) ⌝ }
+{
+    if place_fits(stage, q.place) {
+        count_fits(stage, q.place, q.parameter)
+    } else {
+        false
+    }
+}
+
 fn in_range(book: Book, s: State) -> bool
     ensures { λ r. ⌜ r ≡ inRange (rulesOf book) s ⌝ }
 {
     match s {
         State::Waiting(stage, q) => spot_in_range(book, stage, q),
         State::Message(n) => between(6, 258, n as u32),
-        State::Refused(f) => {
-            if known_number(book, f.number) {
-                f.place <= 257
-            } else {
-                false
-            }
-        }
+        State::Refused(f) => fault_in_range(book, f),
     }
 }
 
@@ -469,7 +555,14 @@ pub fn reset(book: Book) -> Listener
 {
     Listener {
         book,
-        state: State::Waiting(Stage::Kind, Spot { sum: 0, place: 0 }),
+        state: State::Waiting(
+            Stage::Kind,
+            Spot {
+                sum: 0,
+                place: 0,
+                parameter: 0,
+            },
+        ),
     }
 }
 

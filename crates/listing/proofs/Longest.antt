@@ -166,19 +166,23 @@ module _ (m : Message) (legal : LegalMessage (rulesOf PresentLenient) m) where
       )
 
 -- nor is that of a refusal
-pub refusal-short : (f : Fault) → f .number < 1000 → f .place < 1000 → length (written (refusalLines f)) ≤ bufferSize
+pub refusal-short : (f : Fault) → f .number < 1000 → f .place < 1000 → f .parameter < 1000 →
+    length (written (refusalLines f)) ≤ bufferSize
 unfolding refusalLines written ascii
-refusal-short f a b =
+refusal-short f a b c =
     let k : Line = record { key = ascii "refused"; value = decimal (f .number) } in
     let p : Line = record { key = ascii "at"; value = decimal (f .place) } in
+    let q : Line = record { key = ascii "in"; value = decimal (f .parameter) } in
     omega (
       arith,
-      length-append (lineText k) (written (p ∷ [])),
+      length-append (lineText k) (written (p ∷ q ∷ [])),
+      length-append (lineText p) (written (q ∷ [])),
       line-long k,
-      one-line p,
-      three-digits (f .number)
-          a,
+      line-long p,
+      one-line q,
+      three-digits (f .number) a,
       three-digits (f .place) b,
+      three-digits (f .parameter) c,
     )
 
 -- so a listing lies within its buffer

@@ -66,10 +66,11 @@ module _ (R : Rules) where
     same-lines (Declined f) e =
         let k = f .number in
         let p = f .place in
+        let b = f .parameter in
         let l = some-number (A .judged) f e in
-        let t = told-declined _ k p l .1 e in
+        let t = told-declined _ k p b l .1 e in
         let z = sym (judges-one (calls R) o _ _ (A .judged) (B .judged)) ∙ e in
-        A .refused k p l t ∙ sym (B .refused k p l (told-declined _ k p l .1 z))
+        A .refused k p b l t ∙ sym (B .refused k p b l (told-declined _ k p b l .1 z))
 
     -- any octets have one listing
     pub lists-one : r ≡ s

@@ -76,7 +76,7 @@ module _ (o : List ℕ) (r : ListingText) (h : listing-gives o r) where
       cut (shown r) ≡ bares (messageLines (rulesOf PresentLenient) m)
   lists-lines m l e = ap cut (lists-message m l e) ∙ lines-back m l
 
-  -- of a refusal: number and place, as the verdict has them
+  -- of a refusal: number, place and parameter, as the verdict has them
   pub lists-refusal : (f : Fault) → verdictOf (rulesOf PresentLenient) o ≡ Declined f →
       shown r ≡ written (refusalLines f)
   unfolding listingOf verdictLines
@@ -106,7 +106,7 @@ module _ (o : List ℕ) (q : Octets o) where
         verdict = verdictOf R o;
         judged = judges-of PresentLenient o q;
         lines = verdictLines R o (verdictOf R o);
-        refused = λ k p l e. ap (verdictLines R o) (told-declined _ k p l .0 e);
+        refused = λ k p b l e. ap (verdictLines R o) (told-declined _ k p b l .0 e);
         message = message-lines;
         text = of-text v .0;
         inside = omega arith;

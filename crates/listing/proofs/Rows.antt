@@ -183,8 +183,11 @@ message-text o x n e d =
     (carriedLine (carriedIn (rulesOf PresentLenient) (parametersIn o)) ∷ [])))
 
 pub refusal-text : (f : Fault) →
-    numberLine (ascii "refused=") (f .number) ++ numberLine (ascii "at=") (f .place) ≡ written (refusalLines f)
+    numberLine (ascii "refused=") (f .number) ++ numberLine (ascii "at=") (f .place)
+    ++ numberLine (ascii "in=") (f .parameter) ≡ written (refusalLines f)
 unfolding refusalLines written lineText numberLine ascii
 refusal-text f =
-    ap (λ (v : List ℕ). numberLine (ascii "refused=") (f .number) ++ v)
-    (sym (append-nil (numberLine (ascii "at=") (f .place))))
+    append-assoc (numberLine (ascii "refused=") (f .number)) (numberLine (ascii "at=") (f .place))
+    (numberLine (ascii "in=") (f .parameter))
+    ∙ ap (λ (v : List ℕ). numberLine (ascii "refused=") (f .number) ++ (numberLine (ascii "at=") (f .place) ++ v))
+    (sym (append-nil (numberLine (ascii "in=") (f .parameter))))

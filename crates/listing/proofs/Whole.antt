@@ -20,7 +20,7 @@ use Rattle.rules.proofs.Grammar.{spoken-of}
 use Rattle.message.specs.declared.Verdict.{Verdict}
 use Rattle.message.specs.declared.Verdict.the-variants.{Accepted, Declined}
 use Rattle.message.specs.Verdict.{verdictOf}
-use Rattle.message.proofs.Judges.{judges-of, told-small, near-declined}
+use Rattle.message.proofs.Judges.{judges-of, told-small, near-declined, few-declined}
 use Rattle.message.proofs.Told.{accepted-iff, number-of}
 use Rattle.message.specs.Parts.{countedAt, partOf}
 use Rattle.message.proofs.Searching.{counted-part}
@@ -89,7 +89,7 @@ module _ (o : List ℕ) (q : Octets o) (v : Verdict) (e : v ≡ verdictOf (rules
         is = ap (λ (x : Verdict). written (verdictLines (rulesOf PresentLenient) o x)) (sym d ∙ e);
         short =
             refusal-short f (omega (arith, told-small (spoken-of PresentLenient) _ (number-of j f (sym e ∙ d)) .1))
-            (omega (arith, near-declined j f (sym e ∙ d)));
+            (omega (arith, near-declined j f (sym e ∙ d))) (omega (arith, few-declined j f (sym e ∙ d)));
       }
 
 -- every listing has

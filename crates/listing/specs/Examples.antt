@@ -14,7 +14,7 @@ use Rattle.rules.specs.Message.{Parameter, Message, body, octets, messageKind}
 use Rattle.rules.specs.Counting.{firstOf, counted, carriedIn}
 use Rattle.rules.specs.ContentJudge.{opens, tensFit, onesFit, pairAt, dayFits, calendarAt, calendarKeep, columnAt, judgeOf}
 use Rattle.rules.specs.Machine.{step, run}
-use Rattle.rules.specs.Judge.{roomFits, rangePossible, somePossible, possible, final, fits, contents, after, fault, machine}
+use Rattle.rules.specs.Judge.{roomFits, rangePossible, somePossible, possible, final, fits, contents, after, fault, standsIn, machine}
 use Rattle.message.specs.Verdict.{judged, verdictOf}
 use Rattle.message.specs.Parts.{parameterAt}
 use Rattle.message.specs.Parameters.{found, parametersFrom, parametersIn, messageIn}
@@ -39,17 +39,18 @@ texts (r ∷ rs) = ascii (r .1) ∷ texts rs
 abbrev pub rows : List Example
 rows =
     (0x80 ∷ 0x11 ∷ 0x01 ∷ 0x08 ∷ 0x30 ∷ 0x36 ∷ 0x31 ∷ 0x35 ∷ 0x31 ∷ 0x34 ∷ 0x33 ∷ 0x30 ∷ 0x02 ∷ 0x05 ∷ 0x34 ∷ 0x30 ∷ 0x39 ∷ 0x31 ∷ 0x32 ∷ 0xCB ∷ [], "kind=call\ntime=06-15 14:30\ncaller=40912\ncarried=0\n") ∷
-    ([], "refused=8\nat=0\n") ∷
-    (0x81 ∷ [], "refused=1\nat=0\n") ∷
-    (0x80 ∷ 0x02 ∷ [], "refused=2\nat=1\n") ∷
-    (0x80 ∷ 0x03 ∷ [], "refused=8\nat=2\n") ∷
-    (0x80 ∷ 0x0B ∷ 0x01 ∷ [], "refused=3\nat=2\n") ∷
-    (0x80 ∷ 0x17 ∷ 0x02 ∷ 0x15 ∷ [], "refused=4\nat=3\n") ∷
-    (0x80 ∷ 0x0A ∷ 0x01 ∷ 0x08 ∷ 0x31 ∷ 0x33 ∷ [], "refused=5\nat=5\n") ∷
-    (0x82 ∷ 0x03 ∷ 0x0B ∷ 0x01 ∷ 0x80 ∷ [], "refused=5\nat=4\n") ∷
+    ([], "refused=8\nat=0\nin=0\n") ∷
+    (0x81 ∷ [], "refused=1\nat=0\nin=0\n") ∷
+    (0x80 ∷ 0x02 ∷ [], "refused=2\nat=1\nin=0\n") ∷
+    (0x80 ∷ 0x03 ∷ [], "refused=8\nat=2\nin=0\n") ∷
+    (0x80 ∷ 0x0B ∷ 0x01 ∷ [], "refused=3\nat=2\nin=1\n") ∷
+    (0x80 ∷ 0x17 ∷ 0x02 ∷ 0x15 ∷ [], "refused=4\nat=3\nin=1\n") ∷
+    (0x80 ∷ 0x0A ∷ 0x01 ∷ 0x08 ∷ 0x31 ∷ 0x33 ∷ [], "refused=5\nat=5\nin=1\n") ∷
+    (0x82 ∷ 0x03 ∷ 0x0B ∷ 0x01 ∷ 0x80 ∷ [], "refused=5\nat=4\nin=1\n") ∷
+    (0x80 ∷ 0x06 ∷ 0x05 ∷ 0x01 ∷ 0x00 ∷ 0x02 ∷ 0x01 ∷ 0x41 ∷ [], "refused=5\nat=7\nin=2\n") ∷
     (0x82 ∷ 0x03 ∷ 0x0B ∷ 0x01 ∷ 0xFF ∷ 0x70 ∷ [], "kind=notice\nlamp=on\ncarried=0\n") ∷
-    (0x82 ∷ 0x03 ∷ 0x0B ∷ 0x01 ∷ 0xFF ∷ 0x71 ∷ [], "refused=6\nat=5\n") ∷
-    (0x82 ∷ 0x03 ∷ 0x0B ∷ 0x01 ∷ 0xFF ∷ 0x70 ∷ 0x00 ∷ [], "refused=7\nat=6\n") ∷
+    (0x82 ∷ 0x03 ∷ 0x0B ∷ 0x01 ∷ 0xFF ∷ 0x71 ∷ [], "refused=6\nat=5\nin=0\n") ∷
+    (0x82 ∷ 0x03 ∷ 0x0B ∷ 0x01 ∷ 0xFF ∷ 0x70 ∷ 0x00 ∷ [], "refused=7\nat=6\nin=0\n") ∷
     (0x82 ∷ 0x03 ∷ 0x13 ∷ 0x01 ∷ 0x02 ∷ 0x65 ∷ [], "kind=notice\nwaiting=2\ncarried=0\n") ∷
     (0x82 ∷ 0x06 ∷ 0x13 ∷ 0x01 ∷ 0x02 ∷ 0x13 ∷ 0x01 ∷ 0x05 ∷ 0x49 ∷ [], "kind=notice\nwaiting=2\ncarried=0\n") ∷
     (0x80 ∷ 0x06 ∷ 0x04 ∷ 0x01 ∷ 0x50 ∷ 0x02 ∷ 0x01 ∷ 0x37 ∷ 0xEB ∷ [], "kind=call\ncaller-absent=P\ncarried=0\n") ∷
@@ -83,5 +84,5 @@ pub record Claim : Type 0 where
   pub longest : length (listingOf (rulesOf PresentLenient) (octets long)) ≡ bufferSize
 
 pub examples : Claim
-unfolding ascii _≤?_ _=?_ _and_ _or_ pick total checksum within inSet whole digit rowIn rowOf listedIn listed classOf rivalOf typeFault classFault someLength styleOf rulesOf body octets messageKind firstOf counted carriedIn opens tensFit onesFit pairAt shortMonth days dayFits calendarAt calendarKeep columnAt judgeOf step run roomFits rangePossible somePossible possible final fits contents after fault machine judged verdictOf parameterAt found parametersFrom parametersIn messageIn digitsBy decimal hexDigit hex half clock lampWord stateWord reference printed lineText written lineOf linesFor rowLines kindLine carriedLine messageLines refusalLines listing.verdictLines listingOf listings texts
+unfolding ascii _≤?_ _=?_ _and_ _or_ pick total checksum within inSet whole digit rowIn rowOf listedIn listed classOf rivalOf typeFault classFault someLength styleOf rulesOf body octets messageKind firstOf counted carriedIn opens tensFit onesFit pairAt shortMonth days dayFits calendarAt calendarKeep columnAt judgeOf step run roomFits rangePossible somePossible possible final fits contents after fault standsIn machine judged verdictOf parameterAt found parametersFrom parametersIn messageIn digitsBy decimal hexDigit hex half clock lampWord stateWord reference printed lineText written lineOf linesFor rowLines kindLine carriedLine messageLines refusalLines listing.verdictLines listingOf listings texts
 examples = record { printed = refl; longest = refl }

@@ -95,14 +95,15 @@ carriedLine n = record { key = ascii "carried"; value = decimal n }
 unfoldable pub messageLines : Rules → Message → List Line
 messageLines R m = kindLine (m .kind) ∷ (rowLines R m (R .rows) ++ carriedLine (carriedIn R (m .parameters)) ∷ [])
 
--- number and place of a refusal
+-- number, place and parameter of a refusal (document 02, Q-3)
 unfoldable pub refusalLines : Fault → List Line
 refusalLines f =
     (record { key = ascii "refused"; value = decimal (f .number) })
     ∷ (record { key = ascii "at"; value = decimal (f .place) })
+    ∷ (record { key = ascii "in"; value = decimal (f .parameter) })
     ∷ []
 
--- an accepted message has its lines, and a refusal its two
+-- an accepted message has its lines, and a refusal its three
 unfoldable pub verdictLines : Rules → List ℕ → Verdict → List Line
 verdictLines R o (Accepted n) = messageLines R (messageIn o)
 verdictLines R o (Declined f) = refusalLines f

@@ -13,7 +13,7 @@ use Rattle.rules.specs.Table.{Rules, Row, ascii}
 use Rattle.rules.specs.Message.{Message, octets, LegalMessage}
 use Rattle.rules.specs.Counting.{counted, carriedIn}
 use Rattle.rules.specs.Language.{calls}
-use Rattle.rules.specs.Refusals.{noted}
+use Rattle.rules.specs.Refusals.{notedIn}
 use Rattle.message.specs.declared.Verdict.{Verdict}
 use Rattle.message.specs.Told.{told, refusal}
 use Rattle.message.specs.Judges.{Judges}
@@ -62,11 +62,11 @@ pub record Lines (R : Rules) (m : Message) (ls : List Line) : Type 0 where
 
 -- the octets o went in, and r came back
 pub record Lists (R : Rules) (o : List ℕ) (r : ListingText) : Type 0 where
-  -- a refusal, as the whole read declines the octets, has two lines: its number and its place
+  -- a refusal, as the whole read declines the octets, has three lines: its number, its place and its parameter
   pub verdict : Verdict
   pub judged : Judges (calls R) o verdict
   pub lines : List Line
-  pub refused : (k p : ℕ) → 1 ≤ k → told verdict ≡ refusal k p → lines ≡ refusalLines (noted k p)
+  pub refused : (k p b : ℕ) → 1 ≤ k → told verdict ≡ refusal k p b → lines ≡ refusalLines (notedIn k p b)
   -- a message has its lines
   pub message : (m : Message) → LegalMessage R m → octets m ≡ o → Lines R m lines
   -- the text is these lines, one after the other, and zeros stand behind it

@@ -324,8 +324,9 @@ fn put_refusal(fault: Fault, out: &mut [u8]) -> usize
     requires { ⌜ Room (written (refusalLines fault)) 0 (now out) ⌝ }
     ensures { λ r. ⌜ Put (written (refusalLines fault)) 0 (now (out .entry)) r (now (out .exit)) ⌝ }
 {
-    let place = put_number(b"refused=", fault.number as u16, out, 0);
-    put_number(b"at=", fault.place, out, place)
+    let first = put_number(b"refused=", fault.number as u16, out, 0);
+    let second = put_number(b"at=", fault.place, out, first);
+    put_number(b"in=", fault.parameter as u16, out, second)
 }
 
 // What showmsg prints of any octets.

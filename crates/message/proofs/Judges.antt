@@ -11,13 +11,13 @@ use lib.ListN.{length, take}
 use lib.Seq.{take-length}
 use lib.Dec.{T}
 use Rattle.rules.specs.Tests.{_or_, _≤?_, _=?_, pick}
-use Rattle.rules.proofs.Tests.{pick-yes, pick-not, picked-by, of-eq, eq-of, either, left, right, clash, decide, not-le, le-of}
+use Rattle.rules.proofs.Tests.{pick-yes, pick-not, pick-case, picked-by, of-eq, eq-of, either, left, right, clash, decide, not-le, le-of}
 use Rattle.rules.specs.Octets.{Octets}
 use Rattle.rules.specs.Contents.{within}
 use Rattle.rules.specs.Table.{Rules, rulesOf, classFault}
 use Rattle.rules.proofs.ContentLaw.{SoundRules, sound-rules}
 use Rattle.rules.specs.declared.Book.{Book}
-use Rattle.rules.specs.Refusals.{noted}
+use Rattle.rules.specs.Refusals.{noted, notedIn}
 use Rattle.rules.specs.Machine.{answer, start, Waits}
 use Rattle.rules.specs.Judge.{given}
 use Rattle.rules.specs.Language.{Language, calls, languageOf}
@@ -182,6 +182,23 @@ module _ {L : Language} (S : Spoken L) (o : List ℕ) (q : Octets o) where
       go (inr n) = rw (pick-not _ (Accepted m) (Declined (noted 7 m)) n) (omega (arith, S .sized m t .1))
   near-state (Refused g) t l = omega (arith, S .refused g t .1)
 
+  -- the parameter is that of the machine's refusal, and 0 with the numbers that the verdict adds
+  none-state : (s : State) → T (L .inRange s) → T (within (7, 8) (told (judged o s) .number)) →
+      told (judged o s) .parameter ≡ 0
+  unfolding judged told
+  none-state (Waiting s r) t u = refl
+  none-state (Message m) t u =
+      pick-case (λ (v : Verdict). told v .parameter ≡ 0) (length o =? m) _ _ (λ _. refl) (λ _. refl)
+  none-state (Refused g) t u =
+      absurd (S .numbers _ (S .refused g t .0) .2 (inside 7 9 _ (low 7 8 _ u) (omega (arith, high 7 8 _ u))))
+
+  few-state : (s : State) → T (L .inRange s) → told (judged o s) .parameter ≤ 85
+  unfolding judged told
+  few-state (Waiting s r) t = omega arith
+  few-state (Message m) t =
+      pick-case (λ (v : Verdict). told v .parameter ≤ 85) (length o =? m) _ _ (λ _. omega arith) (λ _. omega arith)
+  few-state (Refused g) t = S .refused g t .2
+
   -- ---- and the rules
   message-of : (n : ℕ) → (w ≡ Message n) ↔ ((n ≤ length o) × L .Accepts (take n o))
   message-of n = demand3 S .has-message o q n
@@ -229,16 +246,18 @@ module _ {L : Language} (S : Spoken L) (o : List ℕ) (q : Octets o) where
     done = done-of (judged o w) accepted-is (λ f e. numbers-state w f ranged e);
     accepted = λ n. Iff·trans (told-accepted _ n clear) (accepted-is n);
     spoilt =
-        λ k p l. Iff·trans (told-declined _ k p (S .numbers k l .0)) (Iff·trans (refused-state w (noted k p) l)
-        (demand3 S .refuses o q (noted k p)));
+        λ k p b l. Iff·trans (told-declined _ k p b (S .numbers k l .0)) (Iff·trans (refused-state w (notedIn k p b) l)
+        (demand3 S .refuses o q (notedIn k p b)));
     early =
-        λ p. let d = Iff·trans (told-declined _ 8 p (omega arith)) (early-state w p ranged) in
+        λ p. let d = Iff·trans (told-declined _ 8 p 0 (omega arith)) (early-state w p ranged) in
         let u = demand3 S .waits o q in
         (λ e. let a = d .0 e in (a .0, u .0 (a .1)), λ e. d .1 (e .0, u .1 (e .1)));
     followed =
-        λ p. Iff·trans (told-declined _ 7 p (omega arith)) (Iff·trans (followed-state w p ranged) (behind-of p));
+        λ p. Iff·trans (told-declined _ 7 p 0 (omega arith)) (Iff·trans (followed-state w p ranged) (behind-of p));
     numbers = number-of (judged o w) (λ f e. numbers-state w f ranged e);
+    no-parameter = none-state w ranged;
     near = near-state w ranged (demand3 S .answers-by-258 o q);
+    few = few-state w ranged;
   }
     where
       clear : Clear (judged o w)
@@ -252,6 +271,11 @@ pub near-declined : {L : Language} {o : List ℕ} {v : Verdict} → Judges L o v
     v ≡ Declined f → f .place ≤ 258
 unfolding told
 near-declined j f e = subst (λ (x : Verdict). told x .place ≤ 258) e (j .near)
+
+pub few-declined : {L : Language} {o : List ℕ} {v : Verdict} → Judges L o v → (f : Fault) →
+    v ≡ Declined f → f .parameter ≤ 85
+unfolding told
+few-declined j f e = subst (λ (x : Verdict). told x .parameter ≤ 85) e (j .few)
 
 -- call messages and notices by any sound rules
 pub judges-calls : (R : Rules) → SoundRules R → (o : List ℕ) → Octets o → Judges (calls R) o (verdictOf R o)

@@ -1,10 +1,11 @@
 -- The opening of a message, its type and L, and the verdict from where the parameters behind them came to.
 -- Assumes nothing.
 use Prim.Native.Nat.{ℕ, _+_, _-_, _%_, _≤_, _<_}
-use mathlib.Core.Path.{_≡_, refl, sym, _∙_, ap, subst}
+use mathlib.Core.Path.{_≡_, refl, sym, _∙_, ap, ap₂, subst}
 use mathlib.Core.Bool.{true, false}
 use mathlib.Core.List.{List, [], _∷_}
 use native.Mathlib.Omega.{arith}
+use native.Mathlib.Nat.{zero-add}
 use lib.ListN.{length, take, drop, getD, length-drop}
 use lib.Seq.{take-all}
 use Rattle.rules.specs.Tests.{_=?_, pick}
@@ -16,9 +17,9 @@ use Rattle.rules.proofs.Demand3.{demand3}
 use Rattle.rules.proofs.Grammar.{spoken}
 use Rattle.rules.specs.Table.{Rules}
 use Rattle.rules.proofs.ContentLaw.{SoundRules}
-use Rattle.rules.specs.Refusals.{noted}
+use Rattle.rules.specs.Refusals.{noted, notedIn}
 use Rattle.rules.specs.Machine.{Machine, run, answer, fresh, Waits}
-use Rattle.rules.specs.Judge.{machine, final, fits, after, fault}
+use Rattle.rules.specs.Judge.{machine, final, fits, after, fault, standsIn}
 use Rattle.rules.proofs.Listening.{refused-stays}
 use Rattle.rules.proofs.Steps.{takes, declines}
 use Rattle.rules.specs.declared.Stage.the-variants.{Kind, Size, Header}
@@ -38,7 +39,7 @@ one-octet x h = omega arith
 -- what the parameters behind type and L, which are 2 octets, came to
 module _ (R : Rules) (o b : List ℕ) (room sum : ℕ) where
   abbrev on : State
-  on = from R b 0 room sum 2
+  on = from R b 0 room sum 0 2 0
 
   waiting : (w : State) → Waits w → Declined (noted 8 (length o)) ≡ judged o w
   unfolding judged
@@ -46,14 +47,17 @@ module _ (R : Rules) (o b : List ℕ) (room sum : ℕ) where
   waiting (Message n) t = absurd t
   waiting (Refused f) t = absurd t
 
-  came-to : (s : Stop) → Turned R b 0 room sum s → verdictAt o (s .number) (s .place + 2) ≡ judged o on
+  came-to : (s : Stop) → Turned R b 0 room sum 0 s →
+      verdictAt o (s .number) (s .place + 2) (s .parameter) ≡ judged o on
   unfolding verdictAt judged pick _=?_
   came-to s (Turned.whole n f) =
-      ap (λ (k : ℕ). pick (length o =? k) (Accepted k) (Declined (noted 7 k))) (commuted n) ∙ sym (ap (judged o) (f 2))
-  came-to s (Turned.early n r v a w) = waiting on (w 2)
-  came-to s (Turned.spoilt k n x y f) =
-      pick-not (k =? 0) _ _ (λ t. x (eq-of _ _ t)) ∙ pick-not (k =? 8) _ _ (λ t. y (eq-of _ _ t))
-      ∙ ap (λ (p : ℕ). Declined (record { number = k; place = p })) (commuted n) ∙ sym (ap (judged o) (f 2))
+      ap (λ (k : ℕ). pick (length o =? k) (Accepted k) (Declined (noted 7 k))) (commuted n)
+      ∙ sym (ap (judged o) (f 2 0))
+  came-to s (Turned.early n r v c a w) = waiting on (w 2 0)
+  came-to s (Turned.unsealed n f) = ap (λ (p : ℕ). Declined (noted 6 p)) (commuted n) ∙ sym (ap (judged o) (f 2 0))
+  came-to s (Turned.spoilt k n c x y z f) =
+      pick-not (k =? 0) _ _ (λ t. x (eq-of _ _ t)) ∙ pick-not (k =? 8) _ _ (λ t. z (eq-of _ _ t))
+      ∙ ap₂ (λ (p b : ℕ). Declined (notedIn k p b)) (commuted n) (sym (zero-add c)) ∙ sym (ap (judged o) (f 2 0))
 
 module _ (R : Rules) where
   abbrev M : Machine
@@ -68,14 +72,14 @@ module _ (R : Rules) where
   -- the message type
   module _ (x : ℕ) (o : List ℕ) where
     kind-on : messageKind x ≡ true → x < 256 →
-        answer M (x ∷ o) ≡ run M (Waiting Size (record { sum = x; place = 1 })) o
-    unfolding run machine final fits after
+        answer M (x ∷ o) ≡ run M (Waiting Size (record { sum = x; place = 1; parameter = 0 })) o
+    unfolding run machine final fits after standsIn
     kind-on k h =
-        ap (λ (w : State). run M w o) (sym (takes R Kind fresh x Size (record { sum = x; place = 1 }) refl k refl
-        (λ i. record { sum = one-octet x h i; place = 1 })))
+        ap (λ (w : State). run M w o) (sym (takes R Kind fresh x Size (record { sum = x; place = 1; parameter = 0 }) refl k refl
+        (λ i. record { sum = one-octet x h i; place = 1; parameter = 0 })))
 
     kind-refused : messageKind x ≡ false → Declined (noted 1 0) ≡ verdictOf R (x ∷ o)
-    unfolding verdictOf judged run machine final fits fault
+    unfolding verdictOf judged run machine final fits fault standsIn
     kind-refused k =
         sym (ap (judged (x ∷ o)) (ap (λ (w : State). run M w o)
         (sym (declines R Kind fresh x (Refused (noted 1 0)) refl k refl)) ∙ refused-stays M (noted 1 0) o))
@@ -89,21 +93,22 @@ module _ (R : Rules) where
 
     module _ (y : ℕ) (b : List ℕ) where
       size-refused : y < 3 → Declined (noted 2 1) ≡ verdictOf R (x ∷ y ∷ b)
-      unfolding verdictOf judged run final fits fault
+      unfolding verdictOf judged run machine final fits fault standsIn
       size-refused l =
           sym (ap (judged (x ∷ y ∷ b)) (kind-on x (y ∷ b) k h ∙ ap (λ (w : State). run M w b)
-          (sym (declines R Size (record { sum = x; place = 1 }) y (Refused (noted 2 1)) refl (no-le _ _ l) refl))
+          (sym (declines R Size (record { sum = x; place = 1; parameter = 0 }) y (Refused (noted 2 1)) refl (no-le _ _ l) refl))
           ∙ refused-stays M (noted 2 1) b))
 
-      size-on : 3 ≤ y → answer M (x ∷ y ∷ b) ≡ from R b 0 y ((x + y) % 256) 2
-      unfolding run final fits after
+      size-on : 3 ≤ y → answer M (x ∷ y ∷ b) ≡ from R b 0 y ((x + y) % 256) 0 2 0
+      unfolding run machine final fits after standsIn
       size-on l =
           kind-on x (y ∷ b) k h ∙ ap (λ (w : State). run M w b)
-          (sym (takes R Size (record { sum = x; place = 1 }) y (Header y)
-          (record { sum = (x + y) % 256; place = 2 + 0 }) refl (yes-le _ _ l) refl (λ i. record { sum = (x + y) % 256; place = 2 })))
+          (sym (takes R Size (record { sum = x; place = 1; parameter = 0 }) y (Header y)
+          (record { sum = (x + y) % 256; place = 2 + 0; parameter = 0 + 0 }) refl (yes-le _ _ l) refl
+          (λ i. record { sum = (x + y) % 256; place = 2; parameter = 0 })))
 
-      module _ (l : 3 ≤ y) (s : Stop) (t : Turned R b 0 y ((x + y) % 256) s) where
-        verdict-from : verdictAt (x ∷ y ∷ b) (s .number) (s .place + 2) ≡ verdictOf R (x ∷ y ∷ b)
+      module _ (l : 3 ≤ y) (s : Stop) (t : Turned R b 0 y ((x + y) % 256) 0 s) where
+        verdict-from : verdictAt (x ∷ y ∷ b) (s .number) (s .place + 2) (s .parameter) ≡ verdictOf R (x ∷ y ∷ b)
         unfolding verdictOf
         verdict-from =
             came-to R (x ∷ y ∷ b) b y ((x + y) % 256) s t ∙ sym (ap (judged (x ∷ y ∷ b)) (size-on l))
@@ -112,10 +117,12 @@ module _ (R : Rules) where
         early-few : SoundRules R → Octets (x ∷ y ∷ b) → s .number ≡ 8 → length (x ∷ y ∷ b) < 258
         early-few S q e = demand3 (spoken R S) .answers-by-258 (x ∷ y ∷ b) q (subst Waits (sym (size-on l)) (go s t e))
           where
-            go : (s : Stop) → Turned R b 0 y ((x + y) % 256) s → s .number ≡ 8 → Waits (from R b 0 y ((x + y) % 256) 2)
+            go : (s : Stop) → Turned R b 0 y ((x + y) % 256) 0 s → s .number ≡ 8 →
+                Waits (from R b 0 y ((x + y) % 256) 0 2 0)
             go s (Turned.whole n f) e = absurd (omega arith)
-            go s (Turned.early n r v a w) e = w 2
-            go s (Turned.spoilt k n u v f) e = absurd (v e)
+            go s (Turned.early n r v c a w) e = w 2 0
+            go s (Turned.unsealed n f) e = absurd (omega arith)
+            go s (Turned.spoilt k n c u v z f) e = absurd (z e)
 
   -- ---- the same of octets that the code looks up
   pub kind-spoils : (o : List ℕ) → 1 ≤ length o → messageKind (getD o 0 0) ≡ false →
@@ -141,20 +148,20 @@ module _ (R : Rules) where
   module _ (sum : ℕ) (s : Stop) where
     pub sized-verdict : (o : List ℕ) → 1 < length o → messageKind (getD o 0 0) ≡ true → getD o 0 0 < 256 →
         3 ≤ getD o 1 0 → sum ≡ (getD o 0 0 + getD o 1 0) % 256 →
-        Turned R (take (length o - 2) (drop 2 o)) 0 (getD o 1 0) sum s →
-        verdictAt o (s .number) (s .place + 2) ≡ verdictOf R o
+        Turned R (take (length o - 2) (drop 2 o)) 0 (getD o 1 0) sum 0 s →
+        verdictAt o (s .number) (s .place + 2) (s .parameter) ≡ verdictOf R o
     sized-verdict [] h k b l e t = absurd (omega arith)
     sized-verdict (x ∷ []) h k b l e t = absurd (omega arith)
     sized-verdict (x ∷ y ∷ o) h k b l e t =
-        verdict-from x k b y o l s (subst (λ (z : List ℕ). Turned R z 0 y ((x + y) % 256) s) (behind (x ∷ y ∷ o))
-        (subst (λ (v : ℕ). Turned R (take (length (x ∷ y ∷ o) - 2) o) 0 y v s) e t))
+        verdict-from x k b y o l s (subst (λ (z : List ℕ). Turned R z 0 y ((x + y) % 256) 0 s) (behind (x ∷ y ∷ o))
+        (subst (λ (v : ℕ). Turned R (take (length (x ∷ y ∷ o) - 2) o) 0 y v 0 s) e t))
 
     pub early-short : (o : List ℕ) → 1 < length o → messageKind (getD o 0 0) ≡ true → getD o 0 0 < 256 →
         3 ≤ getD o 1 0 → sum ≡ (getD o 0 0 + getD o 1 0) % 256 →
-        Turned R (take (length o - 2) (drop 2 o)) 0 (getD o 1 0) sum s → SoundRules R → Octets o → s .number ≡ 8 →
+        Turned R (take (length o - 2) (drop 2 o)) 0 (getD o 1 0) sum 0 s → SoundRules R → Octets o → s .number ≡ 8 →
         length o < 258
     early-short [] h k b l e t S q z = absurd (omega arith)
     early-short (x ∷ []) h k b l e t S q z = absurd (omega arith)
     early-short (x ∷ y ∷ o) h k b l e t S q z =
-        early-few x k b y o l s (subst (λ (z : List ℕ). Turned R z 0 y ((x + y) % 256) s) (behind (x ∷ y ∷ o))
-        (subst (λ (v : ℕ). Turned R (take (length (x ∷ y ∷ o) - 2) o) 0 y v s) e t)) S q z
+        early-few x k b y o l s (subst (λ (z : List ℕ). Turned R z 0 y ((x + y) % 256) 0 s) (behind (x ∷ y ∷ o))
+        (subst (λ (v : ℕ). Turned R (take (length (x ∷ y ∷ o) - 2) o) 0 y v 0 s) e t)) S q z

@@ -6,7 +6,7 @@ use mathlib.Core.List.{List}
 use lib.ListN.{length}
 use Rattle.rules.specs.Tests.{_=?_, pick}
 use Rattle.rules.specs.Table.{Rules}
-use Rattle.rules.specs.Refusals.{noted}
+use Rattle.rules.specs.Refusals.{noted, notedIn}
 use Rattle.rules.specs.Machine.{answer}
 use Rattle.rules.specs.Judge.{machine}
 use Rattle.rules.specs.declared.State.{State}
@@ -25,9 +25,9 @@ judged o (Refused f) = Declined f
 unfoldable pub verdictOf : Rules → List ℕ → Verdict
 verdictOf R o = judged o (answer (machine R) o)
 
--- ---- the verdict where the parameters came to a stop: with a number, at a place
-unfoldable pub verdictAt : List ℕ → ℕ → ℕ → Verdict
-verdictAt o k p =
+-- ---- the verdict where the parameters came to a stop: with a number, at a place, in a parameter
+unfoldable pub verdictAt : List ℕ → ℕ → ℕ → ℕ → Verdict
+verdictAt o k p b =
     pick (k =? 0)
     (pick (length o =? p) (Accepted p) (Declined (noted 7 p)))
-    (pick (k =? 8) (Declined (noted 8 (length o))) (Declined (record { number = k; place = p })))
+    (pick (k =? 8) (Declined (noted 8 (length o))) (Declined (notedIn k p b)))

@@ -18,9 +18,9 @@ pub enum Verdict {
 
 // Where the parameters came to, as a verdict: 8 at the number of octets where these end early, 7 where octets follow
 // the message.
-fn verdict_at(s: &[u8], number: u8, place: u16) -> Verdict
+fn verdict_at(s: &[u8], number: u8, place: u16, parameter: u8) -> Verdict
     requires { ⌜ (number ≡ 8 → length (now s) < 258) ⌝ }
-    ensures { λ r. ⌜ r ≡ verdictAt (now (s .entry)) number place ⌝ }
+    ensures { λ r. ⌜ r ≡ verdictAt (now (s .entry)) number place parameter ⌝ }
 {
     if number == 0 {
         if s.len() == place as usize {
@@ -37,7 +37,11 @@ fn verdict_at(s: &[u8], number: u8, place: u16) -> Verdict
         }
     } else {
         Verdict::Declined {
-            fault: Fault { number, place },
+            fault: Fault {
+                number,
+                place,
+                parameter,
+            },
         }
     }
 }
@@ -60,7 +64,7 @@ fn sized(book: Book, s: &[u8]) -> Verdict
     }
     let sum = std::num::wrapping_add_u8(s[0], size);
     let stop = turns::through(book, &s[2..], size, sum);
-    verdict_at(s, stop.number, stop.place + 2)
+    verdict_at(s, stop.number, stop.place + 2, stop.parameter)
 }
 
 // The verdict on any octets: 1 to 6 and 10 as the listener gives them; 8 where they end early; 7 where octets follow

@@ -60,6 +60,7 @@ fn say_octets(octets: &[u8]) {
 fn say_fault(text: &[u8], fault: Fault) {
     say_number(text, fault.number as u64);
     say_number(b" at ", fault.place as u64);
+    say_number(b" in ", fault.parameter as u64);
     say(b"\n");
 }
 

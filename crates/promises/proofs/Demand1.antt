@@ -1,7 +1,7 @@
 -- Demand 1: every input gets its answer. For each function that can refuse, and any input at all, an answer is the
--- work or one refusal with a number of its list and a place; and a refusal leaves everything that was lent or handed
+-- work or one refusal with a number of its list, a place and a parameter; and a refusal leaves everything that was lent or handed
 -- in as it was, the listener's own record excepted. Over the promises, whatever outcomes they allow; the only
--- hypothesis is that octets are below 256, which every slice of octets meets. Which number at which place, exactly,
+-- hypothesis is that octets are below 256, which every slice of octets meets. Which number at which place in which parameter, exactly,
 -- and that there is only one, say the sentences of demands 2 and 3.
 -- Assumes nothing.
 use Prim.Native.Nat.{ℕ, _≤_, _<_}
@@ -22,14 +22,15 @@ use Rattle.rules.specs.declared.Book.{Book}
 use Rattle.rules.specs.declared.Book.the-variants.{PresentStrict, PresentLenient, OldStrict, OldLenient}
 use Rattle.rules.specs.declared.Fault.{Fault}
 use Rattle.rules.specs.Refusals.{noted}
+use Rattle.rules.specs.Judge.{named}
 use Rattle.rules.specs.Language.{languageOf}
 use Rattle.rules.proofs.Language.{in-range-run}
 use Rattle.rules.specs.Message.{Accepts}
 use Rattle.rules.specs.Counting.{counted}
 use Rattle.rules.proofs.Counting.{counted-iff}
-use Rattle.rules.proofs.Grammar.{spoken-of}
+use Rattle.rules.proofs.Grammar.{spoken-of, spoilt-named}
 use Rattle.rules.proofs.ContentLaw.{lenient-others}
-use Rattle.rules.proofs.InRange.{given-lenient, given-strict}
+use Rattle.rules.proofs.InRange.{inside, given-lenient, given-strict, no-parameter}
 use Rattle.listener.specs.declared.Listener.{Listener}
 use Rattle.listener.specs.declared.Heard.{Heard}
 use Rattle.listener.specs.declared.Answer.the-variants as listened
@@ -40,7 +41,7 @@ use Rattle.message.specs.declared.Verdict.{Verdict}
 use Rattle.message.specs.declared.Verdict.the-variants.{Accepted, Declined as Judged}
 use Rattle.message.specs.Judges.{verdictNumber}
 use Rattle.message.proofs.Judges.{verdict-number, verdict-lenient}
-use Rattle.message.proofs.One.{placed}
+use Rattle.message.proofs.One.{placed, names}
 use Rattle.message.proofs.Promised as message
 use Rattle.draft.specs.declared.Draft.{Draft}
 use Rattle.draft.specs.Draft.{emptyOf}
@@ -72,7 +73,7 @@ use Rattle.walker.proofs.Told as walking
 use Rattle.message.specs.Told as verdict
 use Rattle.message.proofs.Told as judging
 use Rattle.desk.proofs.Told as settling
-use Rattle.reader.proofs.Told.{spoilt-iff, early-iff, followed-iff, short-iff, some-number, refused-so}
+use Rattle.reader.proofs.Told.{spoilt-iff, early-iff, followed-iff, short-iff, noted-at, some-number, refused-so}
 use Rattle.caption.proofs.Promised as caption
 use Rattle.walker.specs.declared.Walker.{Walker}
 use Rattle.walker.specs.declared.Step.{Step}
@@ -92,16 +93,21 @@ use Rattle.firmware.specs.Sizes.{listenerSize, draftSize, deskSize, partSize}
 abbrev pub From : ℕ → ℕ → ℕ → Type 0
 From a b k = (a ≤ k) × (k ≤ b)
 
--- by a book, a refusal of the octets o as the verdict gives it: a number of 1 to 8, or in a strict book 10, at one of
--- the octets or at their end
-abbrev pub Verdict-like : Book → List ℕ → Fault → Type 0
-Verdict-like b o f = T (verdictNumber (languageOf b) (f .number)) × (f .place ≤ length o)
+-- a refusal names a parameter as its number has it: one of 1 to 85 with 3, 4, 5 and 10, none with all others (`named`)
+abbrev pub Names : Fault → Type 0
+Names f = T (named (f .number) (f .parameter))
 
--- the listener: 1 to 6, and 10 where its book is strict, at a place up to 257; or, for one out of range, 17 at 0, and
--- it comes back as it was
+-- by a book, a refusal of the octets o as the verdict gives it: a number of 1 to 8, or in a strict book 10, at one of
+-- the octets or at their end, in a parameter that it has
+abbrev pub Verdict-like : Book → List ℕ → Fault → Type 0
+Verdict-like b o f = T (verdictNumber (languageOf b) (f .number)) × (f .place ≤ length o) × Names f
+
+-- the listener: 1 to 6, and 10 where its book is strict, at a place up to 257, in a parameter that it has; or, for one
+-- out of range, 17 at 0, and it comes back as it was
 pub listen-refuses : (l : Listener) (o : List ℕ) (r : Heard) → listener.listen-gives l o r → Octets o →
     (f : Fault) → r .answer ≡ listened.Refused f →
-    (T (languageOf (l .book) .given (f .number)) × (f .place ≤ 257)) ⊎ ((f ≡ noted 17 0) × (r ≡ outOfRange l))
+    (T (languageOf (l .book) .given (f .number)) × (f .place ≤ 257) × Names f)
+    ⊎ ((f ≡ noted 17 0) × (r ≡ outOfRange l))
 listen-refuses l o r h q f e = go (listener.numbers l o r h q f e) (decide (languageOf (l .book) .inRange (l .state)))
   where
     near : T (languageOf (l .book) .inRange (l .state)) → Ranged (r .answer)
@@ -117,40 +123,56 @@ listen-refuses l o r h q f e = go (listener.numbers l o r h q f e) (decide (lang
 
     go : T (languageOf (l .book) .given (f .number)) ⊎ (f ≡ noted 17 0) →
         T (languageOf (l .book) .inRange (l .state)) ⊎ (T (languageOf (l .book) .inRange (l .state)) → ⊥) →
-        (T (languageOf (l .book) .given (f .number)) × (f .place ≤ 257)) ⊎ ((f ≡ noted 17 0) × (r ≡ outOfRange l))
-    go (inl t) (inl k) = inl (t, told (near k))
+        (T (languageOf (l .book) .given (f .number)) × (f .place ≤ 257) × Names f)
+        ⊎ ((f ≡ noted 17 0) × (r ≡ outOfRange l))
+    go (inl t) (inl k) = inl (t, told (near k), listener.names l o r h q k f e)
     go (inr z) (inl k) = absurd (omega (arith, ap (λ (x : Fault). x .number) z, subst Ranged e (near k) .1))
     go x (inr n) =
         let y = listener.out-of-range l o r h n in
         inr (fault-of f (noted 17 0) (sym e ∙ ap (λ (z : Heard). z .answer) y), y)
 
--- the whole read, and the texts alone: 1 to 8, and 10 where the book is strict, at one of the octets or at their end;
--- or 9 at the text octets that are needed; the area stays, and the draft is empty
+-- the whole read, and the texts alone: 1 to 8, and 10 where the book is strict, at one of the octets or at their end, in
+-- a parameter that it has; or 9 at the text octets that are needed; the area stays, and the draft is empty
 pub record Unread (b : Book) (o old : List ℕ) (f : Fault) (area : List ℕ) : Type 0 where
   pub number : T (readNumber (rulesOf b) (f .number))
   pub place : (f .number ≡ 9 → ⊥) → f .place ≤ length o
+  pub parameter : Names f
   pub needed : f .number ≡ 9 → length old < f .place
   pub stays : area ≡ old
 
-read-so : (b : Book) (o old : List ℕ) (r : Reading) (area : List ℕ) → Reads (rulesOf b) o old r area →
+read-so : (b : Book) (o old : List ℕ) (r : Reading) (area : List ℕ) → Reads (rulesOf b) o old r area → Octets o →
     (f : Fault) → r .answer ≡ packed.Refused f → Unread b o old f area
 unfolding readNumber
-read-so b o old r area x f e =
+read-so b o old r area x q f e =
     let y = refused-so x f e in
     record {
       number = y .2;
       place = λ n. in-octets n (either _ _ (y .2));
-      needed = λ k. short-iff x (f .place) .0 (e ∙ at 9 k) .4;
+      parameter = names (either _ _ (y .2));
+      needed = λ k. short-iff x (f .place) .0 (e ∙ at 9 k (omega arith) (omega arith)) .4;
       stays = y .0;
     }
   where
-    at : (k : ℕ) → f .number ≡ k → packed.Refused f ≡ packed.Refused (noted k (f .place))
-    at k z = λ i. packed.Refused (noted (z i) (f .place))
+    at : (k : ℕ) → f .number ≡ k → 7 ≤ k → k ≤ 9 → packed.Refused f ≡ packed.Refused (noted k (f .place))
+    at k z a b = ap packed.Refused (noted-at x f e k z a b)
 
     by-number : T (languageOf b .given (f .number)) ⊎ ((f .number ≡ 7) ⊎ (f .number ≡ 8)) → f .place ≤ length o
     by-number (inl t) = omega (arith, spoilt-iff x f (some-number x f e) t .0 e .0 .place)
-    by-number (inr (inl k)) = omega (arith, followed-iff x (f .place) .0 (e ∙ at 7 k) .0)
-    by-number (inr (inr k)) = omega (arith, early-iff x (f .place) .0 (e ∙ at 8 k) .0)
+    by-number (inr (inl k)) = omega (arith, followed-iff x (f .place) .0 (e ∙ at 7 k (omega arith) (omega arith)) .0)
+    by-number (inr (inr k)) = omega (arith, early-iff x (f .place) .0 (e ∙ at 8 k (omega arith) (omega arith)) .0)
+
+    none-at : (k : ℕ) → f .number ≡ k → 7 ≤ k → k ≤ 9 → Names f
+    none-at k z a c =
+        subst Names (sym (noted-at x f e k z a c)) (no-parameter k (λ x y. omega arith) (λ w. omega arith))
+
+    by-role : T (languageOf b .given (f .number)) ⊎ ((f .number ≡ 7) ⊎ (f .number ≡ 8)) → Names f
+    by-role (inl t) = spoilt-named b o q f (spoilt-iff x f (some-number x f e) t .0 e)
+    by-role (inr (inl k)) = none-at 7 k (omega arith) (omega arith)
+    by-role (inr (inr k)) = none-at 8 k (omega arith) (omega arith)
+
+    names : T (verdictNumber (languageOf b) (f .number)) ⊎ T (f .number =? 9) → Names f
+    names (inl t) = by-role (verdict-number (languageOf b) _ t)
+    names (inr t) = none-at 9 (eq-of _ _ t) (omega arith) (omega arith)
 
     in-octets : (f .number ≡ 9 → ⊥) → T (verdictNumber (languageOf b) (f .number)) ⊎ T (f .number =? 9) →
         f .place ≤ length o
@@ -162,41 +184,54 @@ pub read-refuses : (b : Book) (o old : List ℕ) (r : Reading) (area : List ℕ)
     Unread b o old f area × (r .draft ≡ emptyOf 0)
 read-refuses b o old r area h q f e =
     let x = reader.reads b o old r area h q in
-    (read-so b o old r area x f e, refused-so x f e .1)
+    (read-so b o old r area x q f e, refused-so x f e .1)
 
 pub pack-refuses : (b : Book) (o old : List ℕ) (w : Packed) (area : List ℕ) → reader.pack-gives b o old w area →
     Octets o → (f : Fault) → w ≡ packed.Refused f → Unread b o old f area
 pack-refuses b o old w area h q f e =
     let x = reader.packs b o old w area h q in
-    read-so b o old (x .0) area (x .2) f (x .1 ∙ e)
+    read-so b o old (x .0) area (x .2) q f (x .1 ∙ e)
 
 -- whether a read goes through: the same refusals, and no area is lent
 pub fits-refuses : (b : Book) (o old : List ℕ) (w : Fitting) → reader.fits-gives b o (length old) w → Octets o →
     (f : Fault) → w ≡ fitting.Refused f → Unread b o old f old
 fits-refuses b o old w h q f e =
     let x = reader.fits-so b o old w h q in
-    let y = read-so b o old (x .0) (x .2 .0) (x .2 .1) f (sym (refused-fitting (x .0 .answer) f (sym (x .1 ∙ e)))) in
+    let y = read-so b o old (x .0) (x .2 .0) (x .2 .1) q f (sym (refused-fitting (x .0 .answer) f (sym (x .1 ∙ e)))) in
     subst (Unread b o old f) (y .stays) y
 
--- the writer: 11 to 15; the output stays
+-- the writer: 11 to 15, in no parameter; the output stays
 pub write-refuses : (b : Book) (d : Draft) (t old : List ℕ) (w : Written) (out : List ℕ) →
-    writer.write-gives b d t old w out → (f : Fault) → w ≡ Declined f → From 11 15 (f .number) × (out ≡ old)
+    writer.write-gives b d t old w out → (f : Fault) → w ≡ Declined f →
+    From 11 15 (f .number) × (f .parameter ≡ 0) × (out ≡ old)
 write-refuses b d t old w out h f e = (
-  go w (answer-iff b d t (length old) w .0 (writer.write-is b d t old w out h)) e,
+  go w way e .0,
+  go w way e .1,
   writer.refusal-keeps b d t
       old w out h f e,
 )
   where
-    fault-of : (x y : Fault) → Declined x ≡ Declined y → x .number ≡ y .number
-    fault-of x y z = let k : x ≡ y = cc in ap (λ (v : Fault). v .number) k
+    way : Went (rulesOf b) d t (length old) w
+    way = answer-iff b d t (length old) w .0 (writer.write-is b d t old w out h)
 
-    go : (x : Written) → Went (rulesOf b) d t (length old) x → x ≡ Declined f → From 11 15 (f .number)
-    go x (kind-is-none n) z = (omega (arith, fault-of _ _ z), omega (arith, fault-of _ _ z))
-    go x (no-entries k n) z = (omega (arith, fault-of _ _ z), omega (arith, fault-of _ _ z))
-    go x (many-entries k m) z = (omega (arith, fault-of _ _ z), omega (arith, fault-of _ _ z))
-    go x (bad-entry i m g) z = (omega (arith, fault-of _ _ z), omega (arith, fault-of _ _ z))
-    go x (too-long k m l) z = (omega (arith, fault-of _ _ z), omega (arith, fault-of _ _ z))
-    go x (too-tight k m l g) z = (omega (arith, fault-of _ _ z), omega (arith, fault-of _ _ z))
+    fault-of : (x y : Fault) → Declined x ≡ Declined y → x ≡ y
+    fault-of x y z = cc
+
+    of-noted : (k p : ℕ) → Declined (noted k p) ≡ Declined f → 11 ≤ k → k ≤ 15 →
+        From 11 15 (f .number) × (f .parameter ≡ 0)
+    of-noted k p z a c =
+        let y = fault-of _ _ z in
+        let n = ap (λ (v : Fault). v .number) y in
+        ((omega arith, omega arith), sym (ap (λ (v : Fault). v .parameter) y))
+
+    go : (x : Written) → Went (rulesOf b) d t (length old) x → x ≡ Declined f →
+        From 11 15 (f .number) × (f .parameter ≡ 0)
+    go x (kind-is-none n) z = of-noted _ _ z (omega arith) (omega arith)
+    go x (no-entries k n) z = of-noted _ _ z (omega arith) (omega arith)
+    go x (many-entries k m) z = of-noted _ _ z (omega arith) (omega arith)
+    go x (bad-entry i m g) z = of-noted _ _ z (omega arith) (omega arith)
+    go x (too-long k m l) z = of-noted _ _ z (omega arith) (omega arith)
+    go x (too-tight k m l g) z = of-noted _ _ z (omega arith) (omega arith)
     go x (fits k m l g) z = clash cc
 
 -- the desk: 17 at 0, or as the verdict, or 21 at 0; it comes back as it was
@@ -208,32 +243,32 @@ settle-refuses b d o r h q f e = (go (settling.number-of x f e), settling.refusa
     x : Settles (rulesOf b) d o r
     x = desk.settling b d o r h q
 
-    at : (k : ℕ) → f .number ≡ k → f ≡ noted k (f .place)
-    at k z = λ i. noted (z i) (f .place)
-
     go : T (verdictNumber (languageOf b) (f .number)) ⊎ ((f .number ≡ 17) ⊎ (f .number ≡ 21)) →
         Verdict-like b o f ⊎ ((f ≡ noted 17 0) ⊎ (f ≡ noted 21 0))
     go (inl t) =
         let l = settling.some-number x f e in
-        inl (t, placed (languageOf b) o _ (x .judged) f (settling.refused-iff x f l t .0 e .1))
+        let y = settling.refused-iff x f l t .0 e .1 in
+        inl (t, placed (languageOf b) o _ (x .judged) f y, names b o q _ (x .judged) f y)
     go (inr (inl k)) =
-        inr (inl (at 17 k ∙ ap (noted 17) (settling.unfit-iff x (f .place) .0 (e ∙ ap settled.Refused (at 17 k)) .0)))
+        let z = settling.noted-at x f e 17 k (inl refl) in
+        inr (inl (z ∙ ap (noted 17) (settling.unfit-iff x (f .place) .0 (e ∙ ap settled.Refused z) .0)))
     go (inr (inr k)) =
-        inr (inr (at 21 k ∙ ap (noted 21) (settling.full-iff x (f .place) .0 (e ∙ ap settled.Refused (at 21 k)) .0)))
+        let z = settling.noted-at x f e 21 k (inr refl) in
+        inr (inr (z ∙ ap (noted 21) (settling.full-iff x (f .place) .0 (e ∙ ap settled.Refused z) .0)))
 
 -- the verdict, the caption and the walker; nothing is lent for writing but the caption's code, which stays
 pub judge-refuses : (b : Book) (o : List ℕ) (v : Verdict) → message.judge-gives b o v → Octets o → (f : Fault) →
     v ≡ Judged f → Verdict-like b o f
 judge-refuses b o v h q f e =
     let x = message.verdicts b o v h q in
-    (judging.number-of x f e, placed (languageOf b) o v x f e)
+    (judging.number-of x f e, placed (languageOf b) o v x f e, names b o q v x f e)
 
 pub find-refuses : (b : Book) (o d : List ℕ) (r : Shown) → caption.find-gives b o d r → Octets o → (f : Fault) →
     r ≡ found.Refused f → Verdict-like b o f
 find-refuses b o d r h q f e =
     let x = caption.finding b o d r h q in
     let y = finding.declined-so x f e in
-    (judging.number-of (x .judged) f y, placed (languageOf b) o _ (x .judged) f y)
+    (judging.number-of (x .judged) f y, placed (languageOf b) o _ (x .judged) f y, names b o q _ (x .judged) f y)
 
 pub caption-refuses : (b : Book) (o d : List ℕ) (r : Shown) → caption.find-gives b o d r →
     (x : ℕ) (p : List ℕ) (y : ℕ) → caption.caption-gives b o d x p y → (f : Fault) → r ≡ found.Refused f → y ≡ x
@@ -241,19 +276,19 @@ unfolding caption-of.codeOf
 caption-refuses b o d r h x p y k f e =
     caption.same-part b o d r h x p y k .1 ∙ ap (λ (z : Shown). caption-of.codeOf z x) e
 
-step-so : (b : Book) (o : List ℕ) (at : ℕ) (r : Step) → Walks (rulesOf b) o at r → (f : Fault) →
+step-so : (b : Book) (o : List ℕ) (at : ℕ) (r : Step) → Walks (rulesOf b) o at r → Octets o → (f : Fault) →
     r ≡ step.Refused f → Verdict-like b o f
-step-so b o at r x f e =
+step-so b o at r x q f e =
     let y = walking.declined-so x f e in
-    (judging.number-of (x .judged) f y, placed (languageOf b) o _ (x .judged) f y)
+    (judging.number-of (x .judged) f y, placed (languageOf b) o _ (x .judged) f y, names b o q _ (x .judged) f y)
 
 pub step-refuses : (b : Book) (o : List ℕ) (at : ℕ) (r : Step) → walker.step-gives b o at r → Octets o →
     (f : Fault) → r ≡ step.Refused f → Verdict-like b o f
-step-refuses b o at r h q f e = step-so b o at r (walker.stepping b o at r h q) f e
+step-refuses b o at r h q f e = step-so b o at r (walker.stepping b o at r h q) q f e
 
 pub look-refuses : (w : Walker) (r : Step) → Seen w r → Octets (now (w .message)) → (f : Fault) →
     r ≡ step.Refused f → Verdict-like PresentLenient (now (w .message)) f
-look-refuses w r h q f e = step-so PresentLenient (now (w .message)) (w .place) r (walker.looking w r h q) f e
+look-refuses w r h q f e = step-so PresentLenient (now (w .message)) (w .place) r (walker.looking w r h q) q f e
 
 -- the numbers that a listener gives by each book: 1 to 6, and 10 where types without a row are refused
 abbrev pub Given : Book → ℕ → Type 0
@@ -300,11 +335,11 @@ anthercup-listen-refuses c o w c' h k q = go (firmware.sound-or-seventeen c o w 
 
 -- resetting, and clearing a desk: by the record's size alone
 pub anthercup-reset-refuses : (c : List ℕ) (w : ℕ) (c' : List ℕ) → firmware.reset-gives c w c' →
-    (length c ≡ listenerSize → Unpacked 0 0 0 0 w) × ((length c ≡ listenerSize → ⊥) → Seventeen c w c')
+    (length c ≡ listenerSize → Unpacked 0 0 0 0 0 w) × ((length c ≡ listenerSize → ⊥) → Seventeen c w c')
 anthercup-reset-refuses c w c' h = (λ n. firmware.reset-is-new c w c' h n .0, λ n. firmware.reset-seventeen c w c' h n)
 
 pub anthercup-new-desk-refuses : (c : List ℕ) (w : ℕ) (c' : List ℕ) → firmware.new-desk-gives c w c' →
-    (length c ≡ deskSize → Unpacked 0 0 0 0 w) × ((length c ≡ deskSize → ⊥) → Seventeen c w c')
+    (length c ≡ deskSize → Unpacked 0 0 0 0 0 w) × ((length c ≡ deskSize → ⊥) → Seventeen c w c')
 anthercup-new-desk-refuses c w c' h =
     (λ n. firmware.new-desk c w c' h n .0, λ n. firmware.new-desk-seventeen c w c' h n)
 

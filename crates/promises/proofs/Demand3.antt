@@ -24,7 +24,7 @@ use Rattle.reader.specs.declared.Packed.{Packed}
 use Rattle.reader.specs.Told as read
 use Rattle.reader.specs.declared.Reading.{Reading}
 use Rattle.reader.proofs.Promised as reader
-use Rattle.firmware.specs.Word.{packed as word-of, wordNumber, wordPlace, wordSize}
+use Rattle.firmware.specs.Word.{packed as word-of, wordNumber, wordPlace, wordParameter, wordSize}
 use Rattle.firmware.specs.RecordHears.{RecordHears, SameEnd}
 use Rattle.firmware.proofs.Promised as firmware
 
@@ -36,8 +36,8 @@ module _ (b : Book) (l : Listener) (h : List ℕ) (d : listener.HasHeard b l h) 
   pub waits-or-answers : Hears (languageOf b) h o r
   waits-or-answers = listener.demand3 b l h d o q r p
 
-  -- an answer, once given, stays the same with the same place: the next call, with any run, takes nothing, says it
-  -- again and leaves the listener
+  -- an answer, once given, stays the same with the same place and parameter: the next call, with any run, takes
+  -- nothing, says it again and leaves the listener
   pub answer-stays : (heard.told (r .answer) ≡ heard.waiting → ⊥) → (o' : List ℕ) (r' : Heard) →
       listener.listen-gives (r .listener) o' r' → r' ≡ record { listener = r .listener; answer = r .answer; taken = 0 }
   answer-stays n o' r' k = listener.answer-stays b l h d o q r p n o' r' k
@@ -78,7 +78,7 @@ module _ (c h : List ℕ) (d : firmware.RecordHasHeard c h) (o : List ℕ) (q : 
 
   pub anthercup-answer-stays : (((wordNumber w ≡ 0) × (wordSize w ≡ 0)) → ⊥) →
       (o' : List ℕ) (w' : ℕ) (c'' : List ℕ) → firmware.listen-gives c' o' w' c'' →
-      (w' ≡ word-of (wordNumber w) (wordPlace w) (wordSize w) 0) × (c'' ≡ c')
+      (w' ≡ word-of (wordNumber w) (wordPlace w) (wordParameter w) (wordSize w) 0) × (c'' ≡ c')
   anthercup-answer-stays n o' w' c'' x = firmware.answer-stays c h d o q w c' k n o' w' c'' x
 
 pub anthercup-cut-anywhere : (c x y : List ℕ) (w w₁ w₂ : ℕ) (d d₁ d₂ : List ℕ) →
@@ -89,11 +89,11 @@ anthercup-cut-anywhere c x y w w₁ w₂ d d₁ d₂ h h₁ h₂ q a b = firmwar
 -- ---- a listener heard h since its reset, and then a run: what it says is what a whole read of all these octets by
 -- the book of the reset says
 pub record AsListened (b : Book) (o : List ℕ) (w : Answer) (x : Packed) : Type 0 where
-  -- number, place and size tell both
+  -- number, place, parameter and size tell both
   pub clear : read.Clear x × heard.Clear w
-  pub refuses : (k p : ℕ) → T (languageOf b .given k) →
-      (read.told x ≡ read.refusal k p) ↔ (heard.told w ≡ heard.refusal k p)
-  pub waits : (read.told x ≡ read.refusal 8 (length o)) ↔ (heard.told w ≡ heard.waiting)
+  pub refuses : (k p n : ℕ) → T (languageOf b .given k) →
+      (read.told x ≡ read.refusal k p n) ↔ (heard.told w ≡ heard.refusal k p n)
+  pub waits : (read.told x ≡ read.refusal 8 (length o) 0) ↔ (heard.told w ≡ heard.waiting)
 
 pub as-listened : (b : Book) (l : Listener) (h : List ℕ) → listener.HasHeard b l h → (o : List ℕ) → Octets o →
     (r : Heard) → listener.listen-gives l o r →
@@ -105,6 +105,6 @@ as-listened b l h d o q r p old x area k q' =
     let v = g .early (length (h ++ o)) in
     record {
       clear = (g .clear, y .clear);
-      refuses = λ k p t. Iff·trans (g .spoilt k p t) (Iff·symm (y .refuses k p (spoken-of b .numbers k t .0)));
+      refuses = λ k p n t. Iff·trans (g .spoilt k p n t) (Iff·symm (y .refuses k p n (spoken-of b .numbers k t .0)));
       waits = (λ e. y .waits .1 (v .0 e .1), λ e. v .1 (refl, y .waits .0 e));
     }

@@ -1,4 +1,4 @@
--- Document 01's rows marked P (Octets on each side of the line) and those of document 02, Q-2, one list under one
+-- Document 01's rows marked P (Octets on each side of the line) and those of document 02, Q-2 and Q-3, one list under one
 -- claim over the promises of `listen`, `read`, `write`, `settle` and `counted`, whatever outcomes they allow.
 -- Assumes nothing.
 use Prim.Native.Nat.{ℕ}
@@ -13,9 +13,9 @@ use Rattle.rules.specs.Table.{rulesOf, classFault, rowIn, rowOf, listedIn, list
 use Rattle.rules.specs.declared.Book.the-variants.{PresentLenient}
 use Rattle.rules.specs.Message.{body, octets, messageKind}
 use Rattle.rules.specs.ContentJudge.{opens, tensFit, onesFit, pairAt, dayFits, calendarAt, calendarKeep, columnAt, judgeOf}
-use Rattle.rules.specs.Refusals.{noted}
+use Rattle.rules.specs.Refusals.{notedIn}
 use Rattle.rules.specs.Machine.{step, run}
-use Rattle.rules.specs.Judge.{roomFits, rangePossible, somePossible, possible, final, fits, contents, after, fault, machine, inRange}
+use Rattle.rules.specs.Judge.{roomFits, rangePossible, somePossible, possible, final, fits, contents, after, fault, standsIn, machine, placeFits, countFits, inRange}
 use Rattle.listener.specs.declared.Answer.{Answer}
 use Rattle.listener.specs.declared.Answer.the-variants as answer
 use Rattle.listener.specs.declared.Heard.{Heard}
@@ -52,10 +52,10 @@ use Rattle.desk.specs.Settle.{newDesk, waitingAfter, lampAfter, changeIn, chang
 pub data Outcomes : Type 0 where
   -- a new listener that hears them in one run answers this
   heard : Answer → Outcomes
-  -- a whole read of them, whatever the area, is refused with a number at a place
-  unread : ℕ → ℕ → Outcomes
-  -- both refuse with a number at a place
-  refused : ℕ → ℕ → Outcomes
+  -- a whole read of them, whatever the area, is refused with a number at a place, in a parameter or, with 0, in none
+  unread : ℕ → ℕ → ℕ → Outcomes
+  -- both refuse so
+  refused : ℕ → ℕ → ℕ → Outcomes
   -- the contents of a type that count in them
   counts : ℕ → Option (List ℕ) → Outcomes
   -- settled on a new desk, they are done and leave this desk
@@ -71,15 +71,15 @@ pub record Example : Type 0 where
 abbrev Heard-as : List ℕ → Answer → Type 0
 Heard-as o w = (r : Heard) → listener.listen-gives (newListener PresentLenient) o r → r .answer ≡ w
 
-abbrev Read-as : List ℕ → ℕ → ℕ → Type 0
-Read-as o k p =
+abbrev Read-as : List ℕ → ℕ → ℕ → ℕ → Type 0
+Read-as o k p b =
     (old : List ℕ) (r : Reading) (area : List ℕ) → reader.read-gives PresentLenient o old r area →
-    r .answer ≡ packed.Refused (noted k p)
+    r .answer ≡ packed.Refused (notedIn k p b)
 
 abbrev pub Holds : List ℕ → Outcomes → Type 0
 Holds o (heard w) = Heard-as o w
-Holds o (unread k p) = Read-as o k p
-Holds o (refused k p) = Heard-as o (answer.Refused (noted k p)) × Read-as o k p
+Holds o (unread k p b) = Read-as o k p b
+Holds o (refused k p b) = Heard-as o (answer.Refused (notedIn k p b)) × Read-as o k p b
 Holds o (counts t v) = (p : Part) → message.counted-gives PresentLenient o t p → partOf o p ≡ v
 Holds o (settles d) =
     (r : Outcome) → desk.settle-gives PresentLenient newDesk o r → r ≡ record { desk = d; answer = settled.Done }
@@ -121,19 +121,19 @@ february-29 = 0x80 ∷ 0x0A ∷ 0x01 ∷ 0x08 ∷ 0x30 ∷ 0x32 ∷ 0x32 ∷ 0x3
 abbrev pub documents : List Example
 documents =
     says [] (heard answer.Waits) ∷
-    says [] (unread 8 0) ∷
-    says (0x81 ∷ []) (refused 1 0) ∷
-    says (0x80 ∷ 0x02 ∷ []) (refused 2 1) ∷
-    says (0x80 ∷ 0x0B ∷ 0x01 ∷ []) (refused 3 2) ∷
+    says [] (unread 8 0 0) ∷
+    says (0x81 ∷ []) (refused 1 0 0) ∷
+    says (0x80 ∷ 0x02 ∷ []) (refused 2 1 0) ∷
+    says (0x80 ∷ 0x0B ∷ 0x01 ∷ []) (refused 3 2 1) ∷
     says (0x80 ∷ 0x0A ∷ 0x01 ∷ []) (heard answer.Waits) ∷
-    says (0x80 ∷ 0x17 ∷ 0x02 ∷ 0x14 ∷ []) (refused 4 3) ∷
-    says (0x80 ∷ 0x0A ∷ 0x01 ∷ 0x08 ∷ 0x31 ∷ 0x33 ∷ []) (refused 5 5) ∷
-    says (0x82 ∷ 0x03 ∷ 0x0B ∷ 0x01 ∷ 0x80 ∷ []) (refused 5 4) ∷
+    says (0x80 ∷ 0x17 ∷ 0x02 ∷ 0x14 ∷ []) (refused 4 3 1) ∷
+    says (0x80 ∷ 0x0A ∷ 0x01 ∷ 0x08 ∷ 0x31 ∷ 0x33 ∷ []) (refused 5 5 1) ∷
+    says (0x82 ∷ 0x03 ∷ 0x0B ∷ 0x01 ∷ 0x80 ∷ []) (refused 5 4 1) ∷
     says lamp-on (heard (answer.Message 6)) ∷
     says lamp-on (settles (record { waiting = waiting.Unknown; lamp = lamp.On; places = replicate 16 0 })) ∷
-    says (0x82 ∷ 0x03 ∷ 0x0B ∷ 0x01 ∷ 0xFF ∷ 0x71 ∷ []) (refused 6 5) ∷
+    says (0x82 ∷ 0x03 ∷ 0x0B ∷ 0x01 ∷ 0xFF ∷ 0x71 ∷ []) (refused 6 5 0) ∷
     says (0x82 ∷ 0x03 ∷ 0x0B ∷ 0x01 ∷ 0xFF ∷ 0x70 ∷ 0x00 ∷ []) (heard (answer.Message 6)) ∷
-    says (0x82 ∷ 0x03 ∷ 0x0B ∷ 0x01 ∷ 0xFF ∷ 0x70 ∷ 0x00 ∷ []) (unread 7 6) ∷
+    says (0x82 ∷ 0x03 ∷ 0x0B ∷ 0x01 ∷ 0xFF ∷ 0x70 ∷ 0x00 ∷ []) (unread 7 6 0) ∷
     says twice-waiting (heard (answer.Message 9)) ∷
     says twice-waiting (counts 0x13 (some (0x02 ∷ []))) ∷
     says twice-waiting (settles (record { waiting = waiting.Number 2; lamp = lamp.Unknown; places = replicate 16 0 })) ∷
@@ -141,21 +141,27 @@ documents =
     says no-caller (counts 0x04 (some (0x50 ∷ []))) ∷
     says no-caller (counts 0x02 none) ∷
     says no-caller (settles newDesk) ∷
-    says (0x80 ∷ 0x0A ∷ 0x01 ∷ 0x08 ∷ 0x30 ∷ 0x32 ∷ 0x33 ∷ []) (refused 5 6) ∷
-    says (0x80 ∷ 0x0A ∷ 0x01 ∷ 0x08 ∷ 0x30 ∷ 0x34 ∷ 0x33 ∷ 0x31 ∷ []) (refused 5 7) ∷
+    says (0x80 ∷ 0x0A ∷ 0x01 ∷ 0x08 ∷ 0x30 ∷ 0x32 ∷ 0x33 ∷ []) (refused 5 6 1) ∷
+    says (0x80 ∷ 0x0A ∷ 0x01 ∷ 0x08 ∷ 0x30 ∷ 0x34 ∷ 0x33 ∷ 0x31 ∷ []) (refused 5 7 1) ∷
     says (0x80 ∷ 0x0A ∷ 0x01 ∷ 0x08 ∷ 0x30 ∷ 0x32 ∷ 0x32 ∷ 0x39 ∷ []) (heard answer.Waits) ∷
     says april-31 (writes (midnight 4 31) (refusal 12 0)) ∷
     says february-30 (writes (midnight 2 30) (refusal 12 0)) ∷
     says february-29 (writes (midnight 2 29) (success 13)) ∷
+    says (0x80 ∷ 0x06 ∷ 0x05 ∷ 0x01 ∷ 0x00 ∷ 0x01 ∷ []) (refused 3 5 2) ∷
+    says (0x80 ∷ 0x06 ∷ 0x05 ∷ 0x01 ∷ 0x00 ∷ 0x02 ∷ 0x02 ∷ []) (refused 4 6 2) ∷
+    says (0x82 ∷ 0x06 ∷ 0x13 ∷ 0x01 ∷ 0x02 ∷ 0x13 ∷ 0x02 ∷ []) (refused 4 6 2) ∷
+    says (0x80 ∷ 0x06 ∷ 0x05 ∷ 0x01 ∷ 0x00 ∷ 0x02 ∷ 0x01 ∷ 0x41 ∷ []) (refused 5 7 2) ∷
+    says (0x82 ∷ 0x06 ∷ 0x13 ∷ 0x01 ∷ 0x02 ∷ 0x13 ∷ 0x01 ∷ 0x05 ∷ 0x48 ∷ []) (refused 6 8 0) ∷
     []
 
 -- ---- a row is true where its outcome is computed
 hears : (o : List ℕ) (w : Answer) → heardOf (newListener PresentLenient) o .answer ≡ w → Heard-as o w
 hears o w e r h = ap (λ (x : Heard). x .answer) (listener.listen-is (newListener PresentLenient) o r h) ∙ e
 
-reads : (o : List ℕ) (k p : ℕ) → verdictOf (rulesOf PresentLenient) o ≡ Declined (noted k p) → Read-as o k p
+reads : (o : List ℕ) (k p b : ℕ) → verdictOf (rulesOf PresentLenient) o ≡ Declined (notedIn k p b) →
+    Read-as o k p b
 unfolding readOf packOf packFrom
-reads o k p e old r area h =
+reads o k p b e old r area h =
     ap (λ (x : Reading). x .answer) (reader.read-is PresentLenient o old r area h .0)
     ∙ ap (packFrom (rulesOf PresentLenient) o (length old)) e
 
@@ -177,35 +183,35 @@ written o d a p e = (
 )
 
 pub rows : All documents
-unfolding _≤?_ _=?_ _and_ _or_ pick total checksum body octets within inSet whole digit pairFits pairsFit monthOf formOf rowIn rowOf listedIn listed classOf rivalOf typeFault classFault someLength rulesOf messageKind opens tensFit onesFit pairAt shortMonth days dayFits calendarAt calendarKeep columnAt judgeOf step run roomFits rangePossible somePossible possible final fits contents after fault machine inRange newListener heardIn answerOf taken stopped judged verdictOf parameterAt matched searchFrom countedAt partOf waitingAfter lampAfter changeIn changeOf noticed countedIn settledNotice settledMessage settledUnder refusedWith settleOf placeWith absent mayStand placesFit changeBy isFull placesAfter told writeOf measuredOf sized legalBefore legalEntry messageOf parametersOf parameterOf spelled meaningOf inside formIs formNumber kindOf tens ones
+unfolding _≤?_ _=?_ _and_ _or_ pick total checksum body octets within inSet whole digit pairFits pairsFit monthOf formOf rowIn rowOf listedIn listed classOf rivalOf typeFault classFault someLength rulesOf messageKind opens tensFit onesFit pairAt shortMonth days dayFits calendarAt calendarKeep columnAt judgeOf step run roomFits rangePossible somePossible possible final fits contents after fault standsIn machine placeFits countFits inRange newListener heardIn answerOf taken stopped judged verdictOf parameterAt matched searchFrom countedAt partOf waitingAfter lampAfter changeIn changeOf noticed countedIn settledNotice settledMessage settledUnder refusedWith settleOf placeWith absent mayStand placesFit changeBy isFull placesAfter told writeOf measuredOf sized legalBefore legalEntry messageOf parametersOf parameterOf spelled meaningOf inside formIs formNumber kindOf tens ones
 rows = (
   hears _ _ refl,
   (
-    reads _ _ _ refl,
+    reads _ _ _ _ refl,
     (
-      (hears _ _ refl, reads _ _ _ refl),
+      (hears _ _ refl, reads _ _ _ _ refl),
       (
-        (hears _ _ refl, reads _ _ _ refl),
+        (hears _ _ refl, reads _ _ _ _ refl),
         (
-          (hears _ _ refl, reads _ _ _ refl),
+          (hears _ _ refl, reads _ _ _ _ refl),
           (
             hears _ _ refl,
             (
-              (hears _ _ refl, reads _ _ _ refl),
+              (hears _ _ refl, reads _ _ _ _ refl),
               (
-                (hears _ _ refl, reads _ _ _ refl),
+                (hears _ _ refl, reads _ _ _ _ refl),
                 (
-                  (hears _ _ refl, reads _ _ _ refl),
+                  (hears _ _ refl, reads _ _ _ _ refl),
                   (
                     hears _ _ refl,
                     (
                       leaves _ _ refl,
                       (
-                        (hears _ _ refl, reads _ _ _ refl),
+                        (hears _ _ refl, reads _ _ _ _ refl),
                         (
                           hears _ _ refl,
                           (
-                            reads _ _ _ refl,
+                            reads _ _ _ _ refl,
                             (
                               hears _ _ refl,
                               (
@@ -221,9 +227,9 @@ rows = (
                                         (
                                           leaves _ _ refl,
                                           (
-                                            (hears _ _ refl, reads _ _ _ refl),
+                                            (hears _ _ refl, reads _ _ _ _ refl),
                                             (
-                                              (hears _ _ refl, reads _ _ _ refl),
+                                              (hears _ _ refl, reads _ _ _ _ refl),
                                               (
                                                 hears _ _ refl,
                                                 (
@@ -232,7 +238,22 @@ rows = (
                                                     written _ _ _ refl refl,
                                                     (
                                                       written _ _ _ refl refl,
-                                                      tt,
+                                                      (
+                                                        (hears _ _ refl, reads _ _ _ _ refl),
+                                                        (
+                                                          (hears _ _ refl, reads _ _ _ _ refl),
+                                                          (
+                                                            (hears _ _ refl, reads _ _ _ _ refl),
+                                                            (
+                                                              (hears _ _ refl, reads _ _ _ _ refl),
+                                                              (
+                                                                (hears _ _ refl, reads _ _ _ _ refl),
+                                                                tt,
+                                                              ),
+                                                            ),
+                                                          ),
+                                                        ),
+                                                      ),
                                                     ),
                                                   ),
                                                 ),

@@ -11,20 +11,22 @@ use lib.Dec.{T}
 use Rattle.rules.specs.Tests.{_≤?_, _=?_}
 use Rattle.rules.proofs.Tests.{left, right, either, of-eq, eq-of, pick-case, pick-yes, pick-not, picked-by, le-of, of-le, not-le, clash}
 use Rattle.rules.specs.Octets.{Octets}
+use Rattle.rules.specs.Contents.{within}
 use Rattle.rules.specs.Table.{Rules}
 use Rattle.rules.proofs.ContentLaw.{SoundRules}
 use Rattle.rules.proofs.Sizes.{some-parameter}
 use Rattle.rules.specs.Message.{Message, Parameter, octets, LegalMessage, Accepts}
-use Rattle.rules.specs.Refusals.{noted}
+use Rattle.rules.specs.Refusals.{noted, notedIn}
 use Rattle.rules.specs.Language.{calls}
 use Rattle.rules.proofs.Grammar.{spoken, accepted-size}
+use Rattle.rules.proofs.InRange.{low, high}
 use Rattle.rules.specs.declared.Fault.{Fault}
 use Rattle.message.specs.declared.Verdict.{Verdict}
 use Rattle.message.specs.declared.Verdict.the-variants.{Accepted, Declined}
 use Rattle.message.specs.Verdict.{verdictOf}
 use Rattle.message.specs.Judges.{Judges, verdictNumber}
-use Rattle.message.proofs.Judges.{judges-calls, given-apart, told-small, near-declined}
-use Rattle.message.proofs.Told.{accepted-iff, spoilt-iff, early-iff, followed-iff, number-of}
+use Rattle.message.proofs.Judges.{judges-calls, given-apart, told-small, near-declined, few-declined}
+use Rattle.message.proofs.Told.{accepted-iff, spoilt-iff, early-iff, followed-iff, no-parameter-of, number-of}
 use Rattle.message.specs.Parameters.{parametersIn, messageIn}
 use Rattle.message.proofs.Parameters.{message-in}
 use Rattle.draft.specs.Draft.{emptyOf, messageOf}
@@ -45,6 +47,9 @@ use Rattle.reader.specs.Reads.{Near, texts, readNumber, Reads}
 -- 253 octets are always enough for them
 pub area-enough : (R : Rules) (m : Message) → LegalMessage R m → length (texts R m) ≤ 253
 area-enough R m l = omega (arith, texts-in-body R (m .parameters), some-parameter (m .parameters) (l .long), l .short)
+
+below : (k : ℕ) → (k ≡ 9 → ⊥) → k ≤ 9 → k ≤ 8
+below k n h = omega (arith, n)
 
 number-is : (f g : Fault) → Refused f ≡ Refused g → f .number ≡ g .number
 number-is f g e = let z : f ≡ g = cc in ap (λ (x : Fault). x .number) z
@@ -174,25 +179,42 @@ module _ (R : Rules) (S : SoundRules R) where
     unfolding packOf
     refused-number f e = numbers-of v f (number-of j) e
 
-    -- numbers, places and sizes are small: a word has room for them
-    near-of : (w : Verdict) → ((g : Fault) → w ≡ Declined g → (g .number ≤ 10) × (g .place ≤ 258)) →
+    -- numbers, places, parameters and sizes are small: a word has room for them
+    near-of : (w : Verdict) → ((g : Fault) → w ≡ Declined g → (g .number ≤ 10) × (g .place ≤ 258) × (g .parameter ≤ 85)) →
         ((n : ℕ) → w ≡ Accepted n → length o ≤ 258) → Near (packFrom R o room w)
     unfolding packFrom told
     near-of (Accepted n) b l =
         let z = size-within R o in
         let k = l n refl in
         pick-case Near (textSize R o ≤? room) _ _
-        (λ _. record { number = omega arith; place = omega arith; size = omega arith })
-        (λ _. record { number = omega arith; place = omega arith; size = omega arith })
+        (λ _. record { number = omega arith; place = omega arith; parameter = omega arith; size = omega arith })
+        (λ _. record { number = omega arith; place = omega arith; parameter = omega arith; size = omega arith })
     near-of (Declined g) b l =
         let x = b g refl in
-        record { number = omega (arith, x .0); place = x .1; size = omega arith }
+        record { number = omega (arith, x .0); place = x .1; parameter = x .2; size = omega arith }
 
     pub near : Near (packOf R o room)
     unfolding packOf
     near =
-        near-of v (λ g e. (told-small (spoken R S) _ (number-of j g e) .1, near-declined j g e))
+        near-of v (λ g e. (told-small (spoken R S) _ (number-of j g e) .1, near-declined j g e, few-declined j g e))
         (λ n e. accepted-size R o (accepted-iff j n .0 e .1) .1)
+
+    -- 7, 8 and 9 are in no parameter
+    none-of : (w : Verdict) → ((g : Fault) → w ≡ Declined g → T (within (7, 9) (g .number)) → g .parameter ≡ 0) →
+        T (within (7, 9) (told (packFrom R o room w) .number)) → told (packFrom R o room w) .parameter ≡ 0
+    unfolding packFrom told
+    none-of (Accepted n) b t =
+        pick-case (λ (p : Packed). told p .parameter ≡ 0) (textSize R o ≤? room) _ _ (λ _. refl) (λ _. refl)
+    none-of (Declined g) b t = b g refl t
+
+    none : T (within (7, 9) (told (packOf R o room) .number)) → told (packOf R o room) .parameter ≡ 0
+    unfolding packOf
+    none = none-of v by
+      where
+        by : (g : Fault) → v ≡ Declined g → T (within (7, 9) (g .number)) → g .parameter ≡ 0
+        by g e t =
+            let k = told-small (spoken R S) _ (number-of j g e) .2 in
+            no-parameter-of j g e (low _ _ _ t) (below _ k (high _ _ _ t))
 
     only-message : (n : ℕ) → packOf R o room ≡ Texts n → Accepts R o
     unfolding fittingOf
@@ -229,16 +251,17 @@ module _ (R : Rules) (S : SoundRules R) where
     reads-of = record {
       clear = clear;
       spoilt =
-          λ k p l. Iff·trans (told-refused _ k p (spoken R S .numbers k l .0))
-          (Iff·trans (declined (noted k p) (given-apart (spoken R S) _ l .2))
-          (spoilt-iff j (noted k p) (spoken R S .numbers k l .0) l));
+          λ k p b l. Iff·trans (told-refused _ k p b (spoken R S .numbers k l .0))
+          (Iff·trans (declined (notedIn k p b) (given-apart (spoken R S) _ l .2))
+          (spoilt-iff j (notedIn k p b) (spoken R S .numbers k l .0) l));
       early =
-          λ p. Iff·trans (told-refused _ 8 p (omega arith))
+          λ p. Iff·trans (told-refused _ 8 p 0 (omega arith))
           (Iff·trans (declined (noted 8 p) (λ x. omega arith)) (early-iff j p));
       followed =
-          λ p. Iff·trans (told-refused _ 7 p (omega arith))
+          λ p. Iff·trans (told-refused _ 7 p 0 (omega arith))
           (Iff·trans (declined (noted 7 p) (λ x. omega arith)) (followed-iff j p));
-      short = λ p. Iff·trans (told-refused _ 9 p (omega arith)) (short-message p);
+      short = λ p. Iff·trans (told-refused _ 9 p 0 (omega arith)) (short-message p);
+      no-parameter = none;
       drafted =
           λ m l e h. (
             told-texts _ _ clear .1 (packs m l e h),

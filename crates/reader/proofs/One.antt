@@ -1,10 +1,11 @@
--- The sentences on reading leave one reading and one area: a refusal's number and place are told by the octets and
+-- The sentences on reading leave one reading and one area: a refusal's number, place and parameter are told by the octets and
 -- the room, and a draft by its message.
 -- Assumes nothing.
 use Prim.Native.Nat.{ℕ, _≤_}
 use mathlib.Core.Path.{_≡_, refl, sym, _∙_, ap}
 use mathlib.Core.Logic.{_⊎_, inl, inr}
 use mathlib.Core.List.{List}
+use native.Mathlib.Omega.{arith}
 use lib.ListN.{length}
 use lib.Dec.{T}
 use Rattle.rules.specs.Tests.{_=?_, _≤?_}
@@ -22,11 +23,11 @@ use Rattle.reader.specs.declared.Packed.the-variants.{Texts, Refused}
 use Rattle.reader.specs.declared.Reading.{Reading}
 use Rattle.reader.specs.Reads.{Reads, texts, readNumber}
 use Rattle.reader.proofs.Told.{spoilt-iff, early-iff, followed-iff, short-iff, drafted-as, texts-accepted}
-use Rattle.reader.proofs.Told.{some-number, refused-so}
+use Rattle.reader.proofs.Told.{noted-at, some-number, refused-so}
 
 module _ (R : Rules) (o old : List ℕ) (r : Reading) (area : List ℕ) (s : Reading) (after : List ℕ)
     (A : Reads R o old r area) (B : Reads R o old s after) where
-  -- what the one refuses, the other refuses with the same number and place
+  -- what the one refuses, the other refuses with the same number, place and parameter
   refused-too : (f : Fault) → r .answer ≡ Refused f → s .answer ≡ Refused f
   unfolding readNumber
   refused-too f e = go (either _ _ (refused-so A f e .2))
@@ -34,17 +35,23 @@ module _ (R : Rules) (o old : List ℕ) (r : Reading) (area : List ℕ) (s : Rea
       l : 1 ≤ f .number
       l = some-number A f e
 
-      at : (k : ℕ) → f .number ≡ k → Refused f ≡ Refused (noted k (f .place))
-      at k z = ap (λ (n : ℕ). Refused (noted n (f .place))) z
+      at : (k : ℕ) → f .number ≡ k → 7 ≤ k → k ≤ 9 → Refused f ≡ Refused (noted k (f .place))
+      at k z a b = ap Refused (noted-at A f e k z a b)
 
       judged : T (given R (f .number)) ⊎ ((f .number ≡ 7) ⊎ (f .number ≡ 8)) → s .answer ≡ Refused f
       judged (inl t) = spoilt-iff B f l t .1 (spoilt-iff A f l t .0 e)
-      judged (inr (inl k)) = followed-iff B (f .place) .1 (followed-iff A (f .place) .0 (e ∙ at 7 k)) ∙ sym (at 7 k)
-      judged (inr (inr k)) = early-iff B (f .place) .1 (early-iff A (f .place) .0 (e ∙ at 8 k)) ∙ sym (at 8 k)
+      judged (inr (inl k)) =
+          let z = at 7 k (omega arith) (omega arith) in
+          followed-iff B (f .place) .1 (followed-iff A (f .place) .0 (e ∙ z)) ∙ sym z
+      judged (inr (inr k)) =
+          let z = at 8 k (omega arith) (omega arith) in
+          early-iff B (f .place) .1 (early-iff A (f .place) .0 (e ∙ z)) ∙ sym z
 
       go : T (verdictNumber (calls R) (f .number)) ⊎ T (f .number =? 9) → s .answer ≡ Refused f
       go (inl t) = judged (verdict-number (calls R) _ t)
-      go (inr t) = let z = at 9 (eq-of _ _ t) in short-iff B (f .place) .1 (short-iff A (f .place) .0 (e ∙ z)) ∙ sym z
+      go (inr t) =
+          let z = at 9 (eq-of _ _ t) (omega arith) (omega arith) in
+          short-iff B (f .place) .1 (short-iff A (f .place) .0 (e ∙ z)) ∙ sym z
 
   -- a message that is read has room, and its draft and texts are its own
   drafted-too : (n : ℕ) → r .answer ≡ Texts n → (m : Message) → LegalMessage R m → octets m ≡ o →

@@ -37,12 +37,13 @@ abbrev pub fits-gives : Book → List ℕ → ℕ → Fitting → Type 0
 fits-gives b o room w =
     (κs : _) × (a : _) × (s : _) × fits.Post κs a w s × (a .0 ≡ b) × (a .1 .0 .now ≡ o) × (a .1 .1 .0 ≡ room)
 
--- whether a read goes through tells its number and place
+-- whether a read goes through tells its number, place and parameter
 same-refusal : (p : Packed) →
     (toldFitting (fittingOf p) .number ≡ told p .number) × (toldFitting (fittingOf p) .place ≡ told p .place)
+    × (toldFitting (fittingOf p) .parameter ≡ told p .parameter)
 unfolding toldFitting fittingOf told
-same-refusal (Texts n) = (refl, refl)
-same-refusal (Refused f) = (refl, refl)
+same-refusal (Texts n) = (refl, refl, refl)
+same-refusal (Refused f) = (refl, refl, refl)
 
 module _ (b : Book) (o old : List ℕ) where
   pub read-is : (r : Reading) (area : List ℕ) → read-gives b o old r area →
@@ -80,14 +81,18 @@ module _ (b : Book) (o old : List ℕ) where
       let e = h .3 ∙ (λ i. fittingOf (packOf (rulesOf (h .4 i)) (h .5 i) (h .6 i))) in
       (readOf (rulesOf b) o (length old), sym e, (areaAfter (rulesOf b) o old, reads-so _ _ refl refl q))
 
-  -- and tells the number and the place that the read does
+  -- and tells the number, the place and the parameter that the read does
   pub fits-tells : (w : Fitting) → fits-gives b o (length old) w → Octets o →
       (r : Reading) × (toldFitting w .number ≡ told (r .answer) .number)
-      × (toldFitting w .place ≡ told (r .answer) .place) × ((area : List ℕ) × Reads (rulesOf b) o old r area)
+      × (toldFitting w .place ≡ told (r .answer) .place)
+      × (toldFitting w .parameter ≡ told (r .answer) .parameter)
+      × ((area : List ℕ) × Reads (rulesOf b) o old r area)
   fits-tells w h q =
       let x = fits-so w h q in
       let n = subst (λ (z : Fitting). toldFitting z .number ≡ told (x .0 .answer) .number) (x .1)
       (same-refusal (x .0 .answer) .0) in
       let p = subst (λ (z : Fitting). toldFitting z .place ≡ told (x .0 .answer) .place) (x .1)
       (same-refusal (x .0 .answer) .1) in
-      (x .0, n, p, x .2)
+      let q = subst (λ (z : Fitting). toldFitting z .parameter ≡ told (x .0 .answer) .parameter) (x .1)
+      (same-refusal (x .0 .answer) .2) in
+      (x .0, n, p, q, x .2)

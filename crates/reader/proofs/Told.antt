@@ -1,18 +1,19 @@
--- Number, place and size tell the answer of a read, since a refusal has a number; and what is read, case by case.
+-- Number, place, parameter and size tell the answer of a read, since a refusal has a number; and what is read, case by case.
 -- Assumes nothing.
 use Prim.Native.Nat.{ℕ, _≤_, _<_}
-use mathlib.Core.Path.{_≡_, ap, subst}
+use mathlib.Core.Path.{_≡_, sym, _∙_, ap, subst}
 use mathlib.Core.Logic.{_↔_, Iff·trans, Iff·symm}
 use mathlib.Core.List.{List}
 use native.Mathlib.Omega.{arith}
 use lib.ListN.{length, take}
 use lib.Dec.{T}
 use Rattle.rules.proofs.Tests.{clash}
+use Rattle.rules.proofs.InRange.{inside}
 use Rattle.rules.specs.Table.{Rules}
 use Rattle.rules.specs.Message.{Message, octets, LegalMessage, Accepts}
 use Rattle.rules.specs.Endings.{Ending, Spoilt, Numbered}
 use Rattle.rules.specs.Language.{calls}
-use Rattle.rules.specs.Refusals.{noted}
+use Rattle.rules.specs.Refusals.{noted, notedIn}
 use Rattle.rules.specs.Laying.{laid}
 use Rattle.rules.specs.declared.Fault.{Fault}
 use Rattle.draft.specs.Draft.{emptyOf, messageOf}
@@ -34,32 +35,34 @@ told-texts (Texts m) n c = (
 )
 told-texts (Refused f) n c = (λ e. absurd (omega (arith, number-is e)), λ e. clash cc)
 
-pub told-refused : (a : Packed) (k p : ℕ) → 1 ≤ k → (told a ≡ refusal k p) ↔ (a ≡ Refused (noted k p))
+pub told-refused : (a : Packed) (k p b : ℕ) → 1 ≤ k → (told a ≡ refusal k p b) ↔ (a ≡ Refused (notedIn k p b))
 unfolding told
-told-refused (Texts n) k p l = (λ e. absurd (omega (arith, number-is e)), λ e. clash cc)
-told-refused (Refused f) k p l = (
-  λ e i. Refused (noted (e i .number) (e i .place)),
-  λ e. let d : f ≡ noted k p = cc in ap (λ (g : Fault). refusal (g .number) (g .place)) d,
+told-refused (Texts n) k p b l = (λ e. absurd (omega (arith, number-is e)), λ e. clash cc)
+told-refused (Refused f) k p b l = (
+  λ e i. Refused (notedIn (e i .number) (e i .place) (e i .parameter)),
+  λ e. let d : f ≡ notedIn k p b = cc in ap (λ (g : Fault). refusal (g .number) (g .place) (g .parameter)) d,
 )
 
 -- ---- what is read, case by case
 module _ {R : Rules} {o old : List ℕ} {r : Reading} {area : List ℕ} (x : Reads R o old r area) where
   pub spoilt-iff : (f : Fault) → 1 ≤ f .number → T (calls R .given (f .number)) →
       (r .answer ≡ Refused f) ↔
-      (Spoilt (Accepts R) o (f .place) × Numbered (Accepts R) (calls R .roles) o (f .place) (f .number))
+      (Spoilt (Accepts R) o (f .place)
+      × Numbered (Accepts R) (calls R .roles) o (f .place) (f .number) (f .parameter))
   spoilt-iff f l t =
-      Iff·trans (Iff·symm (told-refused _ (f .number) (f .place) l)) (x .spoilt (f .number) (f .place) t)
+      Iff·trans (Iff·symm (told-refused _ (f .number) (f .place) (f .parameter) l))
+      (x .spoilt (f .number) (f .place) (f .parameter) t)
 
   pub early-iff : (p : ℕ) → (r .answer ≡ Refused (noted 8 p)) ↔ ((p ≡ length o) × Ending (Accepts R) o)
-  early-iff p = Iff·trans (Iff·symm (told-refused _ 8 p (omega arith))) (x .early p)
+  early-iff p = Iff·trans (Iff·symm (told-refused _ 8 p 0 (omega arith))) (x .early p)
 
   pub followed-iff : (p : ℕ) → (r .answer ≡ Refused (noted 7 p)) ↔ ((p < length o) × Accepts R (take p o))
-  followed-iff p = Iff·trans (Iff·symm (told-refused _ 7 p (omega arith))) (x .followed p)
+  followed-iff p = Iff·trans (Iff·symm (told-refused _ 7 p 0 (omega arith))) (x .followed p)
 
   pub short-iff : (p : ℕ) →
       (r .answer ≡ Refused (noted 9 p)) ↔
       ((m : Message) × LegalMessage R m × (octets m ≡ o) × (p ≡ length (texts R m)) × (length old < p))
-  short-iff p = Iff·trans (Iff·symm (told-refused _ 9 p (omega arith))) (x .short p)
+  short-iff p = Iff·trans (Iff·symm (told-refused _ 9 p 0 (omega arith))) (x .short p)
 
   pub drafted-as : (m : Message) → LegalMessage R m → octets m ≡ o → length (texts R m) ≤ length old →
       (r ≡ (record { answer = Texts (length (texts R m)); draft = draftOf R m })) × (area ≡ laid (texts R m) old)
@@ -73,6 +76,15 @@ module _ {R : Rules} {o old : List ℕ} {r : Reading} {area : List ℕ} (x : Rea
   pub texts-accepted : (n : ℕ) → r .answer ≡ Texts n → Accepts R o
   unfolding told
   texts-accepted n e = x .only (ap (λ (a : Packed). told a .number) e)
+
+  -- 7, 8 and 9 are in no parameter
+  pub noted-at : (f : Fault) → r .answer ≡ Refused f → (k : ℕ) → f .number ≡ k → 7 ≤ k → k ≤ 9 → f ≡ noted k (f .place)
+  unfolding told
+  noted-at f e k z a b =
+      let n = ap (λ (y : Packed). told y .number) e in
+      let q : f .parameter ≡ 0 =
+      sym (ap (λ (y : Packed). told y .parameter) e) ∙ x .no-parameter (inside 7 9 _ (omega arith) (omega arith)) in
+      λ i. notedIn (z i) (f .place) (q i)
 
   -- a refusal has a number, which is one of a read's; the area stays, and the draft is empty
   pub some-number : (f : Fault) → r .answer ≡ Refused f → 1 ≤ f .number

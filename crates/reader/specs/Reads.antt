@@ -9,8 +9,9 @@ use mathlib.Core.List.{List}
 use lib.ListN.{length, take}
 use lib.Dec.{T}
 use Rattle.rules.specs.Tests.{_=?_, _or_}
+use Rattle.rules.specs.Contents.{within}
 use Rattle.rules.specs.Table.{Rules}
-use Rattle.rules.specs.Message.{Message, octets, LegalMessage, Accepts}
+use Rattle.rules.specs.Message.{Message, octets, LegalMessage, Accepts, most}
 use Rattle.rules.specs.Endings.{Ending, Spoilt, Numbered}
 use Rattle.rules.specs.Language.{calls}
 use Rattle.message.specs.Judges.{verdictNumber}
@@ -21,10 +22,11 @@ use Rattle.reader.specs.declared.Packed.{Packed}
 use Rattle.reader.specs.declared.Reading.{Reading}
 use Rattle.reader.specs.Told.{told, success, refusal, Clear}
 
--- number, place and size are small: a word has room for them
+-- number, place, parameter and size are small: a word has room for them
 pub record Near (p : Packed) : Type 0 where
   pub number : told p .number ≤ 10
   pub place : told p .place ≤ 258
+  pub parameter : told p .parameter ≤ most
   pub size : told p .size ≤ 258
 
 -- the text octets of all parameters of a message
@@ -37,19 +39,21 @@ readNumber R k = verdictNumber (calls R) k or k =? 9
 
 -- r is the answer to the octets o with an area that held `old` and then holds `area`
 pub record Reads (R : Rules) (o old : List ℕ) (r : Reading) (area : List ℕ) : Type 0 where
-  -- number, place and size tell the answer
+  -- number, place, parameter and size tell the answer
   pub clear : Clear (r .answer)
-  -- 1 to 6 and 10 exactly at the octet that spoils the message, with the number of its role
-  pub spoilt : (k p : ℕ) → T (calls R .given k) →
-      (told (r .answer) ≡ refusal k p) ↔ (Spoilt (Accepts R) o p × Numbered (Accepts R) (calls R .roles) o p k)
+  -- 1 to 6 and 10 exactly at the octet that spoils the message, with the number and the parameter of its role
+  pub spoilt : (k p b : ℕ) → T (calls R .given k) →
+      (told (r .answer) ≡ refusal k p b) ↔ (Spoilt (Accepts R) o p × Numbered (Accepts R) (calls R .roles) o p k b)
   -- 8 at the number of octets exactly when they can still be completed
-  pub early : (p : ℕ) → (told (r .answer) ≡ refusal 8 p) ↔ ((p ≡ length o) × Ending (Accepts R) o)
+  pub early : (p : ℕ) → (told (r .answer) ≡ refusal 8 p 0) ↔ ((p ≡ length o) × Ending (Accepts R) o)
   -- 7 at the first octet behind an accepted message
-  pub followed : (p : ℕ) → (told (r .answer) ≡ refusal 7 p) ↔ ((p < length o) × Accepts R (take p o))
+  pub followed : (p : ℕ) → (told (r .answer) ≡ refusal 7 p 0) ↔ ((p < length o) × Accepts R (take p o))
   -- 9 exactly when a message's text octets exceed the area, with their number
   pub short : (p : ℕ) →
-      (told (r .answer) ≡ refusal 9 p) ↔
+      (told (r .answer) ≡ refusal 9 p 0) ↔
       ((m : Message) × LegalMessage R m × (octets m ≡ o) × (p ≡ length (texts R m)) × (length old < p))
+  -- 7, 8 and 9 name no parameter
+  pub no-parameter : T (within (7, 9) (told (r .answer) .number)) → told (r .answer) .parameter ≡ 0
   -- an accepted message with room gives its draft, always; the texts lie from octet 0 on and later octets stay; the
   -- draft stands for exactly that message
   pub drafted : (m : Message) → LegalMessage R m → octets m ≡ o → length (texts R m) ≤ length old →

@@ -85,6 +85,7 @@ fn say_heard(book: Book, octets: &[u8]) {
         Answer::Refused(fault) => {
             say_number(b"| L ", fault.number as u64);
             say_number(b" at ", fault.place as u64);
+            say_number(b" in ", fault.parameter as u64);
         }
     }
     say_number(b", took ", heard.taken as u64);
@@ -97,6 +98,7 @@ fn say_verdict(book: Book, octets: &[u8]) {
         Verdict::Declined { fault } => {
             say_number(b" | read ", fault.number as u64);
             say_number(b" at ", fault.place as u64);
+            say_number(b" in ", fault.parameter as u64);
         }
     }
     say(b"\n");

@@ -1,6 +1,6 @@
 -- Demand 3 of any language, with no hypothesis but octets below 256.
 -- The argument: the messages of a language are the words of its machine's grammar, so what Listening says of words
--- it says of messages; and the number of a refusal is that of its role in any one of them, by Numbers.
+-- it says of messages; and number and parameter of a refusal are those of its role in any one of them, by Numbers.
 -- Assumes nothing.
 use Prim.Native.Nat.{ℕ, _≤_, _<_}
 use mathlib.Core.Path.{_≡_, refl, sym, _∙_, ap, subst}
@@ -36,26 +36,31 @@ module _ {L : Language} (S : Spoken L) where
         let d = message-iff M (S .grammar) h o n in
         (λ e. let a = d .0 e in (a .0, S .accepts _ (a .1)), λ e. d .1 (e .0, S .words _ (e .1)))
 
-    numbered : (f : Fault) → answer M h ≡ Refused f → Numbered (L .Accepts) (L .roles) h (f .place) (f .number)
+    numbered : (f : Fault) → answer M h ≡ Refused f →
+        Numbered (L .Accepts) (L .roles) h (f .place) (f .number) (f .parameter)
     numbered f q e a =
         let w = S .words _ a in
-        ap (λ (ρ : List Role). roleAt ρ (f .place) (getD h (f .place) 0)) (sym (S .traced _ a))
-        ∙ number M (S .grammar) h o f q (w .0) (w .1) e (w .2)
+        let r = number M (S .grammar) h o f q (w .0) (w .1) e (w .2) in (
+          ap (λ (ρ : List Role). roleAt ρ (f .place) .number (getD h (f .place) 0)) (sym (S .traced _ a)) ∙ r .0,
+          ap (λ (ρ : List Role). roleAt ρ (f .place) .parameter) (sym (S .traced _ a)) ∙ r .1,
+        )
 
-    -- the place is that of a refusal, whose number is the same
+    -- the place is that of a refusal, whose number and parameter are the same
     refused : (f : Fault) → Spoilt (L .Accepts) h (f .place) →
-        Numbered (L .Accepts) (L .roles) h (f .place) (f .number) → answer M h ≡ Refused f
+        Numbered (L .Accepts) (L .roles) h (f .place) (f .number) (f .parameter) → answer M h ≡ Refused f
     refused f s n =
         let d = refused-iff M (S .grammar) h o (f .place) .1 (spoilt-to (S .words) (S .accepts) h (f .place) s) in
-        let z = subst (λ (p : ℕ). Numbered (L .Accepts) (L .roles) h p (d .0 .number)) (d .2)
-        (numbered (d .0) (d .1)) in
-        let k : d .0 .number ≡ f .number =
-        sym (z (s .before .e) (s .before .accepted)) ∙ n (s .before .e) (s .before .accepted) in
-        d .1 ∙ (λ i. Refused (record { number = k i; place = d .2 i }))
+        let z = subst (λ (p : ℕ). Numbered (L .Accepts) (L .roles) h p (d .0 .number) (d .0 .parameter)) (d .2)
+        (numbered (d .0) (d .1)) (s .before .e) (s .before .accepted) in
+        let g = n (s .before .e) (s .before .accepted) in
+        let k : d .0 .number ≡ f .number = sym (z .0) ∙ g .0 in
+        let b : d .0 .parameter ≡ f .parameter = sym (z .1) ∙ g .1 in
+        d .1 ∙ (λ i. Refused (record { number = k i; place = d .2 i; parameter = b i }))
 
     refuses : (f : Fault) →
         (answer M h ≡ Refused f) ↔
-        (Spoilt (L .Accepts) h (f .place) × Numbered (L .Accepts) (L .roles) h (f .place) (f .number))
+        (Spoilt (L .Accepts) h (f .place)
+        × Numbered (L .Accepts) (L .roles) h (f .place) (f .number) (f .parameter))
     refuses f = (
       λ e. (
         spoilt-to (S .accepts) (S .words) h (f .place)

@@ -19,17 +19,21 @@ use Rattle.rules.proofs.ContentLaw.{lawful, SoundRules, sound-rules}
 use Rattle.rules.specs.Message as message
 use Rattle.rules.specs.Message.{Parameter, AllLegal, messageKind, body, front, octets, Accepts}
 use Rattle.rules.specs.Roles.{Role, always, times, bodyRoles, roles}
-use Rattle.rules.specs.Judge.{contents, after, fault, machine}
+use Rattle.rules.specs.Judge.{contents, after, fault, standsIn, machine, named, inRange}
 use Rattle.rules.proofs.Remaining.{Fronted, Body, forward, backward, nil-final, final-nil, lives, some-message, at-contents}
 use Rattle.rules.proofs.Listening.{close, close-total, trace, Grammar}
 use Rattle.rules.proofs.Sizes.{octets-length}
-use Rattle.rules.proofs.InRange.{in-range-start, in-range-closed, within-258, message-size, refused-number, numbers-of}
+use Rattle.rules.proofs.InRange.{in-range-start, in-range-closed, within-258, message-size, refused-number, refused-named, numbers-of}
 use Rattle.rules.specs.Language.{calls, languageOf}
-use Rattle.rules.proofs.Language.{Spoken}
+use Rattle.rules.proofs.Language.{Spoken, in-range-run}
+use Rattle.rules.specs.Endings.{Spoilt, Numbered}
+use Rattle.rules.specs.Machine.{start}
 use Rattle.rules.specs.Demand3.{Demand3}
 use Rattle.rules.proofs.Demand3.{demand3}
 use Rattle.rules.specs.declared.Book.{Book}
 use Rattle.rules.specs.declared.Class.{Class}
+use Rattle.rules.specs.declared.Fault.{Fault}
+use Rattle.rules.specs.declared.State.{State}
 use Rattle.rules.specs.declared.Stage.{Stage}
 use Rattle.rules.specs.declared.Stage.the-variants.{Kind, Header}
 
@@ -46,33 +50,37 @@ kind-octet x t = go (either _ _ t)
     go (inr e) = omega (arith, eq-of _ _ e)
 
 module _ (R : Rules) where
-  trace-contents : (c : Class) (n i m r : ℕ) (v rest : List ℕ) → i + length v ≡ n →
-      trace (machine R) (contents c n i m r) (v ++ rest) ≡ times (length v) (always 5)
-      ++ trace (machine R) (Header r) rest
-  unfolding trace after fault machine times
-  trace-contents c n i m r [] rest e =
-      at-contents (λ (s : Stage). trace (machine R) s rest ≡ trace (machine R) (Header r) rest) c n i m r
+  -- contents of parameter b
+  trace-contents : (c : Class) (b n i m r : ℕ) (v rest : List ℕ) → i + length v ≡ n →
+      trace (machine R) b (contents c n i m r) (v ++ rest) ≡ times (length v) (always 5 b)
+      ++ trace (machine R) b (Header r) rest
+  unfolding trace after fault standsIn machine times
+  trace-contents c b n i m r [] rest e =
+      at-contents (λ (s : Stage). trace (machine R) b s rest ≡ trace (machine R) b (Header r) rest) c n i m r
       (λ _. refl) (λ d. absurd (d (omega arith)))
-  trace-contents c n i m r (x ∷ v) rest e =
-      at-contents (λ (s : Stage). trace (machine R) s (x ∷ v ++ rest) ≡ always 5 ∷ times (length v) (always 5)
-      ++ trace (machine R) (Header r) rest) c n i m r
+  trace-contents c b n i m r (x ∷ v) rest e =
+      at-contents (λ (s : Stage). trace (machine R) b s (x ∷ v ++ rest) ≡ always 5 b ∷ times (length v) (always 5 b)
+      ++ trace (machine R) b (Header r) rest) c n i m r
       (λ d. absurd (omega arith))
-      (λ d. ap (λ (l : List Role). always 5 ∷ l) (trace-contents c n (suc i) _ r v rest (omega arith)))
+      (λ d. ap (λ (l : List Role). always 5 b ∷ l) (trace-contents c b n (suc i) _ r v rest (omega arith)))
 
-  trace-body : (ps : List Parameter) (r : ℕ) → r ≡ length (body ps) →
-      trace (machine R) (Header r) (body ps) ≡ bodyRoles R ps
-  unfolding trace after fault body bodyRoles machine
-  trace-body [] r e = refl
-  trace-body (q ∷ ps) r e =
+  -- parameters behind b others
+  trace-body : (b : ℕ) (ps : List Parameter) (r : ℕ) → r ≡ length (body ps) →
+      trace (machine R) b (Header r) (body ps) ≡ bodyRoles R (suc b) ps
+  unfolding trace after fault standsIn body bodyRoles machine
+  trace-body b [] r e = refl
+  trace-body b (q ∷ ps) r e =
       let n = length-append (q .contents) (body ps) in
-      ap (λ (l : List Role). typeFault R ∷ always 4 ∷ l)
-      (trace-contents _ (length (q .contents)) 0 0 (r - (length (q .contents) + 2)) (q .contents) (body ps)
+      ap (λ (l : List Role). record { number = typeFault R; parameter = suc b } ∷ always 4 (suc b) ∷ l)
+      (trace-contents _ (suc b) (length (q .contents)) 0 0 (r - (length (q .contents) + 2)) (q .contents) (body ps)
       (omega arith)
-      ∙ ap (λ (l : List Role). times (length (q .contents)) (always 5) ++ l) (trace-body ps _ (omega arith)))
+      ∙ ap (λ (l : List Role). times (length (q .contents)) (always 5 (suc b)) ++ l)
+      (trace-body (suc b) ps _ (omega arith)))
 
-  pub trace-front : (m : message.Message) → trace (machine R) Kind (front m) ++ always 6 ∷ [] ≡ roles R m
-  unfolding trace after fault roles machine
-  trace-front m = ap (λ (l : List Role). always 1 ∷ always 2 ∷ l ++ always 6 ∷ []) (trace-body (m .parameters) _ refl)
+  pub trace-front : (m : message.Message) → trace (machine R) 0 Kind (front m) ++ always 6 0 ∷ [] ≡ roles R m
+  unfolding trace after fault standsIn roles machine
+  trace-front m =
+      ap (λ (l : List Role). always 1 0 ∷ always 2 0 ∷ l ++ always 6 0 ∷ []) (trace-body 0 (m .parameters) _ refl)
 
 module _ (R : Rules) (S : SoundRules R) where
   body-octets : (ps : List Parameter) → AllLegal R ps → length (body ps) < 256 → Octets (body ps)
@@ -135,3 +143,13 @@ spoken-of b = spoken (rulesOf b) (sound-rules b)
 
 pub demand3-of : (b : Book) → Demand3 (languageOf b)
 demand3-of b = demand3 (spoken-of b)
+
+-- an octet that spoils a message names a parameter as its number says
+pub spoilt-named : (b : Book) (h : List ℕ) → Octets h → (f : Fault) →
+    Spoilt (Accepts (rulesOf b)) h (f .place)
+    × Numbered (Accepts (rulesOf b)) (languageOf b .roles) h (f .place) (f .number) (f .parameter) →
+    T (named (f .number) (f .parameter))
+spoilt-named b h o f d =
+    let S = spoken-of b in
+    refused-named (rulesOf b) f (subst (λ (w : State). T (inRange (rulesOf b) w)) (demand3-of b .refuses h o f .1 d)
+    (in-range-run S (start (machine (rulesOf b))) h o (S .in-range-start)))

@@ -23,14 +23,15 @@ pub record Spoken (L : Language) : Type 1 where
   pub accepts : (o : List ℕ) → Accepted (L .machine) grammar o → L .Accepts o
   pub words : (o : List ℕ) → L .Accepts o → Accepted (L .machine) grammar o
   pub traced : (o : List ℕ) (a : L .Accepts o) →
-      trace (L .machine) (L .machine .first) (words o a .0) ++ always 6 ∷ [] ≡ L .roles o a
+      trace (L .machine) 0 (L .machine .first) (words o a .0) ++ always 6 0 ∷ [] ≡ L .roles o a
   pub size : (o : List ℕ) → L .Accepts o → (6 ≤ length o) × (length o ≤ 258)
   -- no octets lead out of range, and what is in range has the numbers of the paper
   pub in-range-start : T (L .inRange (start (L .machine)))
   pub in-range-closed : (w : State) (x : ℕ) → x < 256 → T (L .inRange w) → T (L .inRange (step (L .machine) w x))
   pub within-258 : (w : State) → T (L .inRange w) → place w ≤ 258
   pub sized : (n : ℕ) → T (L .inRange (Message n)) → (6 ≤ n) × (n ≤ 258)
-  pub refused : (f : Fault) → T (L .inRange (Refused f)) → T (L .given (f .number)) × (f .place ≤ 257)
+  pub refused : (f : Fault) → T (L .inRange (Refused f)) →
+      T (L .given (f .number)) × (f .place ≤ 257) × (f .parameter ≤ 85)
   -- 1 to 6, and 10
   pub numbers : (k : ℕ) → T (L .given k) → (1 ≤ k) × (k ≤ 10) × (T (within (7, 9) k) → ⊥)
 

@@ -17,6 +17,7 @@ use Rattle.rules.specs.Octets.{Octets, total, checksum}
 use Rattle.rules.proofs.Octets.{checksum-octet, octets-right, octets-take}
 use Rattle.rules.specs.Roles.{Role}
 use Rattle.rules.specs.Endings.{Ending, Spoilt}
+use Rattle.rules.specs.Refusals.{noted}
 use Rattle.rules.specs.Machine.{Machine, moved, declined, step, run, start, answer, Waits, place}
 use Rattle.rules.specs.declared.Stage.{Stage}
 use Rattle.rules.specs.declared.Spot.{Spot}
@@ -62,10 +63,14 @@ pub record Grammar (M : Machine) : Type 1 where
       (b : List ℕ) × Body (M .after s x) b
   pub some-message : (b : List ℕ) × Body (M .first) b
 
--- the roles that a machine gives to some octets, from a stage on
-unfoldable pub trace : Machine → Stage → List ℕ → List Role
-trace M s [] = []
-trace M s (x ∷ b) = M .fault s ∷ trace M (M .after s x) b
+-- the role that a machine gives to the octet at a stage, where so many parameters began before it
+abbrev pub roleIn : Machine → Stage → ℕ → Role
+roleIn M s n = record { number = M .fault s; parameter = M .standsIn s n }
+
+-- the roles that it gives to some octets, from a stage on
+unfoldable pub trace : Machine → ℕ → Stage → List ℕ → List Role
+trace M n s [] = []
+trace M n s (x ∷ b) = roleIn M s n ∷ trace M (M .standsIn s n) (M .after s x) b
 
 nil-right : (a b : List ℕ) → a ++ b ≡ [] → b ≡ []
 nil-right [] b e = e
@@ -76,7 +81,7 @@ module _ (M : Machine) where
   -- the four ways of a step: the checksum seals or spoils the message; another octet is taken or declined
   pub data StepWay (s : Stage) (q : Spot) (x : ℕ) : State → Type 0 where
     seals : T (M .final s) → x ≡ checksum (q .sum) → StepWay s q x (Message (suc (q .place)))
-    spoils : T (M .final s) → (x ≡ checksum (q .sum) → ⊥) → StepWay s q x (declined M s 6 q)
+    spoils : T (M .final s) → (x ≡ checksum (q .sum) → ⊥) → StepWay s q x (Refused (noted 6 (q .place)))
     takes : (T (M .final s) → ⊥) → T (M .fits s x) → StepWay s q x (Waiting (M .after s x) (moved M s q x))
     declines : (T (M .final s) → ⊥) → (T (M .fits s x) → ⊥) → StepWay s q x (declined M s (M .fault s x) q)
 

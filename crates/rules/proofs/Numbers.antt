@@ -1,6 +1,6 @@
--- The number of a refusal is what the role of the refused octet gives for it, in every message that the octets before
--- it begin; for any grammar. The argument: the roles of a message's octets are the machine's faults along them, and
--- the machine stands, after the octets before, at the stage whose role comes next.
+-- Number and parameter of a refusal are what the role of the refused octet gives for it, in every message that the
+-- octets before it begin; for any grammar. The argument: the roles of a message's octets are the machine's faults along
+-- them, and the machine stands, after the octets before, at the stage and in the parameter whose role comes next.
 -- Assumes nothing.
 use Prim.Native.Nat.{ℕ, zero, suc, _<_}
 use mathlib.Core.Path.{_≡_, refl, sym, _∙_, ap, subst}
@@ -15,7 +15,7 @@ use Rattle.rules.specs.Octets.{Octets}
 use Rattle.rules.proofs.Octets.{octets-take}
 use Rattle.rules.specs.Roles.{Role, always, roleAt}
 use Rattle.rules.specs.Machine.{Machine, moved, step, run, start, answer, Waits}
-use Rattle.rules.proofs.Listening.{close, trace, Grammar, StepWay, seals, spoils, takes, declines, stepped, Reach, here, there, reach-run, Cut, cut, taken, long, run-append, waits-before}
+use Rattle.rules.proofs.Listening.{close, roleIn, trace, Grammar, StepWay, seals, spoils, takes, declines, stepped, Reach, here, there, reach-run, Cut, cut, taken, long, run-append, waits-before}
 use Rattle.rules.specs.declared.Stage.{Stage}
 use Rattle.rules.specs.declared.Spot.{Spot}
 use Rattle.rules.specs.declared.Fault.{Fault}
@@ -44,26 +44,32 @@ drop-tail (suc n) [] = refl
 drop-tail n (r ∷ rs) = refl
 
 module _ (M : Machine) where
-  -- the role of the octet that comes at a stage
-  unfoldable pub role : Stage → Role
-  role s = pick (M .final s) (always 6) (M .fault s)
+  -- the role of the octet that comes at a stage, where so many parameters began before it
+  unfoldable pub role : Stage → ℕ → Role
+  role s n = pick (M .final s) (always 6 0) (roleIn M s n)
 
-  at-final : (s : Stage) → T (M .final s) → role s ≡ always 6
+  at-final : (s : Stage) (n : ℕ) → T (M .final s) → role s n ≡ always 6 0
   unfolding role
-  at-final s t = pick-yes _ _ _ t
+  at-final s n t = pick-yes _ _ _ t
 
-  at-other : (s : Stage) → (T (M .final s) → ⊥) → role s ≡ M .fault s
+  at-other : (s : Stage) (n : ℕ) → (T (M .final s) → ⊥) → role s n ≡ roleIn M s n
   unfolding role
-  at-other s t = pick-not _ _ _ t
+  at-other s n t = pick-not _ _ _ t
 
-  refused-number : {s : Stage} {q : Spot} {x : ℕ} {f : Fault} → StepWay M s q x (Refused f) → f .number ≡ role s x
-  refused-number {s} {x = x} (spoils f k) = sym (ap (λ (r : Role). r x) (at-final s f))
-  refused-number {s} {x = x} (declines f k) = sym (ap (λ (r : Role). r x) (at-other s f))
+  refused-role : {s : Stage} {q : Spot} {x : ℕ} {f : Fault} → StepWay M s q x (Refused f) →
+      (role s (q .parameter) .number x ≡ f .number) × (role s (q .parameter) .parameter ≡ f .parameter)
+  refused-role {s} {q} {x = x} (spoils f k) =
+      let e = at-final s (q .parameter) f in
+      (ap (λ (r : Role). r .number x) e, ap (λ (r : Role). r .parameter) e)
+  refused-role {s} {q} {x = x} (declines f k) =
+      let e = at-other s (q .parameter) f in
+      (ap (λ (r : Role). r .number x) e, ap (λ (r : Role). r .parameter) e)
 
 module _ (M : Machine) (G : Grammar M) where
   -- what is still to come, with its roles
   abbrev Roled : State → List ℕ → List Role → Type 0
-  Roled (Waiting s q) e ρ = (b : List ℕ) × G .Body s b × (close (q .sum) b ≡ e) × (trace M s b ++ always 6 ∷ [] ≡ ρ)
+  Roled (Waiting s q) e ρ =
+      (b : List ℕ) × G .Body s b × (close (q .sum) b ≡ e) × (trace M (q .parameter) s b ++ always 6 0 ∷ [] ≡ ρ)
   Roled (Message n) e ρ = Unit {0}
   Roled (Refused f) e ρ = Unit {0}
 
@@ -74,7 +80,8 @@ module _ (M : Machine) (G : Grammar M) where
   roled e ρ (spoils f k) d = tt
   roled {s} {q} {x} e ρ (takes f k) d = go (d .0) (d .1) (d .2) (d .3)
     where
-      go : (b : List ℕ) → G .Body s b → close (q .sum) b ≡ x ∷ e → trace M s b ++ always 6 ∷ [] ≡ ρ →
+      go : (b : List ℕ) → G .Body s b → close (q .sum) b ≡ x ∷ e →
+          trace M (q .parameter) s b ++ always 6 0 ∷ [] ≡ ρ →
           Roled (Waiting (M .after s x) (moved M s q x)) e (tail ρ)
       go [] d c z = absurd (f (G .nil-final s d))
       go (y ∷ b) d c z =
@@ -89,14 +96,17 @@ module _ (M : Machine) (G : Grammar M) where
   reach-roled e ρ (there {s = s} {q = q} {x = x} {h = h} o c) d =
       rw (← drop-tail (length h) ρ) (reach-roled e (tail ρ) c (roled _ ρ (stepped M s q x) d))
 
-  head-role : (s : Stage) (q : Spot) (e : List ℕ) (ρ : List Role) → Roled (Waiting s q) e ρ → roleAt ρ 0 ≡ role M s
+  head-role : (s : Stage) (q : Spot) (e : List ℕ) (ρ : List Role) → Roled (Waiting s q) e ρ →
+      roleAt ρ 0 ≡ role M s (q .parameter)
   unfolding trace roleAt
   head-role s q e ρ d = go (d .0) (d .1) (d .3)
     where
-      go : (b : List ℕ) → G .Body s b → trace M s b ++ always 6 ∷ [] ≡ ρ → roleAt ρ 0 ≡ role M s
-      go [] d z = sym (ap (λ (l : List Role). roleAt l 0) z) ∙ sym (at-final M s (G .nil-final s d))
+      go : (b : List ℕ) → G .Body s b → trace M (q .parameter) s b ++ always 6 0 ∷ [] ≡ ρ →
+          roleAt ρ 0 ≡ role M s (q .parameter)
+      go [] d z = sym (ap (λ (l : List Role). roleAt l 0) z) ∙ sym (at-final M s (q .parameter) (G .nil-final s d))
       go (x ∷ b) d z =
-          sym (ap (λ (l : List Role). roleAt l 0) z) ∙ sym (at-other M s (λ f. clash (cc (G .final-nil s (x ∷ b) f d))))
+          sym (ap (λ (l : List Role). roleAt l 0) z)
+          ∙ sym (at-other M s (q .parameter) (λ f. clash (cc (G .final-nil s (x ∷ b) f d))))
 
   module _ (h : List ℕ) (o : Octets h) (f : Fault) (z : answer M h ≡ Refused f) where
     c : Cut M (start M) h (Refused f)
@@ -117,25 +127,31 @@ module _ (M : Machine) (G : Grammar M) where
         run-append M (start M) (take (f .place) h) (getD h (f .place) 0 ∷ []) ∙ v in
         rw e at w
 
-    pub number : (b : List ℕ) → G .Body (M .first) b → (e : List ℕ) → close 0 b ≡ take (f .place) h ++ e →
-        roleAt (trace M (M .first) b ++ always 6 ∷ []) (f .place) (getD h (f .place) 0) ≡ f .number
+    -- what the role at its place, among those of a word, gives for it
+    abbrev Named : List ℕ → Type 0
+    Named b =
+        (roleAt (trace M 0 (M .first) b ++ always 6 0 ∷ []) (f .place) .number (getD h (f .place) 0) ≡ f .number)
+        × (roleAt (trace M 0 (M .first) b ++ always 6 0 ∷ []) (f .place) .parameter ≡ f .parameter)
+
+    pub number : (b : List ℕ) → G .Body (M .first) b → (e : List ℕ) → close 0 b ≡ take (f .place) h ++ e → Named b
     number b d e i =
         go (answer M (take (f .place) h)) (waits-before M G h o f z)
         (cut M (start M) (take (f .place) h) (octets-take (f .place) h o)) refl
       where
         go : (r : State) → Waits r → Cut M (start M) (take (f .place) h) r → answer M (take (f .place) h) ≡ r →
-            roleAt (trace M (M .first) b ++ always 6 ∷ []) (f .place) (getD h (f .place) 0) ≡ f .number
+            Named b
         go (Waiting s q) w g u =
             let a : g .a ≡ take (f .place) h =
             sym (append-nil (g .a)) ∙ ap (λ (y : List ℕ). g .a ++ y) (sym (g .whole w)) ∙ g .is in
             let n : length (g .a) ≡ f .place = ap length a ∙ length-take-le (f .place) h (omega (arith, short)) in
-            let ρ = trace M (M .first) b ++ always 6 ∷ [] in
+            let ρ = trace M 0 (M .first) b ++ always 6 0 ∷ [] in
             let y : Roled (Waiting s q) e (dropRoles (length (g .a)) ρ) =
             reach-roled e ρ (g .reach) (b, d, i ∙ ap (λ (y : List ℕ). y ++ e) (sym a), refl) in
-            let j : roleAt ρ (f .place) ≡ role M s =
+            let j : roleAt ρ (f .place) ≡ role M s (q .parameter) =
             ap (roleAt ρ) (sym n) ∙ sym (at-drop (length (g .a)) ρ) ∙ head-role s q e _ y in
-            ap (λ (r : Role). r (getD h (f .place) 0)) j
-            ∙ sym (refused-number M (subst (StepWay M s q (getD h (f .place) 0)) (judged s q u)
-            (stepped M s q (getD h (f .place) 0))))
+            let k =
+            refused-role M (subst (StepWay M s q (getD h (f .place) 0)) (judged s q u)
+            (stepped M s q (getD h (f .place) 0))) in
+            (ap (λ (r : Role). r .number (getD h (f .place) 0)) j ∙ k .0, ap (λ (r : Role). r .parameter) j ∙ k .1)
         go (Message m) w _ u = absurd w
         go (Refused _) w _ u = absurd w

@@ -8,6 +8,7 @@ use native.Mathlib.Omega.{arith}
 use lib.Dec.{T}
 use Rattle.rules.specs.Octets.{checksum}
 use Rattle.rules.specs.Table.{Rules, classOf, typeFault, classFault}
+use Rattle.rules.specs.Refusals.{noted}
 use Rattle.rules.specs.Machine.{moved, declined, step}
 use Rattle.rules.specs.Judge.{final, fits, after, fault, machine, roomFits, possible}
 use Rattle.rules.proofs.Remaining.{fits-room}
@@ -17,7 +18,7 @@ use Rattle.rules.specs.declared.Stage.{Stage}
 use Rattle.rules.specs.declared.Stage.the-variants.{Header, Length}
 use Rattle.rules.specs.declared.Spot.{Spot}
 use Rattle.rules.specs.declared.State.{State}
-use Rattle.rules.specs.declared.State.the-variants.{Waiting, Message}
+use Rattle.rules.specs.declared.State.the-variants.{Waiting, Message, Refused}
 
 module _ (R : Rules) (s : Stage) (q : Spot) (x : ℕ) where
   pub takes : (n : Stage) (p : Spot) → final s ≡ false → fits R s x ≡ true → n ≡ after R s x →
@@ -40,7 +41,7 @@ module _ (R : Rules) (q : Spot) (x c : ℕ) (e : (c + q .sum) % 256 ≡ 0) (l : 
   unfolding step machine final
   seals k = pick-t _ _ _ _ (yes-eq _ _ refl) (pick-t _ _ _ _ (yes-eq _ _ (k ∙ sealed)) (ap Message (omega arith)))
 
-  pub spoils : (w : State) → (x ≡ c → ⊥) → w ≡ declined (machine R) (Header 0) 6 q →
+  pub spoils : (w : State) → (x ≡ c → ⊥) → w ≡ Refused (noted 6 (q .place)) →
       w ≡ step (machine R) (Waiting (Header 0) q) x
   unfolding step machine final
   spoils w k e = pick-t _ _ _ _ (yes-eq _ _ refl) (pick-f _ _ _ _ (no-eq _ _ (λ z. k (z ∙ sym sealed))) e)

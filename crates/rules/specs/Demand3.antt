@@ -21,10 +21,11 @@ pub record Demand3 (L : Language) : Type 0 where
   -- it has a message of size n exactly when the first n octets are accepted
   pub has-message : (h : List ℕ) → Octets h → (n : ℕ) →
       (answer (L .machine) h ≡ Message n) ↔ ((n ≤ length h) × L .Accepts (take n h))
-  -- it refuses exactly at the octet that spoils the message, with the number of that octet's role
+  -- it refuses exactly at the octet that spoils the message, with the number and the parameter of that octet's role
   pub refuses : (h : List ℕ) → Octets h → (f : Fault) →
       (answer (L .machine) h ≡ Refused f) ↔
-      (Spoilt (L .Accepts) h (f .place) × Numbered (L .Accepts) (L .roles) h (f .place) (f .number))
+      (Spoilt (L .Accepts) h (f .place)
+      × Numbered (L .Accepts) (L .roles) h (f .place) (f .number) (f .parameter))
   -- an answer stays, whatever follows
   pub message-stays : (n : ℕ) (h : List ℕ) → run (L .machine) (Message n) h ≡ Message n
   pub refusal-stays : (f : Fault) (h : List ℕ) → run (L .machine) (Refused f) h ≡ Refused f

@@ -1,5 +1,5 @@
 -- The words of demand 3 (document 01, Listening), over any rule that accepts whole messages and gives each of their
--- octets a role: what completes octets, which octet spoils them, and the number that it gets.
+-- octets a role: what completes octets, which octet spoils them, and the number and the parameter that it gets.
 -- Assumes nothing.
 use Prim.Native.Nat.{ℕ, suc, _<_}
 use mathlib.Core.Path.{_≡_}
@@ -24,7 +24,10 @@ module _ (Accepts : List ℕ → Type 0) where
     pub none : Accepts (take (suc p) h) → ⊥
     pub hopeless : Ending (take (suc p) h) → ⊥
 
-  -- k is the number of octet p in the role that its place has, whichever accepted message the octets before it begin
-  abbrev pub Numbered : ((o : List ℕ) → Accepts o → List Role) → List ℕ → ℕ → ℕ → Type 0
-  Numbered roles h p k =
-      (e : List ℕ) (a : Accepts (take p h ++ e)) → roleAt (roles (take p h ++ e) a) p (getD h p 0) ≡ k
+  -- k and b are the number and the parameter of octet p in the role that its place has, whichever accepted message the
+  -- octets before it begin
+  abbrev pub Numbered : ((o : List ℕ) → Accepts o → List Role) → List ℕ → ℕ → ℕ → ℕ → Type 0
+  Numbered roles h p k b =
+      (e : List ℕ) (a : Accepts (take p h ++ e)) →
+      (roleAt (roles (take p h ++ e) a) p .number (getD h p 0) ≡ k)
+      × (roleAt (roles (take p h ++ e) a) p .parameter ≡ b)

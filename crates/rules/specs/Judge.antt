@@ -1,14 +1,14 @@
 -- The machine of call messages and notices (document 01, The message and Numbers), under any rules; and when a state
 -- is in range.
 -- Assumes nothing.
-use Prim.Native.Nat.{ℕ, suc, _+_, _-_}
+use Prim.Native.Nat.{ℕ, suc, _+_, _*_, _-_}
 use mathlib.Core.Bool.{Bool, false}
 use mathlib.Core.List.{List, [], _∷_}
 use Rattle.rules.specs.Tests.{_≤?_, _=?_, _and_, _or_, pick}
 use Rattle.rules.specs.Contents.{Range, within}
 use Rattle.rules.specs.Table.{Rules, classOf, typeFault, classFault, whole, lengthFits}
 use Rattle.rules.specs.ContentJudge.{okAt, remember}
-use Rattle.rules.specs.Message.{messageKind}
+use Rattle.rules.specs.Message.{messageKind, most}
 use Rattle.rules.specs.Machine.{Machine}
 use Rattle.rules.specs.declared.Class.{Class}
 use Rattle.rules.specs.declared.Stage.{Stage}
@@ -67,20 +67,62 @@ fault R (Header r) x = typeFault R x
 fault R (Length c r) x = 4
 fault R (Content c n i m r) x = 5
 
+-- the parameter that an octet stands in, where so many began before it (document 02, Q-3): a type octet begins one.
+-- Where it is not the checksum: that stands in none.
+unfoldable pub standsIn : Stage → ℕ → ℕ
+standsIn Kind b = 0
+standsIn Size b = 0
+standsIn (Header r) b = suc b
+standsIn (Length c r) b = b
+standsIn (Content c n i m r) b = b
+
 unfoldable pub machine : Rules → Machine
-machine R = record { first = Kind; final = final; fits = fits R; after = after R; fault = fault R }
+machine R =
+    record {
+      first = Kind;
+      final = final;
+      fits = fits R;
+      after = after R;
+      fault = fault R;
+      standsIn = standsIn;
+    }
 
 -- a number that the machine can give
 unfoldable pub given : Rules → ℕ → Bool
 given R k = within (1, 6) k or (k =? 10 and classFault (R .others) =? 10)
 
--- The arithmetic on a state is exact: place and octets still to come make a message of 6 to 258 octets, the index is
--- within the length, a size is one that a message has, a number one that is given.
+-- what a refusal's number says of its parameter (document 02, Q-3): one of at most 85 with a type, a length and contents,
+-- none with all others
+unfoldable pub named : ℕ → ℕ → Bool
+named k b = pick (within (3, 5) k or k =? 10) (within (1, most) b) (b =? 0)
+
+-- b parameters of at least three octets each can stand whole before a place
+unfoldable pub behind : ℕ → ℕ → Bool
+behind b p = 3 * b + 2 ≤? p
+
+-- a place can lie in parameter b, behind its type and i octets more
+unfoldable pub amid : ℕ → ℕ → ℕ → Bool
+amid b i p = 1 ≤? b and 3 * b + i ≤? p
+
+-- at a stage, place and octets still to come make a message of 6 to 258 octets, and the index is within the length
+unfoldable pub placeFits : Stage → ℕ → Bool
+placeFits Kind p = p =? 0
+placeFits Size p = p =? 1
+placeFits (Header r) p = within (5, 257) (p + r)
+placeFits (Length c r) p = 1 ≤? r and within (6, 258) (p + r)
+placeFits (Content c n i m r) p = suc i ≤? n and within (5 + i, 257 + i) (p + n + r)
+
+-- at a stage, no more parameters began than the octets before the place have room for
+unfoldable pub countFits : Stage → ℕ → ℕ → Bool
+countFits Kind p b = b =? 0
+countFits Size p b = b =? 0
+countFits (Header r) p b = behind b p
+countFits (Length c r) p b = amid b 0 p
+countFits (Content c n i m r) p b = amid b (1 + i) p
+
+-- The arithmetic on a state is exact: place and parameters fit the stage, a size is one that a message has, a number
+-- one that is given, with a parameter that it has.
 unfoldable pub inRange : Rules → State → Bool
-inRange R (Waiting Kind q) = q .place =? 0
-inRange R (Waiting Size q) = q .place =? 1
-inRange R (Waiting (Header r) q) = within (5, 257) (q .place + r)
-inRange R (Waiting (Length c r) q) = 1 ≤? r and within (6, 258) (q .place + r)
-inRange R (Waiting (Content c n i m r) q) = suc i ≤? n and within (5 + i, 257 + i) (q .place + n + r)
+inRange R (Waiting s q) = placeFits s (q .place) and countFits s (q .place) (q .parameter)
 inRange R (Message n) = within (6, 258) n
-inRange R (Refused f) = given R (f .number) and f .place ≤? 257
+inRange R (Refused f) = (given R (f .number) and f .place ≤? 257) and named (f .number) (f .parameter)

@@ -15,21 +15,21 @@ use Rattle.rules.specs.Message.{Parameter, body, octets, messageKind}
 use Rattle.rules.specs.Counting.{firstOf, counted, carriedIn}
 use Rattle.rules.specs.ContentJudge.{opens, tensFit, onesFit, pairAt, dayFits, calendarAt, calendarKeep, columnAt, judgeOf}
 use Rattle.rules.specs.Machine.{step, run, answer}
-use Rattle.rules.specs.Judge.{roomFits, rangePossible, somePossible, possible, final, fits, contents, after, fault, machine}
+use Rattle.rules.specs.Judge.{roomFits, rangePossible, somePossible, possible, final, fits, contents, after, fault, standsIn, machine}
 use Rattle.rules.specs.declared.State.{State}
 use Rattle.rules.specs.declared.State.the-variants.{Waiting, Message, Refused}
 
-infix 20 refused_at_
+infix 20 refused_at_of_
 -- an answer in the words of the table
 pub data RowAnswer : Type 0 where
   waits : RowAnswer
   size : ℕ → RowAnswer
-  refused_at_ : ℕ → ℕ → RowAnswer
+  refused_at_of_ : ℕ → ℕ → ℕ → RowAnswer
 
 unfoldable pub rowAnswer : State → RowAnswer
 rowAnswer (Waiting s q) = waits
 rowAnswer (Message n) = size n
-rowAnswer (Refused f) = refused (f .number) at (f .place)
+rowAnswer (Refused f) = refused (f .number) at (f .place) of (f .parameter)
 
 abbrev pub Example : Type 0
 Example = List ℕ × RowAnswer
@@ -43,45 +43,50 @@ unfoldable pub expected : List Example → List RowAnswer
 expected [] = []
 expected (r ∷ rs) = r .1 ∷ expected rs
 
--- the listener's column, all rows; and those of document 02, Q-2: a 3 in February, a 31st of April, a 29th of
--- February, a day 00
+-- the listener's column, all rows; those of document 02, Q-2: a 3 in February, a 31st of April, a 29th of February, a
+-- day 00; and those of Q-3: behind a carried and behind an equal parameter the second one, and none at the checksum
 abbrev pub listenerRows : List Example
 listenerRows =
     ([], waits) ∷
-    (0x81 ∷ [], refused 1 at 0) ∷
-    (0x80 ∷ 0x02 ∷ [], refused 2 at 1) ∷
+    (0x81 ∷ [], refused 1 at 0 of 0) ∷
+    (0x80 ∷ 0x02 ∷ [], refused 2 at 1 of 0) ∷
     (0x80 ∷ 0x03 ∷ [], waits) ∷
-    (0x80 ∷ 0x0B ∷ 0x01 ∷ [], refused 3 at 2) ∷
+    (0x80 ∷ 0x0B ∷ 0x01 ∷ [], refused 3 at 2 of 1) ∷
     (0x80 ∷ 0x0A ∷ 0x01 ∷ [], waits) ∷
-    (0x80 ∷ 0x0C ∷ 0x01 ∷ [], refused 3 at 2) ∷
+    (0x80 ∷ 0x0C ∷ 0x01 ∷ [], refused 3 at 2 of 1) ∷
     (0x80 ∷ 0x0D ∷ 0x01 ∷ [], waits) ∷
     (0x80 ∷ 0x16 ∷ 0x02 ∷ 0x14 ∷ [], waits) ∷
-    (0x80 ∷ 0x17 ∷ 0x02 ∷ 0x14 ∷ [], refused 4 at 3) ∷
-    (0x80 ∷ 0x17 ∷ 0x02 ∷ 0x15 ∷ [], refused 4 at 3) ∷
+    (0x80 ∷ 0x17 ∷ 0x02 ∷ 0x14 ∷ [], refused 4 at 3 of 1) ∷
+    (0x80 ∷ 0x17 ∷ 0x02 ∷ 0x15 ∷ [], refused 4 at 3 of 1) ∷
     (0x80 ∷ 0xFF ∷ 0x05 ∷ 0xFD ∷ [], waits) ∷
-    (0x80 ∷ 0xFF ∷ 0x05 ∷ 0xFC ∷ [], refused 4 at 3) ∷
-    (0x80 ∷ 0x0A ∷ 0x01 ∷ 0x08 ∷ 0x31 ∷ 0x33 ∷ [], refused 5 at 5) ∷
-    (0x80 ∷ 0x0A ∷ 0x01 ∷ 0x08 ∷ 0x30 ∷ 0x32 ∷ 0x33 ∷ [], refused 5 at 6) ∷
-    (0x80 ∷ 0x0A ∷ 0x01 ∷ 0x08 ∷ 0x30 ∷ 0x34 ∷ 0x33 ∷ 0x31 ∷ [], refused 5 at 7) ∷
+    (0x80 ∷ 0xFF ∷ 0x05 ∷ 0xFC ∷ [], refused 4 at 3 of 1) ∷
+    (0x80 ∷ 0x0A ∷ 0x01 ∷ 0x08 ∷ 0x31 ∷ 0x33 ∷ [], refused 5 at 5 of 1) ∷
+    (0x80 ∷ 0x0A ∷ 0x01 ∷ 0x08 ∷ 0x30 ∷ 0x32 ∷ 0x33 ∷ [], refused 5 at 6 of 1) ∷
+    (0x80 ∷ 0x0A ∷ 0x01 ∷ 0x08 ∷ 0x30 ∷ 0x34 ∷ 0x33 ∷ 0x31 ∷ [], refused 5 at 7 of 1) ∷
     (0x80 ∷ 0x0A ∷ 0x01 ∷ 0x08 ∷ 0x30 ∷ 0x32 ∷ 0x32 ∷ 0x39 ∷ [], waits) ∷
-    (0x80 ∷ 0x0A ∷ 0x01 ∷ 0x08 ∷ 0x30 ∷ 0x31 ∷ 0x30 ∷ 0x30 ∷ [], refused 5 at 7) ∷
-    (0x82 ∷ 0x03 ∷ 0x0B ∷ 0x01 ∷ 0x80 ∷ [], refused 5 at 4) ∷
+    (0x80 ∷ 0x0A ∷ 0x01 ∷ 0x08 ∷ 0x30 ∷ 0x31 ∷ 0x30 ∷ 0x30 ∷ [], refused 5 at 7 of 1) ∷
+    (0x82 ∷ 0x03 ∷ 0x0B ∷ 0x01 ∷ 0x80 ∷ [], refused 5 at 4 of 1) ∷
     (0x82 ∷ 0x03 ∷ 0x0B ∷ 0x01 ∷ 0xFF ∷ 0x70 ∷ [], size 6) ∷
-    (0x82 ∷ 0x03 ∷ 0x0B ∷ 0x01 ∷ 0xFF ∷ 0x71 ∷ [], refused 6 at 5) ∷
+    (0x82 ∷ 0x03 ∷ 0x0B ∷ 0x01 ∷ 0xFF ∷ 0x71 ∷ [], refused 6 at 5 of 0) ∷
     (0x82 ∷ 0x03 ∷ 0x0B ∷ 0x01 ∷ 0xFF ∷ 0x70 ∷ 0x00 ∷ [], size 6) ∷
     (0x82 ∷ 0x03 ∷ 0x13 ∷ 0x01 ∷ 0x02 ∷ 0x65 ∷ [], size 6) ∷
     (0x82 ∷ 0x06 ∷ 0x13 ∷ 0x01 ∷ 0x02 ∷ 0x13 ∷ 0x01 ∷ 0x05 ∷ 0x49 ∷ [], size 9) ∷
     (0x80 ∷ 0x06 ∷ 0x04 ∷ 0x01 ∷ 0x50 ∷ 0x02 ∷ 0x01 ∷ 0x37 ∷ 0xEB ∷ [], size 9) ∷
     (0x80 ∷ 0x11 ∷ 0x01 ∷ 0x08 ∷ 0x30 ∷ 0x36 ∷ 0x31 ∷ 0x35 ∷ 0x31 ∷ 0x34 ∷ 0x33 ∷ 0x30 ∷ 0x02 ∷ 0x05 ∷ 0x34 ∷ 0x30 ∷ 0x39 ∷ 0x31 ∷ 0x32 ∷ 0xCB ∷ [], size 20) ∷
+    (0x80 ∷ 0x06 ∷ 0x05 ∷ 0x01 ∷ 0x00 ∷ 0x01 ∷ [], refused 3 at 5 of 2) ∷
+    (0x80 ∷ 0x06 ∷ 0x05 ∷ 0x01 ∷ 0x00 ∷ 0x02 ∷ 0x02 ∷ [], refused 4 at 6 of 2) ∷
+    (0x82 ∷ 0x06 ∷ 0x13 ∷ 0x01 ∷ 0x02 ∷ 0x13 ∷ 0x02 ∷ [], refused 4 at 6 of 2) ∷
+    (0x80 ∷ 0x06 ∷ 0x05 ∷ 0x01 ∷ 0x00 ∷ 0x02 ∷ 0x01 ∷ 0x41 ∷ [], refused 5 at 7 of 2) ∷
+    (0x82 ∷ 0x06 ∷ 0x13 ∷ 0x01 ∷ 0x02 ∷ 0x13 ∷ 0x01 ∷ 0x05 ∷ 0x48 ∷ [], refused 6 at 8 of 0) ∷
     []
 
 -- where the other books say something else. In the strict way: a type without a row, whatever its room.
 abbrev pub strictRows : List Example
 strictRows =
-    (0x80 ∷ 0x03 ∷ 0x05 ∷ [], refused 10 at 2) ∷
-    (0x80 ∷ 0x04 ∷ 0x05 ∷ [], refused 10 at 2) ∷
-    (0x80 ∷ 0x04 ∷ 0x04 ∷ [], refused 3 at 2) ∷
-    (0x82 ∷ 0x06 ∷ 0x13 ∷ 0x01 ∷ 0x02 ∷ 0x05 ∷ [], refused 10 at 5) ∷
+    (0x80 ∷ 0x03 ∷ 0x05 ∷ [], refused 10 at 2 of 1) ∷
+    (0x80 ∷ 0x04 ∷ 0x05 ∷ [], refused 10 at 2 of 1) ∷
+    (0x80 ∷ 0x04 ∷ 0x04 ∷ [], refused 3 at 2 of 1) ∷
+    (0x82 ∷ 0x06 ∷ 0x13 ∷ 0x01 ∷ 0x02 ∷ 0x05 ∷ [], refused 10 at 5 of 2) ∷
     (0x82 ∷ 0x03 ∷ 0x13 ∷ 0x01 ∷ 0x02 ∷ 0x65 ∷ [], size 6) ∷
     []
 
@@ -90,12 +95,12 @@ strictRows =
 abbrev pub oldRows : List Example
 oldRows =
     (0x80 ∷ 0x14 ∷ 0x02 ∷ 0x12 ∷ [], waits) ∷
-    (0x80 ∷ 0x15 ∷ 0x02 ∷ 0x13 ∷ [], refused 4 at 3) ∷
-    (0x80 ∷ 0x03 ∷ 0x02 ∷ 0x01 ∷ 0x23 ∷ [], refused 5 at 4) ∷
+    (0x80 ∷ 0x15 ∷ 0x02 ∷ 0x13 ∷ [], refused 4 at 3 of 1) ∷
+    (0x80 ∷ 0x03 ∷ 0x02 ∷ 0x01 ∷ 0x23 ∷ [], refused 5 at 4 of 1) ∷
     (0x80 ∷ 0x16 ∷ 0x07 ∷ 0x14 ∷ [], waits) ∷
-    (0x80 ∷ 0x17 ∷ 0x07 ∷ 0x15 ∷ [], refused 4 at 3) ∷
-    (0x80 ∷ 0x03 ∷ 0x15 ∷ 0x01 ∷ 0x80 ∷ [], refused 5 at 4) ∷
-    (0x80 ∷ 0x03 ∷ 0x16 ∷ 0x01 ∷ 0x01 ∷ [], refused 5 at 4) ∷
+    (0x80 ∷ 0x17 ∷ 0x07 ∷ 0x15 ∷ [], refused 4 at 3 of 1) ∷
+    (0x80 ∷ 0x03 ∷ 0x15 ∷ 0x01 ∷ 0x80 ∷ [], refused 5 at 4 of 1) ∷
+    (0x80 ∷ 0x03 ∷ 0x16 ∷ 0x01 ∷ 0x01 ∷ [], refused 5 at 4 of 1) ∷
     (0x80 ∷ 0x03 ∷ 0x16 ∷ 0x01 ∷ 0x0F ∷ [], waits) ∷
     (0x80 ∷ 0x07 ∷ 0x08 ∷ 0x05 ∷ [], waits) ∷
     []
@@ -104,8 +109,8 @@ oldRows =
 abbrev pub oldStrictRows : List Example
 oldStrictRows =
     (0x80 ∷ 0x03 ∷ 0x02 ∷ [], waits) ∷
-    (0x80 ∷ 0x03 ∷ 0x03 ∷ [], refused 10 at 2) ∷
-    (0x80 ∷ 0x15 ∷ 0x02 ∷ 0x13 ∷ [], refused 4 at 3) ∷
+    (0x80 ∷ 0x03 ∷ 0x03 ∷ [], refused 10 at 2 of 1) ∷
+    (0x80 ∷ 0x15 ∷ 0x02 ∷ 0x13 ∷ [], refused 4 at 3 of 1) ∷
     []
 
 abbrev call : List Parameter → message.Message
@@ -151,7 +156,7 @@ pub record Claim : Type 0 where
   pub carried-never : counted (rulesOf PresentLenient) (call (parameter 0x05 (1 ∷ []) ∷ [])) 0x05 ≡ none
 
 pub rows : Claim
-unfolding _≤?_ _=?_ _and_ _or_ pick total checksum within inSet whole digit rowIn rowOf listedIn listed classOf rivalOf typeFault classFault someLength rulesOf body octets messageKind firstOf counted carriedIn opens tensFit onesFit pairAt dayFits calendarAt calendarKeep shortMonth days columnAt judgeOf step run roomFits rangePossible somePossible possible final fits contents after fault machine rowAnswer answers expected
+unfolding _≤?_ _=?_ _and_ _or_ pick total checksum within inSet whole digit rowIn rowOf listedIn listed classOf rivalOf typeFault classFault someLength rulesOf body octets messageKind firstOf counted carriedIn opens tensFit onesFit pairAt dayFits calendarAt calendarKeep shortMonth days columnAt judgeOf step run roomFits rangePossible somePossible possible final fits contents after fault standsIn machine rowAnswer answers expected
 rows = record {
   heard = refl;
   strict = refl;

@@ -115,15 +115,19 @@ pub enum Stage {
     },
 }
 
-// The sum of the octets so far modulo 256, and their number.
+// The sum of the octets so far modulo 256, how many parameters began in them, and how many octets they are.
 pub struct Spot {
     pub sum: u8,
+    pub parameter: u8,
     pub place: u16,
 }
 
+// The place and the number, and the parameter of the octet there: its number in the message, from 1; 0 where it stands
+// in none (document 02, Q-3).
 pub struct Fault {
-    pub number: u8,
     pub place: u16,
+    pub number: u8,
+    pub parameter: u8,
 }
 
 pub enum State {
@@ -136,7 +140,11 @@ pub enum State {
 pub fn noted(number: u8, place: u16) -> Fault
     ensures { λ r. ⌜ r ≡ refusals.noted number place ⌝ }
 {
-    Fault { number, place }
+    Fault {
+        number,
+        place,
+        parameter: 0,
+    }
 }
 
 // The class of a code; a code of none is read as carried.

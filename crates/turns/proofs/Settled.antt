@@ -5,4 +5,4 @@ use Rattle.turns.proofs.One.{turned-one}
 use Rattle.turns.proofs.through.Reads as through
 
 pub through-settled : (κs : _) (a : _) (r r' : _) (s s' : _) → through.Post κs a r s → through.Post κs a r' s' → r ≡ r'
-through-settled κs a r r' s s' p q = turned-one _ _ _ _ _ r r' p q
+through-settled κs a r r' s s' p q = turned-one _ _ _ _ _ _ r r' p q

@@ -16,8 +16,9 @@ use Rattle.rules.specs.Octets.{total}
 use Rattle.rules.specs.Table.{Rules, classOf, classFault, lengthFits}
 use Rattle.rules.specs.ContentJudge.{okAt, remember, judgeOf, passing}
 use Rattle.rules.proofs.ContentLaw.{lawful}
+use Rattle.rules.specs.Refusals.{noted}
 use Rattle.rules.specs.Machine.{Machine, moved, step, run, Waits}
-use Rattle.rules.specs.Judge.{machine, final, fits, contents, after, fault, possible, roomFits}
+use Rattle.rules.specs.Judge.{machine, final, fits, contents, after, fault, standsIn, possible, roomFits}
 use Rattle.rules.proofs.Remaining.{at-contents, possible-has}
 use Rattle.rules.proofs.Listening.{message-stays, refused-stays}
 use Rattle.rules.proofs.Steps.{takes, declines, seals, spoils, type-taken, type-declined, room-left}
@@ -28,6 +29,10 @@ use Rattle.rules.specs.declared.Stage.the-variants.{Header, Length, Content}
 use Rattle.rules.specs.declared.State.{State}
 use Rattle.rules.specs.declared.State.the-variants.{Waiting, Message, Refused}
 use Rattle.turns.specs.Turns.{stands, spanOf, summed}
+
+-- one parameter more
+pub count-on : (b count : ℕ) → suc (b + count) ≡ b + (count + 1)
+count-on b count = omega arith
 
 one-more : (a : ℕ) → suc a ≡ a + 1
 one-more a = omega arith
@@ -54,8 +59,8 @@ module _ (R : Rules) where
   abbrev M : Machine
   M = machine R
 
-  abbrev refused : ℕ → ℕ → State
-  refused k p = Refused (record { number = k; place = p })
+  abbrev refused : ℕ → ℕ → ℕ → State
+  refused k p b = Refused (record { number = k; place = p; parameter = b })
 
   -- ---- one octet
   module _ (s : Stage) (q : Spot) (x : ℕ) (v : List ℕ) (w : State) where
@@ -68,7 +73,7 @@ module _ (R : Rules) where
   sealed q x c v e l b k = stepped (Header 0) q x v _ (seals R q x c e l b k) ∙ message-stays M _ v
 
   pub not-sealed : (q : Spot) (x c : ℕ) (v : List ℕ) → (c + q .sum) % 256 ≡ 0 → c < 256 → q .sum < 256 →
-      (x ≡ c → ⊥) → run M (Waiting (Header 0) q) (x ∷ v) ≡ refused 6 (q .place)
+      (x ≡ c → ⊥) → run M (Waiting (Header 0) q) (x ∷ v) ≡ Refused (noted 6 (q .place))
   not-sealed q x c v e l b k =
       stepped (Header 0) q x v _ (spoils R q x c e l b _ k refl) ∙ refused-stays M _ v
 
@@ -79,7 +84,9 @@ module _ (R : Rules) where
     type-on k = stepped (Header room) q t v _ (type-taken R room q t (classOf R t) some refl _ k refl)
 
     pub type-spoils : possible (classOf R t) room ≡ false →
-        run M (Waiting (Header room) q) (t ∷ v) ≡ refused (classFault (classOf R t)) (q .place)
+        run M (Waiting (Header room) q) (t ∷ v) ≡
+        refused (classFault (classOf R t)) (q .place) (suc (q .parameter))
+    unfolding machine standsIn
     type-spoils k =
         stepped (Header room) q t v _ (type-declined R room q t (classOf R t) some refl _ _ refl k refl)
         ∙ refused-stays M _ v
@@ -103,8 +110,8 @@ module _ (R : Rules) where
         (λ z. absurd (omega (arith, fits-facts c room n k .0))) (λ _. refl)) refl)
 
     pub length-spoils : (lengthFits c n and roomFits n room) ≡ false →
-        run M (Waiting (Length c room) q) (n ∷ v) ≡ refused 4 (q .place)
-    unfolding final fits fault
+        run M (Waiting (Length c room) q) (n ∷ v) ≡ refused 4 (q .place) (q .parameter)
+    unfolding final fits fault machine standsIn
     length-spoils k =
         stepped (Length c room) q n v _ (declines R (Length c room) q n _ refl k refl) ∙ refused-stays M _ v
 
@@ -138,8 +145,8 @@ module _ (R : Rules) where
           (at-contents (λ (s : Stage). s ≡ Header room) c n (suc i) _ room (λ _. refl) (λ d. absurd (d h)))
 
       content-spoils : okAt c n i m x ≡ false →
-          run M (Waiting (Content c n i m room) q) (x ∷ v) ≡ refused 5 (q .place)
-      unfolding final fits fault
+          run M (Waiting (Content c n i m room) q) (x ∷ v) ≡ refused 5 (q .place) (q .parameter)
+      unfolding final fits fault machine standsIn
       content-spoils k =
           stepped (Content c n i m room) q x v _ (declines R (Content c n i m room) q x _ refl k refl)
           ∙ refused-stays M _ v
@@ -158,7 +165,7 @@ module _ (R : Rules) where
     going-not i m x w k = rw k refl
 
     abbrev pub spot-after : Spot → List ℕ → Spot
-    spot-after q w = record { sum = summed (q .sum) w; place = q .place + length w }
+    spot-after q w = record { sum = summed (q .sum) w; place = q .place + length w; parameter = q .parameter }
 
     abbrev pub ended : List ℕ → Spot → State
     ended rest z = run M (Waiting (Header room) z) rest
@@ -168,7 +175,7 @@ module _ (R : Rules) where
         going i m w ≡ length w →
         run M (Waiting (Content c n i m room) q) (w ++ rest) ≡
         ended rest (spot-after q w)
-    unfolding total
+    unfolding total machine standsIn
     contents-over [] rest i m q h e g = absurd (omega arith)
     contents-over (x ∷ []) rest i m q h e g = go (okAt c n i m x) refl
       where
@@ -180,6 +187,7 @@ module _ (R : Rules) where
             ∙ ap (ended rest) (λ j. record {
               sum = (q .sum + sym (add-zero x) j) % 256;
               place = one-more (q .place) j;
+              parameter = q .parameter;
             })
         go false k = absurd (omega (arith, going-not i m x [] k))
     contents-over (x ∷ y ∷ w) rest i m q h e g =
@@ -198,6 +206,7 @@ module _ (R : Rules) where
             ∙ ap (ended rest) (λ j. record {
               sum = two-sums (q .sum) x (total (y ∷ w)) j;
               place = place-on (q .place) (length w) j;
+              parameter = q .parameter;
             })
         go ih false k = absurd (omega (arith, going-not i m x (y ∷ w) k))
 
@@ -218,23 +227,27 @@ module _ (R : Rules) where
 
     -- octets of which one may not stand
     pub one-spoils : (w rest : List ℕ) (i m : ℕ) (q : Spot) → i + length w ≤ n → going i m w < length w →
-        run M (Waiting (Content c n i m room) q) (w ++ rest) ≡ refused 5 (q .place + going i m w)
+        run M (Waiting (Content c n i m room) q) (w ++ rest) ≡ refused 5 (q .place + going i m w) (q .parameter)
+    unfolding machine standsIn
     one-spoils [] rest i m q h g = absurd (omega arith)
     one-spoils (x ∷ w) rest i m q h g =
         go (λ a z. one-spoils w rest (suc i) (remember c n i m x) (next i m q x rest) a z) (okAt c n i m x) refl
       where
         go : (suc i + length w ≤ n → going (suc i) (remember c n i m x) w < length w →
             run M (Waiting (Content c n (suc i) (remember c n i m x) room) (next i m q x rest)) (w ++ rest) ≡
-            refused 5 (suc (q .place) + going (suc i) (remember c n i m x) w)) → (b : Bool) → okAt c n i m x ≡ b →
-            run M (Waiting (Content c n i m room) q) (x ∷ w ++ rest) ≡ refused 5 (q .place + going i m (x ∷ w))
+            refused 5 (suc (q .place) + going (suc i) (remember c n i m x) w) (q .parameter)) → (b : Bool) →
+            okAt c n i m x ≡ b →
+            run M (Waiting (Content c n i m room) q) (x ∷ w ++ rest) ≡
+            refused 5 (q .place + going i m (x ∷ w)) (q .parameter)
         go ih true k =
             let u = going-on i m x w k in
             let l : going (suc i) (remember c n i m x) w < length w = omega (arith, u, g) in
             content-more i m q x (w ++ rest) k (omega (arith, l))
             ∙ ih (omega arith) l
-            ∙ ap (refused 5) (omega (arith, u))
+            ∙ ap (λ (p : ℕ). refused 5 p (q .parameter)) (omega (arith, u))
         go ih false k =
-            content-spoils i m q x (w ++ rest) k ∙ ap (refused 5) (omega (arith, going-not i m x w k))
+            content-spoils i m q x (w ++ rest) k
+            ∙ ap (λ (p : ℕ). refused 5 p (q .parameter)) (omega (arith, going-not i m x w k))
 
   -- ---- a parameter at the front: what its type, its length and its contents come to
   module _ (room : ℕ) (q : Spot) (t n : ℕ) (v : List ℕ)
@@ -265,19 +278,25 @@ module _ (R : Rules) where
 
     pub contents-spoil : (w rest : List ℕ) → w ++ rest ≡ v → length w ≤ n →
         passing (judgeOf class) n 0 0 w < length w →
-        run M (Waiting (Header room) q) (t ∷ n ∷ v) ≡ refused 5 (q .place + (2 + passing (judgeOf class) n 0 0 w))
+        run M (Waiting (Header room) q) (t ∷ n ∷ v) ≡
+        refused 5 (q .place + (2 + passing (judgeOf class) n 0 0 w)) (suc (q .parameter))
+    unfolding machine standsIn
     contents-spoil w rest e h g =
         headed
         ∙ ap (run M (Waiting (Content class n 0 0 (room - (n + 2))) inside)) (sym e)
         ∙ one-spoils class n (room - (n + 2)) w rest 0 0 inside (omega arith) g
-        ∙ ap (refused 5) (omega arith)
+        ∙ ap (λ (p : ℕ). refused 5 p (suc (q .parameter))) (omega arith)
 
     pub contents-pass : (w rest : List ℕ) → w ++ rest ≡ v → length w ≡ n →
         passing (judgeOf class) n 0 0 w ≡ length w →
         run M (Waiting (Header room) q) (t ∷ n ∷ v) ≡
         run M (Waiting (Header (room - (n + 2)))
-        (record { sum = summed (q .sum) (t ∷ n ∷ w); place = q .place + (n + 2) })) rest
-    unfolding total
+        (record {
+          sum = summed (q .sum) (t ∷ n ∷ w);
+          place = q .place + (n + 2);
+          parameter = suc (q .parameter);
+        })) rest
+    unfolding total machine standsIn
     contents-pass w rest e h g =
         headed
         ∙ ap (run M (Waiting (Content class n 0 0 (room - (n + 2))) inside)) (sym e)
@@ -286,13 +305,18 @@ module _ (R : Rules) where
         ∙ ap (ended class n (room - (n + 2)) rest) (λ j. record {
           sum = three-sums (q .sum) t n (total w) j;
           place = place-two (q .place) n (length w) h j;
+          parameter = suc (q .parameter);
         })
 
   -- ---- a whole parameter
   pub passes-over : (room : ℕ) (q : Spot) (o : List ℕ) → stands R room o ≡ true →
       run M (Waiting (Header room) q) o ≡
       run M (Waiting (Header (room - spanOf o))
-      (record { sum = summed (q .sum) (take (spanOf o) o); place = q .place + spanOf o })) (drop (spanOf o) o)
+      (record {
+        sum = summed (q .sum) (take (spanOf o) o);
+        place = q .place + spanOf o;
+        parameter = suc (q .parameter);
+      })) (drop (spanOf o) o)
   unfolding stands spanOf
   passes-over room q [] e = absurd (clash cc)
   passes-over room q (t ∷ []) e = absurd (clash cc)
@@ -303,5 +327,8 @@ module _ (R : Rules) where
       let g : passing (judgeOf (classOf R t)) (length (take n v)) 0 0 (take n v) ≡ n = eq-of _ _ (d .1) in
       contents-pass room q t n v (holds _ (b .0)) (take n v) (drop n v) (take-append-drop n v) l
       (ap (λ (k : ℕ). passing (judgeOf (classOf R t)) k 0 0 (take n v)) (sym l) ∙ g ∙ sym l)
-      ∙ ap₂ (λ (r p : ℕ). run M (Waiting (Header r) (record { sum = summed (q .sum) (t ∷ n ∷ take n v); place = p }))
-      (drop n v)) (minus-two room n) (plus-two (q .place) n)
+      ∙ ap₂ (λ (r p : ℕ). run M (Waiting (Header r) (record {
+        sum = summed (q .sum) (t ∷ n ∷ take n v);
+        place = p;
+        parameter = suc (q .parameter);
+      })) (drop n v)) (minus-two room n) (plus-two (q .place) n)

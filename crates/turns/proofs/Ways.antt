@@ -1,8 +1,8 @@
 -- The ways in which octets from a header on come to a stop, each from what the tests of its octets gave; and a whole
 -- parameter passed over.
 -- Assumes nothing.
-use Prim.Native.Nat.{ℕ, _+_, _-_, _%_, _≤_, _<_}
-use mathlib.Core.Path.{_≡_, refl, sym, _∙_, ap, subst}
+use Prim.Native.Nat.{ℕ, suc, _+_, _-_, _%_, _≤_, _<_}
+use mathlib.Core.Path.{_≡_, refl, sym, _∙_, ap, ap₂, subst}
 use mathlib.Core.Bool.{Bool, true, false}
 use mathlib.Core.List.{List, [], _∷_, _++_}
 use mathlib.Core.Logic.{_⊎_, inl, inr}
@@ -17,7 +17,7 @@ use Rattle.rules.proofs.Returns.{and-t, and-f, yes-le, no-le, yes-eq}
 use Rattle.rules.specs.Table.{Rules, classOf, classFault, lengthFits}
 use Rattle.rules.specs.ContentJudge.{judgeOf, passing, goodFront}
 use Rattle.rules.specs.Machine.{run, Waits}
-use Rattle.rules.specs.Judge.{machine, possible, roomFits}
+use Rattle.rules.specs.Judge.{machine, possible, roomFits, standsIn}
 use Rattle.rules.specs.declared.Class.{Class}
 use Rattle.rules.specs.declared.Spot.{Spot}
 use Rattle.rules.specs.declared.Stage.the-variants.{Header}
@@ -26,7 +26,7 @@ use Rattle.rules.specs.declared.State.the-variants.{Waiting, Message, Refused}
 use Rattle.turns.specs.declared.Stop.{Stop}
 use Rattle.turns.specs.Turns.{stop, stands, spanOf, summed, Along, Turned, from, fitsAt, Headed, stopIn}
 use Rattle.rules.proofs.Standing.{passing-most}
-use Rattle.turns.proofs.Steps.{sealed, not-sealed, type-on, type-spoils, length-spoils, fits-facts, header-waits, contents-wait, contents-spoil, passes-over}
+use Rattle.turns.proofs.Steps.{count-on, sealed, not-sealed, type-on, type-spoils, length-spoils, fits-facts, header-waits, contents-wait, contents-spoil, passes-over}
 
 -- ---- the octets at a place
 pub front : (o : List ℕ) (at : ℕ) → at < length o → drop at o ≡ getD o at 0 ∷ drop (at + 1) o
@@ -46,6 +46,12 @@ append-nil : (v : List ℕ) → v ++ [] ≡ v
 append-nil [] = refl
 append-nil (x ∷ v) = ap (λ (l : List ℕ). x ∷ l) (append-nil v)
 
+place-after : (p at : ℕ) → suc (p + at) ≡ p + (at + 1)
+place-after p at = omega arith
+
+place-inside : (p at k : ℕ) → p + at + (2 + k) ≡ p + (at + 2 + k)
+place-inside p at k = omega arith
+
 place-over : (p at d to : ℕ) → at + d ≡ to → p + at + d ≡ p + to
 place-over p at d to e = omega arith
 
@@ -56,10 +62,11 @@ not-either b n f g e = go (picked b 3 10 n e)
     go (inl x) = f (x .1)
     go (inr x) = g (x .1)
 
-fault-given : (c : Class) → (classFault c ≡ 0 → ⊥) × (classFault c ≡ 8 → ⊥)
+fault-given : (c : Class) → (classFault c ≡ 0 → ⊥) × (classFault c ≡ 6 → ⊥) × (classFault c ≡ 8 → ⊥)
 unfolding classFault
 fault-given c = (
   not-either _ 0 (λ e. absurd (omega arith)) (λ e. absurd (omega arith)),
+  not-either _ 6 (λ e. absurd (omega arith)) (λ e. absurd (omega arith)),
   not-either _ 8 (λ e. absurd (omega arith)) (λ e. absurd (omega arith)),
 )
 
@@ -75,63 +82,68 @@ module _ (c d : Class) (room : ℕ) (b z : Bool) (e : c ≡ d) where
       (lengthFits d n and roomFits n room) ≡ z
   fitting-told n f g = ap (λ (k : Class). lengthFits k n and roomFits n room) (sym e) ∙ sym f ∙ g
 
-module _ (R : Rules) (o : List ℕ) (at room sum : ℕ) where
-  abbrev spot : ℕ → Spot
-  spot p = record { sum = sum; place = p + at }
+module _ (R : Rules) (o : List ℕ) (at room sum count : ℕ) where
+  abbrev spot : ℕ → ℕ → Spot
+  spot p b = record { sum = sum; place = p + at; parameter = b + count }
 
-  abbrev on : ℕ → List ℕ → State
-  on p l = run (machine R) (Waiting (Header room) (spot p)) l
+  abbrev on : ℕ → ℕ → List ℕ → State
+  on p b l = run (machine R) (Waiting (Header room) (spot p b)) l
 
   abbrev fitting : Bool
   fitting = fitsAt R o at room
 
-  stays-here : stands R room (drop at o) ≡ false → Along R o at room sum at room sum
-  stays-here e = Along.stays {at = at} {room = room} {sum = sum} e
+  stays-here : stands R room (drop at o) ≡ false → Along R o at room sum count at room sum count
+  stays-here e = Along.stays {at = at} {room = room} {sum = sum} {count = count} e
 
   -- a stop as one number
-  pub as-word : (w : ℕ) (s : Stop) → stopIn w ≡ s → Turned R o at room sum s → Turned R o at room sum (stopIn w)
-  as-word w s e t = subst (Turned R o at room sum) (sym e) t
+  pub as-word : (w : ℕ) (s : Stop) → stopIn w ≡ s → Turned R o at room sum count s → Turned R o at room sum count (stopIn w)
+  as-word w s e t = subst (Turned R o at room sum count) (sym e) t
 
   -- ---- the octets' own end
   -- before the header
-  pub none-left : length o ≤ at → Turned R o at room sum (stop 8 at room sum)
+  pub none-left : length o ≤ at → Turned R o at room sum count (stop 8 at room sum count)
   unfolding stands run
   none-left h =
       let e = drop-of-length-le o h in
-      Turned.early at room sum (stays-here (rw e refl)) (λ p. rw e tt)
+      Turned.early at room sum count (stays-here (rw e refl)) (λ p b. rw e tt)
 
   -- behind its type
   pub type-left : at < length o → length o ≤ at + 1 → (room ≡ 0 → ⊥) → possible (classOf R (getD o at 0)) room ≡ true →
-      Turned R o at room sum (stop 8 at room sum)
+      Turned R o at room sum count (stop 8 at room sum count)
   unfolding stands run
   type-left h l some k =
       let e : drop at o ≡ getD o at 0 ∷ [] =
       front o at h ∙ ap (λ (x : List ℕ). getD o at 0 ∷ x) (drop-of-length-le o l) in
-      Turned.early at room sum (stays-here (rw e refl))
-      (λ p. subst Waits (sym (ap (on p) e ∙ type-on R room (spot p) (getD o at 0) [] some k)) tt)
+      Turned.early at room sum count (stays-here (rw e refl))
+      (λ p b. subst Waits (sym (ap (on p b) e ∙ type-on R room (spot p b) (getD o at 0) [] some k)) tt)
 
   pub type-wrong : at < length o → (room ≡ 0 → ⊥) → possible (classOf R (getD o at 0)) room ≡ false →
-      Turned R o at room sum (stop (classFault (classOf R (getD o at 0))) at 0 0)
+      Turned R o at room sum count (stop (classFault (classOf R (getD o at 0))) at 0 0 (count + 1))
   type-wrong h some k =
       let g = fault-given (classOf R (getD o at 0)) in
-      Turned.spoilt _ at (g .0) (g .1)
-      (λ p. ap (on p) (front o at h) ∙ type-spoils R room (spot p) (getD o at 0) (drop (at + 1) o) some k)
+      Turned.spoilt _ at (count + 1) (g .0) (g .1) (g .2)
+      (λ p b. ap (on p b) (front o at h) ∙ type-spoils R room (spot p b) (getD o at 0) (drop (at + 1) o) some k
+      ∙ ap (λ (n : ℕ). Refused (record {
+        number = classFault (classOf R (getD o at 0));
+        place = p + at;
+        parameter = n;
+      })) (count-on b count))
 
   -- ---- the checksum
-  module _ (h : at < length o) (z : room ≡ 0) (c : ℕ) (e : (c + sum) % 256 ≡ 0) (l : c < 256) (b : sum < 256) where
-    pub sums-up : getD o at 0 ≡ c → Turned R o at room sum (stop 0 (at + 1) 0 0)
+  module _ (h : at < length o) (z : room ≡ 0) (c : ℕ) (e : (c + sum) % 256 ≡ 0) (l : c < 256) (u : sum < 256) where
+    pub sums-up : getD o at 0 ≡ c → Turned R o at room sum count (stop 0 (at + 1) 0 0 0)
     sums-up k =
         Turned.whole (at + 1)
-        (λ p. ap (on p) (front o at h)
-        ∙ ap (λ (r : ℕ). run (machine R) (Waiting (Header r) (spot p)) (getD o at 0 ∷ drop (at + 1) o)) z
-        ∙ sealed R (spot p) (getD o at 0) c (drop (at + 1) o) e l b k ∙ ap Message (omega arith))
+        (λ p b. ap (on p b) (front o at h)
+        ∙ ap (λ (r : ℕ). run (machine R) (Waiting (Header r) (spot p b)) (getD o at 0 ∷ drop (at + 1) o)) z
+        ∙ sealed R (spot p b) (getD o at 0) c (drop (at + 1) o) e l u k ∙ ap Message (omega arith))
 
-    pub sums-not : (getD o at 0 ≡ c → ⊥) → Turned R o at room sum (stop 6 at 0 0)
+    pub sums-not : (getD o at 0 ≡ c → ⊥) → Turned R o at room sum count (stop 6 at 0 0 0)
     sums-not k =
-        Turned.spoilt 6 at (λ q. absurd (omega arith)) (λ q. absurd (omega arith))
-        (λ p. ap (on p) (front o at h)
-        ∙ ap (λ (r : ℕ). run (machine R) (Waiting (Header r) (spot p)) (getD o at 0 ∷ drop (at + 1) o)) z
-        ∙ not-sealed R (spot p) (getD o at 0) c (drop (at + 1) o) e l b k)
+        Turned.unsealed at
+        (λ p b. ap (on p b) (front o at h)
+        ∙ ap (λ (r : ℕ). run (machine R) (Waiting (Header r) (spot p b)) (getD o at 0 ∷ drop (at + 1) o)) z
+        ∙ not-sealed R (spot p b) (getD o at 0) c (drop (at + 1) o) e l u k)
 
   module _ (h : at + 1 < length o) where
     abbrev rest : List ℕ
@@ -140,17 +152,20 @@ module _ (R : Rules) (o : List ℕ) (at room sum : ℕ) where
     abbrev n : ℕ
     n = getD o (at + 1) 0
 
-    on-front : (p : ℕ) → on p (drop at o) ≡ on p (getD o at 0 ∷ n ∷ rest)
-    on-front p = ap (on p) (two-front o at h)
+    on-front : (p b : ℕ) → on p b (drop at o) ≡ on p b (getD o at 0 ∷ n ∷ rest)
+    on-front p b = ap (on p b) (two-front o at h)
 
     -- ---- a length that may not stand
     pub length-wrong : (room ≡ 0 → ⊥) → possible (classOf R (getD o at 0)) room ≡ true → fitting ≡ false →
-        Turned R o at room sum (stop 4 (at + 1) 0 0)
+        Turned R o at room sum count (stop 4 (at + 1) 0 0 (count + 1))
+    unfolding machine standsIn
     length-wrong some k f =
-        Turned.spoilt 4 (at + 1) (λ q. absurd (omega arith)) (λ q. absurd (omega arith))
-        (λ p. on-front p ∙ type-on R room (spot p) (getD o at 0) (n ∷ rest) some k
+        Turned.spoilt 4 (at + 1) (count + 1) (λ q. absurd (omega arith)) (λ q. absurd (omega arith))
+        (λ q. absurd (omega arith))
+        (λ p b. on-front p b ∙ type-on R room (spot p b) (getD o at 0) (n ∷ rest) some k
         ∙ length-spoils R (classOf R (getD o at 0)) room _ n rest f
-        ∙ ap (λ (a : ℕ). Refused (record { number = 4; place = a })) (omega arith))
+        ∙ ap₂ (λ (a n : ℕ). Refused (record { number = 4; place = a; parameter = n }))
+        (place-after p at) (count-on b count))
 
     module _ (k : fitting ≡ true) where
       room-for : (1 ≤ n) × (n + 2 ≤ room)
@@ -164,11 +179,11 @@ module _ (R : Rules) (o : List ℕ) (at room sum : ℕ) where
           ∙ sym (and-t _ _ _ k (and-f _ _ _ (no-le _ _ (omega (arith, length-drop (at + 2) o))) refl))
 
       -- the octets end behind the length
-      pub length-left : length o ≤ at + 2 → Turned R o at room sum (stop 8 at room sum)
+      pub length-left : length o ≤ at + 2 → Turned R o at room sum count (stop 8 at room sum count)
       length-left l =
-          Turned.early at room sum (stays-here (not-whole (omega (arith, room-for .0))))
-          (λ p. subst Waits (sym (on-front p))
-          (header-waits R room (spot p) (getD o at 0) n rest k (drop-of-length-le o l)))
+          Turned.early at room sum count (stays-here (not-whole (omega (arith, room-for .0))))
+          (λ p b. subst Waits (sym (on-front p b))
+          (header-waits R room (spot p b) (getD o at 0) n rest k (drop-of-length-le o l)))
 
       -- ---- contents
       abbrev reached : ℕ
@@ -176,25 +191,26 @@ module _ (R : Rules) (o : List ℕ) (at room sum : ℕ) where
 
       -- the octets end in them
       pub contents-left : length o < at + 2 + n → at + 2 + reached ≡ length o →
-          Turned R o at room sum (stop 8 at room sum)
+          Turned R o at room sum count (stop 8 at room sum count)
       contents-left l g =
-          Turned.early at room sum (stays-here (not-whole l))
-          (λ p. subst Waits (sym (on-front p))
-          (contents-wait R room (spot p) (getD o at 0) n rest k (omega (arith, length-drop (at + 2) o))
+          Turned.early at room sum count (stays-here (not-whole l))
+          (λ p b. subst Waits (sym (on-front p b))
+          (contents-wait R room (spot p b) (getD o at 0) n rest k (omega (arith, length-drop (at + 2) o))
           (omega (arith, length-drop (at + 2) o))))
 
       -- one of the octets that have come may not stand
       spoilt-at : (w v : List ℕ) → w ++ v ≡ rest → length w ≤ n →
           passing (judgeOf (classOf R (getD o at 0))) n 0 0 w < length w →
-          Turned R o at room sum (stop 5 (at + 2 + passing (judgeOf (classOf R (getD o at 0))) n 0 0 w) 0 0)
+          Turned R o at room sum count (stop 5 (at + 2 + passing (judgeOf (classOf R (getD o at 0))) n 0 0 w) 0 0 (count + 1))
       spoilt-at w v e l g =
-          Turned.spoilt 5 (at + 2 + passing (judgeOf (classOf R (getD o at 0))) n 0 0 w)
-          (λ q. absurd (omega arith)) (λ q. absurd (omega arith))
-          (λ p. on-front p ∙ contents-spoil R room (spot p) (getD o at 0) n rest k w v e l g
-          ∙ ap (λ (a : ℕ). Refused (record { number = 5; place = a })) (omega arith))
+          Turned.spoilt 5 (at + 2 + passing (judgeOf (classOf R (getD o at 0))) n 0 0 w) (count + 1)
+          (λ q. absurd (omega arith)) (λ q. absurd (omega arith)) (λ q. absurd (omega arith))
+          (λ p b. on-front p b ∙ contents-spoil R room (spot p b) (getD o at 0) n rest k w v e l g
+          ∙ ap₂ (λ (a n : ℕ). Refused (record { number = 5; place = a; parameter = n }))
+          (place-inside p at _) (count-on b count))
 
       pub cut-spoilt : length o < at + 2 + n → at + 2 + reached < length o →
-          Turned R o at room sum (stop 5 (at + 2 + reached) 0 0)
+          Turned R o at room sum count (stop 5 (at + 2 + reached) 0 0 (count + 1))
       cut-spoilt l g =
           spoilt-at rest [] (append-nil rest) (omega (arith, length-drop (at + 2) o))
           (omega (arith, length-drop (at + 2) o))
@@ -210,9 +226,9 @@ module _ (R : Rules) (o : List ℕ) (at room sum : ℕ) where
         counted-so =
             ap (λ (j : ℕ). passing (judgeOf (classOf R (getD o at 0))) j 0 0 (take n rest)) (sym inside)
 
-        pub contents-spoilt : whole-reached < n → Turned R o at room sum (stop 5 (at + 2 + whole-reached) 0 0)
+        pub contents-spoilt : whole-reached < n → Turned R o at room sum count (stop 5 (at + 2 + whole-reached) 0 0 (count + 1))
         contents-spoilt g =
-            subst (λ (j : ℕ). Turned R o at room sum (stop 5 (at + 2 + j) 0 0)) counted-so
+            subst (λ (j : ℕ). Turned R o at room sum count (stop 5 (at + 2 + j) 0 0 (count + 1))) counted-so
             (spoilt-at (take n rest) (drop n rest) (take-append-drop n rest) (omega (arith, inside))
             (omega (arith, inside, counted-so)))
 
@@ -241,41 +257,51 @@ module _ (R : Rules) (o : List ℕ) (at room sum : ℕ) where
           span-to : at + spanOf (drop at o) ≡ to
           span-to = omega (arith, span-is)
 
-          over : (p : ℕ) → from R o at room sum p ≡
-              from R o to (room - 2 - n) (summed sum (take (to - at) (drop at o))) p
-          over p =
-              passes-over R room (spot p) (drop at o) (whole-one g)
+          over : (p b : ℕ) → from R o at room sum count p b ≡
+              from R o to (room - 2 - n) (summed sum (take (to - at) (drop at o))) (count + 1) p b
+          over p b =
+              passes-over R room (spot p b) (drop at o) (whole-one g)
               ∙ (λ i. run (machine R) (Waiting (Header (span-room i)) (record {
                 sum = summed sum (take (span-gone i) (drop at o));
                 place = place-over p at (spanOf (drop at o)) to span-to i;
+                parameter = count-on b count i;
               })) ((drop-drop (spanOf (drop at o)) at o ∙ ap (λ (k : ℕ). drop k o) span-to) i))
 
-          along-over : (m r v : ℕ) →
-              Along R o to (room - 2 - n) (summed sum (take (to - at) (drop at o))) m r v →
-              Along R o at room sum m r v
-          along-over m r v a =
-              Along.goes {at = at} {room = room} {sum = sum} {to = m} {left = r} {after = v} (whole-one g)
+          along-over : (m r v c : ℕ) →
+              Along R o to (room - 2 - n) (summed sum (take (to - at) (drop at o))) (count + 1) m r v c →
+              Along R o at room sum count m r v c
+          along-over m r v c a =
+              Along.goes {at = at} {room = room} {sum = sum} {count = count} {to = m} {left = r} {after = v} {begun = c}
+              (whole-one g)
               (subst (λ (k : ℕ). Along R o (at + spanOf (drop at o)) (room - spanOf (drop at o))
-              (summed sum (take k (drop at o))) m r v) (sym span-gone)
-              (subst (λ (k : ℕ). Along R o (at + spanOf (drop at o)) k (summed sum (take (to - at) (drop at o))) m r v)
+              (summed sum (take k (drop at o))) (count + 1) m r v c) (sym span-gone)
+              (subst (λ (k : ℕ). Along R o (at + spanOf (drop at o)) k (summed sum (take (to - at) (drop at o)))
+              (count + 1) m r v c)
               (sym span-room)
-              (subst (λ (k : ℕ). Along R o k (room - 2 - n) (summed sum (take (to - at) (drop at o))) m r v)
+              (subst (λ (k : ℕ). Along R o k (room - 2 - n) (summed sum (take (to - at) (drop at o))) (count + 1)
+              m r v c)
               (sym span-to) a)))
 
           pub passed : (s : Stop) →
-              Turned R o to (room - 2 - n) (summed sum (take (to - at) (drop at o))) s → Turned R o at room sum s
-          passed s (Turned.whole m f) = Turned.whole m (λ p. over p ∙ f p)
-          passed s (Turned.early m r v a w) =
-              Turned.early m r v (along-over m r v a) (λ p. subst Waits (sym (over p)) (w p))
-          passed s (Turned.spoilt k m a b f) = Turned.spoilt k m a b (λ p. over p ∙ f p)
+              Turned R o to (room - 2 - n) (summed sum (take (to - at) (drop at o))) (count + 1) s →
+              Turned R o at room sum count s
+          passed s (Turned.whole m f) = Turned.whole m (λ p b. over p b ∙ f p b)
+          passed s (Turned.early m r v c a w) =
+              Turned.early m r v c (along-over m r v c a) (λ p b. subst Waits (sym (over p b)) (w p b))
+          passed s (Turned.unsealed m f) = Turned.unsealed m (λ p b. over p b ∙ f p b)
+          passed s (Turned.spoilt k m c x y z f) = Turned.spoilt k m c x y z (λ p b. over p b ∙ f p b)
 
 -- ---- the same of a header that the code has taken: the class c, the length n, and the room that is left after it
-module _ (R : Rules) (o : List ℕ) (at : ℕ) (c : Class) (n left sum : ℕ) (h : Headed R o at c n left) where
+module _ (R : Rules) (o : List ℕ) (at : ℕ) (c : Class) (n left sum count : ℕ) (h : Headed R o at c n left) where
   abbrev held : ℕ
   held = left + 2 + n
 
   begun : at + 1 < length o
   begun = omega (arith, h .begun)
+
+  -- contents have an octet at least
+  pub some-contents : 1 ≤ n
+  some-contents = omega (arith, h .length-is, fits-facts R (classOf R (getD o at 0)) held (getD o (at + 1) 0) (h .fits) .0)
 
   module _ (g : ℕ) (short : length o < at + 2 + n)
       (e : g ≡ passing (judgeOf c) n 0 0 (take (length o - (at + 2)) (drop (at + 2) o))) where
@@ -295,15 +321,15 @@ module _ (R : Rules) (o : List ℕ) (at : ℕ) (c : Class) (n left sum : ℕ) (h
           passing-most (judgeOf (classOf R (getD o at 0))) (getD o (at + 1) 0) 0 0 (drop (at + 2) o),
         )
 
-    pub cut-off : length o ≤ at + 2 + g → Turned R o at held sum (stop 8 at held sum)
+    pub cut-off : length o ≤ at + 2 + g → Turned R o at held sum count (stop 8 at held sum count)
     cut-off l =
-        contents-left R o at held sum begun (h .fits) (omega (arith, h .length-is))
+        contents-left R o at held sum count begun (h .fits) (omega (arith, h .length-is))
         (omega (arith, so-far, cut-near))
 
-    pub cut-wrong : at + 2 + g < length o → Turned R o at held sum (stop 5 (at + 2 + g) 0 0)
+    pub cut-wrong : at + 2 + g < length o → Turned R o at held sum count (stop 5 (at + 2 + g) 0 0 (count + 1))
     cut-wrong l =
-        subst (λ (k : ℕ). Turned R o at held sum (stop 5 (at + 2 + k) 0 0)) (sym so-far)
-        (cut-spoilt R o at held sum begun (h .fits) (omega (arith, h .length-is)) (omega (arith, so-far)))
+        subst (λ (k : ℕ). Turned R o at held sum count (stop 5 (at + 2 + k) 0 0 (count + 1))) (sym so-far)
+        (cut-spoilt R o at held sum count begun (h .fits) (omega (arith, h .length-is)) (omega (arith, so-far)))
 
   module _ (g : ℕ) (there : at + 2 + n ≤ length o)
       (e : g ≡ goodFront c (take (at + 2 + n - (at + 2)) (drop (at + 2) o))) where
@@ -313,10 +339,10 @@ module _ (R : Rules) (o : List ℕ) (at : ℕ) (c : Class) (n left sum : ℕ) (h
     whole-so : g ≡ goodFront (classOf R (getD o at 0)) (take (getD o (at + 1) 0) (drop (at + 2) o))
     whole-so = e ∙ (λ i. goodFront (h .type i) (take (part-is i) (drop (at + 2) o)))
 
-    pub held-wrong : g < n → Turned R o at held sum (stop 5 (at + 2 + g) 0 0)
+    pub held-wrong : g < n → Turned R o at held sum count (stop 5 (at + 2 + g) 0 0 (count + 1))
     held-wrong l =
-        subst (λ (k : ℕ). Turned R o at held sum (stop 5 (at + 2 + k) 0 0)) (sym whole-so)
-        (contents-spoilt R o at held sum begun (h .fits) (omega (arith, h .length-is))
+        subst (λ (k : ℕ). Turned R o at held sum count (stop 5 (at + 2 + k) 0 0 (count + 1))) (sym whole-so)
+        (contents-spoilt R o at held sum count begun (h .fits) (omega (arith, h .length-is))
         (omega (arith, whole-so, h .length-is)))
 
     at-most : goodFront (classOf R (getD o at 0)) (take (getD o (at + 1) 0) (drop (at + 2) o)) ≤ getD o (at + 1) 0
@@ -334,14 +360,15 @@ module _ (R : Rules) (o : List ℕ) (at : ℕ) (c : Class) (n left sum : ℕ) (h
     room-after = omega arith
 
     pub held-passed : n ≤ g → (s : Stop) (v : ℕ) → v ≡ summed sum (take (at + 2 + n - at) (drop at o)) →
-        Turned R o (at + 2 + n) left v s → Turned R o at held sum s
+        Turned R o (at + 2 + n) left v (count + 1) s → Turned R o at held sum count s
     held-passed l s v q d =
-        passed R o at held sum begun (h .fits) (omega (arith, h .length-is))
+        passed R o at held sum count begun (h .fits) (omega (arith, h .length-is))
         (omega (arith, whole-so, h .length-is, at-most)) s
-        (subst (λ (k : ℕ). Turned R o (at + 2 + k) (held - 2 - k) (summed sum (take (at + 2 + k - at) (drop at o))) s)
+        (subst (λ (k : ℕ). Turned R o (at + 2 + k) (held - 2 - k) (summed sum (take (at + 2 + k - at) (drop at o)))
+        (count + 1) s)
         (h .length-is)
-        (subst (λ (r : ℕ). Turned R o (at + 2 + n) r (summed sum (take (at + 2 + n - at) (drop at o))) s)
-        (sym room-after) (subst (λ (z : ℕ). Turned R o (at + 2 + n) left z s) q d)))
+        (subst (λ (r : ℕ). Turned R o (at + 2 + n) r (summed sum (take (at + 2 + n - at) (drop at o))) (count + 1) s)
+        (sym room-after) (subst (λ (z : ℕ). Turned R o (at + 2 + n) left z (count + 1) s) q d)))
 
 -- ---- a header that fits
 module _ (R : Rules) (o : List ℕ) (at room : ℕ) (c : Class) (b : Bool) (e : c ≡ classOf R (getD o at 0))
@@ -361,6 +388,7 @@ module _ (R : Rules) (o : List ℕ) (at room : ℕ) (c : Class) (b : Bool) (e : 
     fits = ap (fitsAt R o at) room-back ∙ fitting-told c _ room b true e (getD o (at + 1) 0) f t;
   }
 
-  pub in-room : (sum : ℕ) (s : Stop) →
-      Turned R o at (room - 2 - getD o (at + 1) 0 + 2 + getD o (at + 1) 0) sum s → Turned R o at room sum s
-  in-room sum s d = subst (λ (r : ℕ). Turned R o at r sum s) room-back d
+  pub in-room : (sum count : ℕ) (s : Stop) →
+      Turned R o at (room - 2 - getD o (at + 1) 0 + 2 + getD o (at + 1) 0) sum count s →
+      Turned R o at room sum count s
+  in-room sum count s d = subst (λ (r : ℕ). Turned R o at r sum count s) room-back d

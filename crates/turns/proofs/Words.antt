@@ -5,9 +5,9 @@ use mathlib.Core.Path.{_≡_}
 use native.Mathlib.Omega.{arith}
 use Rattle.turns.specs.Turns.{stop, stopIn}
 
-module _ (k p r v : ℕ) (a : k < 256) (b : p < 65536) (c : r < 256) (d : v < 256) where
+module _ (k p r v n : ℕ) (a : k < 256) (b : p < 65536) (c : r < 256) (d : v < 256) (e : n < 256) where
   abbrev packed : ℕ
-  packed = k + 256 * p + 16777216 * r + 4294967296 * v
+  packed = k + 256 * p + 16777216 * r + 4294967296 * v + 1099511627776 * n
 
   number : packed % 256 ≡ k
   number = omega arith
@@ -21,6 +21,9 @@ module _ (k p r v : ℕ) (a : k < 256) (b : p < 65536) (c : r < 256) (d : v < 25
   sum : packed / 4294967296 % 256 ≡ v
   sum = omega arith
 
-  pub unpacked : stopIn packed ≡ stop k p r v
+  parameter : packed / 1099511627776 % 256 ≡ n
+  parameter = omega arith
+
+  pub unpacked : stopIn packed ≡ stop k p r v n
   unfolding stopIn
-  unpacked = λ i. stop (number i) (place i) (room i) (sum i)
+  unpacked = λ i. stop (number i) (place i) (room i) (sum i) (parameter i)

@@ -10,6 +10,7 @@ use Rattle.rules.specs.Tests.{_≤?_, _=?_, _and_}
 use Rattle.rules.specs.Octets.{total}
 use Rattle.rules.specs.Table.{Rules, classOf, lengthFits}
 use Rattle.rules.specs.ContentJudge.{goodFront}
+use Rattle.rules.specs.Refusals.{noted}
 use Rattle.rules.specs.Machine.{run, Waits}
 use Rattle.rules.specs.Judge.{machine, roomFits}
 use Rattle.rules.specs.declared.Class.{Class}
@@ -18,8 +19,8 @@ use Rattle.rules.specs.declared.State.{State}
 use Rattle.rules.specs.declared.State.the-variants.{Waiting, Message, Refused}
 use Rattle.turns.specs.declared.Stop.{Stop}
 
-abbrev pub stop : ℕ → ℕ → ℕ → ℕ → Stop
-stop k n r v = record { number = k; place = n; room = r; sum = v }
+abbrev pub stop : ℕ → ℕ → ℕ → ℕ → ℕ → Stop
+stop k n r v b = record { number = k; place = n; room = r; sum = v; parameter = b }
 
 -- a parameter stands whole at the front of the octets, and may stand there in the room
 unfoldable pub stands : Rules → ℕ → List ℕ → Bool
@@ -50,30 +51,40 @@ spanOf o = suc (suc (getD o 1 0))
 abbrev pub summed : ℕ → List ℕ → ℕ
 summed sum v = (sum + total v) % 256
 
--- From octet `at` on whole parameters follow one another to octet `to`, where none stands: the room and the sum there.
-pub data Along (R : Rules) (o : List ℕ) : ℕ → ℕ → ℕ → ℕ → ℕ → ℕ → Type 0 where
-  stays : {at room sum : ℕ} → stands R room (drop at o) ≡ false → Along R o at room sum at room sum
-  goes : {at room sum to left after : ℕ} → stands R room (drop at o) ≡ true →
+-- From octet `at` on whole parameters follow one another to octet `to`, where none stands: the room and the sum there,
+-- and the number of parameters so far.
+pub data Along (R : Rules) (o : List ℕ) : ℕ → ℕ → ℕ → ℕ → ℕ → ℕ → ℕ → ℕ → Type 0 where
+  stays : {at room sum count : ℕ} → stands R room (drop at o) ≡ false →
+      Along R o at room sum count at room sum count
+  goes : {at room sum count to left after begun : ℕ} → stands R room (drop at o) ≡ true →
       Along R o (at + spanOf (drop at o)) (room - spanOf (drop at o))
-      (summed sum (take (spanOf (drop at o)) (drop at o))) to left after →
-      Along R o at room sum to left after
+      (summed sum (take (spanOf (drop at o)) (drop at o))) (count + 1) to left after begun →
+      Along R o at room sum count to left after begun
 
--- what the machine says of the octets from `at` on, where a header comes in a room and p octets came before them all
-abbrev pub from : Rules → List ℕ → ℕ → ℕ → ℕ → ℕ → State
-from R o at room sum p = run (machine R) (Waiting (Header room) (record { sum = sum; place = p + at })) (drop at o)
+-- what the machine says of the octets from `at` on, where a header comes in a room behind `count` parameters of these
+-- octets; p octets and b parameters came before them all
+abbrev pub from : Rules → List ℕ → ℕ → ℕ → ℕ → ℕ → ℕ → ℕ → State
+from R o at room sum count p b =
+    run (machine R) (Waiting (Header room) (record { sum = sum; place = p + at; parameter = b + count })) (drop at o)
 
 -- where the octets from `at` on come to
-pub data Turned (R : Rules) (o : List ℕ) (at room sum : ℕ) : Stop → Type 0 where
+pub data Turned (R : Rules) (o : List ℕ) (at room sum count : ℕ) : Stop → Type 0 where
   -- 0: to the end of a message, n octets on
-  whole : (n : ℕ) → ((p : ℕ) → from R o at room sum p ≡ Message (p + n)) → Turned R o at room sum (stop 0 n 0 0)
-  -- 8: to their own end; the last header on the way is at n
-  early : (n r v : ℕ) → Along R o at room sum n r v → ((p : ℕ) → Waits (from R o at room sum p)) →
-      Turned R o at room sum (stop 8 n r v)
-  -- else to octet n, which spoils the message
-  spoilt : (k n : ℕ) → (k ≡ 0 → ⊥) → (k ≡ 8 → ⊥) →
-      ((p : ℕ) → from R o at room sum p ≡ Refused (record { number = k; place = p + n })) →
-      Turned R o at room sum (stop k n 0 0)
+  whole : (n : ℕ) → ((p b : ℕ) → from R o at room sum count p b ≡ Message (p + n)) →
+      Turned R o at room sum count (stop 0 n 0 0 0)
+  -- 8: to their own end; the last header on the way is at n, behind c parameters
+  early : (n r v c : ℕ) → Along R o at room sum count n r v c →
+      ((p b : ℕ) → Waits (from R o at room sum count p b)) → Turned R o at room sum count (stop 8 n r v c)
+  -- 6: to octet n, which is no checksum
+  unsealed : (n : ℕ) → ((p b : ℕ) → from R o at room sum count p b ≡ Refused (noted 6 (p + n))) →
+      Turned R o at room sum count (stop 6 n 0 0 0)
+  -- else to octet n, which spoils the message in parameter c
+  spoilt : (k n c : ℕ) → (k ≡ 0 → ⊥) → (k ≡ 6 → ⊥) → (k ≡ 8 → ⊥) →
+      ((p b : ℕ) → from R o at room sum count p b ≡
+      Refused (record { number = k; place = p + n; parameter = b + c })) →
+      Turned R o at room sum count (stop k n 0 0 c)
 
 -- the stop that a number holds
 unfoldable pub stopIn : ℕ → Stop
-stopIn w = stop (w % 256) (w / 256 % 65536) (w / 16777216 % 256) (w / 4294967296 % 256)
+stopIn w =
+    stop (w % 256) (w / 256 % 65536) (w / 16777216 % 256) (w / 4294967296 % 256) (w / 1099511627776 % 256)

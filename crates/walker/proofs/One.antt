@@ -27,7 +27,7 @@ gives-one o at p NoMore g = absurd (omega (arith, g .more))
 gives-one o at p (Refused f) g = absurd (omega (arith, g .more))
 
 module _ (R : Rules) (o : List ℕ) (at : ℕ) where
-  -- what the one refuses, the other refuses with the same number and place
+  -- what the one refuses, the other refuses with the same number, place and parameter
   refused-too : (r s : Step) → Walks R o at r → Walks R o at s → (f : Fault) → r ≡ Refused f → s ≡ Refused f
   refused-too r s A B f e =
       refused-iff B f (some-number A f e) .1

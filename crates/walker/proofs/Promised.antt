@@ -58,7 +58,7 @@ module _ (s : RefT (List ℕ)) (calls : ℕ) (w : Walker) (h : Reached s calls w
   step-is : r ≡ stepOf (rulesOf PresentLenient) (now s) (placeAt (rulesOf PresentLenient) (now s) calls)
   step-is = e ∙ ap seen (reached s calls w h)
 
-  -- a message that is not accepted gets its number and place from the first call on, at each
+  -- a message that is not accepted gets its refusal from the first call on, at each
   pub refused-at-each : Octets (now s) → Walks (rulesOf PresentLenient) (now s) (w .place) r
   refused-at-each q =
       subst (λ (o : RefT (List ℕ)). Walks (rulesOf PresentLenient) (now o) (w .place) r)

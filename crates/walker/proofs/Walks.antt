@@ -16,7 +16,7 @@ use Rattle.rules.proofs.ContentLaw.{SoundRules}
 use Rattle.rules.specs.Message as message
 use Rattle.rules.specs.Message.{Message, body, front, octets, LegalMessage, most}
 use Rattle.rules.specs.declared.Fault.{Fault}
-use Rattle.rules.specs.Refusals.{noted}
+use Rattle.rules.specs.Refusals.{notedIn}
 use Rattle.message.specs.declared.Verdict.{Verdict}
 use Rattle.message.specs.declared.Verdict.the-variants.{Accepted, Declined}
 use Rattle.message.specs.Verdict.{verdictOf}
@@ -77,7 +77,17 @@ giving-gives : (o : List ℕ) (at : ℕ) (p : message.Parameter) →
     take (length (p .contents)) (drop (at + 2) o) ≡ p .contents → Gives o at p (giving at p)
 unfolding told nextPlace
 giving-gives o at p e =
-    record { number = refl; place = refl; more = refl; kind = refl; start = refl; size = refl; octets = e; next = refl }
+    record {
+      number = refl;
+      place = refl;
+      parameter = refl;
+      more = refl;
+      kind = refl;
+      start = refl;
+      size = refl;
+      octets = e;
+      next = refl;
+    }
 
 module _ (R : Rules) (S : SoundRules R) where
   module _ (m : Message) (l : LegalMessage R m) where
@@ -174,8 +184,8 @@ module _ (R : Rules) (S : SoundRules R) where
       verdict = v;
       judged = J;
       refused =
-          λ k p l. Iff·trans (told-refused _ k p l)
-          (Iff·trans (refused-of o at v (noted k p)) (Iff·symm (told-declined v k p l)));
+          λ k p b l. Iff·trans (told-refused _ k p b l)
+          (Iff·trans (refused-of o at v (notedIn k p b)) (Iff·symm (told-declined v k p b l)));
       stays = place-stays at _;
       numbers = numbers-of o at R v (number-of J);
       inside = under-inside o v at;

@@ -12,7 +12,7 @@ use Rattle.rules.specs.Message.{messageKind}
 use Rattle.rules.specs.ContentJudge.{opens, tensFit, onesFit, pairAt, dayFits, calendarAt, calendarKeep, columnAt, judgeOf}
 use Rattle.rules.specs.Refusals.{noted}
 use Rattle.rules.specs.Machine.{step, run}
-use Rattle.rules.specs.Judge.{roomFits, rangePossible, somePossible, possible, final, fits, contents, after, fault, machine}
+use Rattle.rules.specs.Judge.{roomFits, rangePossible, somePossible, possible, final, fits, contents, after, fault, standsIn, machine}
 use Rattle.message.specs.Verdict.{judged, verdictOf}
 use Rattle.message.specs.Parts.{parameterAt}
 use Rattle.walker.specs.declared.Step.the-variants.{Parameter, NoMore, Refused}
@@ -45,7 +45,7 @@ pub record Claim : Type 0 where
   pub too-short : stepOf (rulesOf PresentLenient) [] 2 ≡ Refused (noted 8 0)
 
 pub rows : Claim
-unfolding _≤?_ _=?_ _and_ _or_ pick checksum within inSet whole digit ascii rowIn rowOf listedIn listed classOf rivalOf typeFault rulesOf classFault someLength messageKind opens tensFit onesFit pairAt shortMonth days dayFits calendarAt calendarKeep columnAt judgeOf step run roomFits rangePossible somePossible possible final fits contents after fault machine judged verdictOf parameterAt met walkFrom stepUnder stepOf steps.nextPlace placeAt
+unfolding _≤?_ _=?_ _and_ _or_ pick checksum within inSet whole digit ascii rowIn rowOf listedIn listed classOf rivalOf typeFault rulesOf classFault someLength messageKind opens tensFit onesFit pairAt shortMonth days dayFits calendarAt calendarKeep columnAt judgeOf step run roomFits rangePossible somePossible possible final fits contents after fault standsIn machine judged verdictOf parameterAt met walkFrom stepUnder stepOf steps.nextPlace placeAt
 rows = record {
   first = refl;
   second = refl;

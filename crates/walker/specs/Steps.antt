@@ -26,7 +26,7 @@ unfoldable pub walkFrom : ℕ → List ℕ → ℕ → ℕ → Step
 walkFrom zero o at place = NoMore
 walkFrom (suc turns) o at place = met at place (parameterAt o place) (walkFrom turns o at)
 
--- octets that the whole read declines get its number and place; of a message the walk begins at 2 and meets 85
+-- octets that the whole read declines get its refusal; of a message the walk begins at 2 and meets 85
 -- parameters at most
 unfoldable pub stepUnder : Verdict → List ℕ → ℕ → Step
 stepUnder (Accepted n) o at = walkFrom most o at 2

@@ -5,10 +5,11 @@ use Prim.Native.Nat.{ℕ, _≤_}
 use Rattle.walker.specs.declared.Step.{Step}
 use Rattle.walker.specs.declared.Step.the-variants.{Parameter, NoMore, Refused}
 
--- the number and place of a refusal, the type of a parameter and the part of its contents; 0 where there is none
+-- number, place and parameter of a refusal; the type of a parameter and the part of its contents; 0 where there is none
 pub record Told : Type 0 where
   pub number : ℕ
   pub place : ℕ
+  pub parameter : ℕ
   -- 1 for a parameter, 0 for none
   pub more : ℕ
   pub kind : ℕ
@@ -16,17 +17,17 @@ pub record Told : Type 0 where
   pub size : ℕ
 
 unfoldable pub told : Step → Told
-told (Parameter k start n next) = record { number = 0; place = 0; more = 1; kind = k; start = start; size = n }
-told NoMore = record { number = 0; place = 0; more = 0; kind = 0; start = 0; size = 0 }
-told (Refused f) = record { number = f .number; place = f .place; more = 0; kind = 0; start = 0; size = 0 }
+told (Parameter k start n next) = record { number = 0; place = 0; parameter = 0; more = 1; kind = k; start = start; size = n }
+told NoMore = record { number = 0; place = 0; parameter = 0; more = 0; kind = 0; start = 0; size = 0 }
+told (Refused f) = record { number = f .number; place = f .place; parameter = f .parameter; more = 0; kind = 0; start = 0; size = 0 }
 
 -- no parameter begins there
 abbrev pub nothing : Told
-nothing = record { number = 0; place = 0; more = 0; kind = 0; start = 0; size = 0 }
+nothing = record { number = 0; place = 0; parameter = 0; more = 0; kind = 0; start = 0; size = 0 }
 
--- a refusal with number k at p
-abbrev pub refusal : ℕ → ℕ → Told
-refusal k p = record { number = k; place = p; more = 0; kind = 0; start = 0; size = 0 }
+-- a refusal with number k at p, in parameter b
+abbrev pub refusal : ℕ → ℕ → ℕ → Told
+refusal k p b = record { number = k; place = p; parameter = b; more = 0; kind = 0; start = 0; size = 0 }
 
 -- a refusal has a number: so what is told, and the place of the next call, tell the step
 abbrev pub Clear : Step → Type 0

@@ -30,6 +30,7 @@ pub record Begins (first : ℕ) (ps : List Parameter) (at : ℕ) : Type 0 where
 pub record Gives (o : List ℕ) (at : ℕ) (p : Parameter) (r : Step) : Type 0 where
   pub number : told r .number ≡ 0
   pub place : told r .place ≡ 0
+  pub parameter : told r .parameter ≡ 0
   pub more : told r .more ≡ 1
   pub kind : told r .kind ≡ p .kind
   pub start : told r .start ≡ at + 2
@@ -57,10 +58,10 @@ pub record Walks (R : Rules) (o : List ℕ) (at : ℕ) (r : Step) : Type 0 where
   pub clear : Clear r
   -- number 0 exactly when the octets are a message, whatever the place
   pub done : (told r .number ≡ 0) ↔ Accepts R o
-  -- refused exactly as the whole read declines the octets, with its number and place
+  -- refused exactly as the whole read declines the octets, with its number, place and parameter
   pub verdict : Verdict
   pub judged : Judges (calls R) o verdict
-  pub refused : (k p : ℕ) → 1 ≤ k → (told r ≡ refusal k p) ↔ (message.told verdict ≡ message.refusal k p)
+  pub refused : (k p b : ℕ) → 1 ≤ k → (told r ≡ refusal k p b) ↔ (message.told verdict ≡ message.refusal k p b)
   -- where no parameter is given, the next call's place is the same
   pub stays : told r .more ≡ 0 → nextPlace at r ≡ at
   -- no number but 1 to 8, and 10

@@ -11,7 +11,7 @@ ghost use Rattle.rules.specs.Message.{most};
 ghost use Rattle.walker.specs.Steps.{walkFrom, stepOf, nextPlace};
 ghost use Rattle.walker.specs.Moves.{Begun, Seen, Moved};
 
-// A parameter: its type, where its contents start, how long they are, and the place behind them; or none; or number and place of a refusal.
+// A parameter: its type, where its contents start, how long they are, and the place behind them; or none; or a refusal.
 pub enum Step {
     Parameter {
         kind: u8,

@@ -1,8 +1,9 @@
--- Number, place and size tell the answer of the writer.
+-- Number, place, parameter and size tell the answer of the writer.
 -- Assumes nothing.
 use Prim.Native.Nat.{ℕ, _≤_}
 use mathlib.Core.Path.{_≡_, ap}
 use native.Mathlib.Omega.{arith}
+use Rattle.rules.specs.Refusals.{notedIn}
 use Rattle.writer.specs.declared.Written.{Written}
 use Rattle.writer.specs.declared.Written.the-variants.{Message, Declined}
 use Rattle.writer.specs.Told.{Told, told, success, refusal}
@@ -11,7 +12,7 @@ use Rattle.writer.specs.Writing.{unwritten}
 pub unwritten-is : (w : Written) (k p : ℕ) → 1 ≤ k → told w ≡ refusal k p → w ≡ unwritten k p
 unfolding told
 unwritten-is (Message n) k p h e = absurd (omega (arith, ap (λ (a : Told). a .number) e))
-unwritten-is (Declined f) k p h e = λ i. Declined (record { number = e i .number; place = e i .place })
+unwritten-is (Declined f) k p h e = λ i. Declined (notedIn (e i .number) (e i .place) (e i .parameter))
 
 pub message-is : (w : Written) (n : ℕ) → 1 ≤ n → told w ≡ success n → w ≡ Message n
 unfolding told

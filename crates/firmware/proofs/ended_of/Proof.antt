@@ -10,6 +10,9 @@ use Rattle.firmware.proofs.ended_of.Tie as tie
 add-known : tie.Need-add-known
 add-known c = search needs
 
+add-known-2 : tie.Need-add-known-2
+add-known-2 c = search needs
+
 known-requires : tie.Need-known-requires
 known-requires c κs = search needs
 
@@ -30,4 +33,4 @@ returns-3 c = search (tests, known-eq)
 
 pub ended-of-spec : {M : Type 1} → statement M
 ended-of-spec =
-    tie.close (tie.spec add-known known-requires known-requires-2 returns returns-2 returns-3)
+    tie.close (tie.spec add-known add-known-2 known-requires known-requires-2 returns returns-2 returns-3)

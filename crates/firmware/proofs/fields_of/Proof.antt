@@ -29,26 +29,26 @@ shared-slice-read-room c = search needs
 shared-slice-read-number : tie.Need-shared-slice-read-number
 shared-slice-read-number c = search needs
 
-shared-slice-read-six : tie.Need-shared-slice-read-six
-shared-slice-read-six c = search needs
+shared-slice-read-parameter : tie.Need-shared-slice-read-parameter
+shared-slice-read-parameter c = search needs
 
-shared-slice-read-six-2 : tie.Need-shared-slice-read-six-2
-shared-slice-read-six-2 c = search needs
+shared-slice-read-five : tie.Need-shared-slice-read-five
+shared-slice-read-five c = search needs
 
-shared-slice-read-six-3 : tie.Need-shared-slice-read-six-3
-shared-slice-read-six-3 c = search needs
+shared-slice-read-five-2 : tie.Need-shared-slice-read-five-2
+shared-slice-read-five-2 c = search needs
 
-shared-slice-read-six-4 : tie.Need-shared-slice-read-six-4
-shared-slice-read-six-4 c = search needs
+shared-slice-read-five-3 : tie.Need-shared-slice-read-five-3
+shared-slice-read-five-3 c = search needs
 
-shared-slice-read-six-5 : tie.Need-shared-slice-read-six-5
-shared-slice-read-six-5 c = search needs
+shared-slice-read-five-4 : tie.Need-shared-slice-read-five-4
+shared-slice-read-five-4 c = search needs
 
-shared-slice-read-six-6 : tie.Need-shared-slice-read-six-6
-shared-slice-read-six-6 c = search needs
+shared-slice-read-five-5 : tie.Need-shared-slice-read-five-5
+shared-slice-read-five-5 c = search needs
 
-six-requires : tie.Need-six-requires
-six-requires c κs = search needs
+five-requires : tie.Need-five-requires
+five-requires c κs = search needs
 
 shared-slice-read-joined : tie.Need-shared-slice-read-joined
 shared-slice-read-joined c = search needs
@@ -61,7 +61,7 @@ joined-requires c κs = search needs
 
 returns : tie.Need-returns
 unfolding fieldsOf
-returns c = rw (← c .joined .ensures, ← c .before .before .before .six .ensures)
+returns c = rw (← c .joined .ensures, ← c .before .before .before .five .ensures)
 
 pub fields-of-spec : {M : Type 1} → statement M
 fields-of-spec =
@@ -75,13 +75,13 @@ fields-of-spec =
     shared-slice-read-memory
     shared-slice-read-room
     shared-slice-read-number
-    shared-slice-read-six
-    shared-slice-read-six-2
-    shared-slice-read-six-3
-    shared-slice-read-six-4
-    shared-slice-read-six-5
-    shared-slice-read-six-6
-    six-requires
+    shared-slice-read-parameter
+    shared-slice-read-five
+    shared-slice-read-five-2
+    shared-slice-read-five-3
+    shared-slice-read-five-4
+    shared-slice-read-five-5
+    five-requires
     shared-slice-read-joined
     shared-slice-read-joined-2
     joined-requires

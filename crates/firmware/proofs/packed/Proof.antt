@@ -1,4 +1,4 @@
--- `firmware::packed` meets its contract: four fields of one word.
+-- `firmware::packed` meets its contract: five fields of one word.
 -- Assumes nothing.
 use mathlib.Core.Path.{refl}
 use native.Mathlib.Omega.{arith}
@@ -6,6 +6,18 @@ use Rattle.firmware.specs.Word.{packed}
 use borrow.Author.Needs.{needs}
 use Rattle.firmware.proofs.packed.Statement.{statement}
 use Rattle.firmware.proofs.packed.Tie as tie
+
+mul-low : tie.Need-mul-low
+mul-low c = search needs
+
+add-low : tie.Need-add-low
+add-low c = search needs
+
+mul-low-2 : tie.Need-mul-low-2
+mul-low-2 c = search needs
+
+add-low-2 : tie.Need-add-low-2
+add-low-2 c = search needs
 
 mul-result : tie.Need-mul-result
 mul-result c = search needs
@@ -19,12 +31,6 @@ mul-result-2 c = search needs
 add-result-2 : tie.Need-add-result-2
 add-result-2 c = search needs
 
-mul-result-3 : tie.Need-mul-result-3
-mul-result-3 c = search needs
-
-add-result-3 : tie.Need-add-result-3
-add-result-3 c = search needs
-
 returns : tie.Need-returns
 unfolding packed
 returns c = refl
@@ -32,4 +38,4 @@ returns c = refl
 pub packed-spec : {M : Type 1} → statement M
 packed-spec =
     tie.close
-    (tie.spec mul-result add-result mul-result-2 add-result-2 mul-result-3 add-result-3 returns)
+    (tie.spec mul-low add-low mul-low-2 add-low-2 mul-result add-result mul-result-2 add-result-2 returns)

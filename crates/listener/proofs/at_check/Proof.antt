@@ -1,6 +1,8 @@
 -- `listener::at_check` meets its contract: the checksum wanted is a wrapping subtract from zero.
 -- Assumes nothing.
+use mathlib.Core.Path.{ap}
 use native.Mathlib.Omega.{arith}
+use Rattle.rules.specs.declared.State.the-variants.{Refused}
 use Rattle.rules.proofs.Steps.{seals, spoils}
 use borrow.Author.Needs.{needs}
 use Rattle.listener.proofs.at_check.Statement.{statement}
@@ -12,8 +14,8 @@ wrapping-sub-u8-requires c κs = search needs
 add-t7 : tie.Need-add-t7
 add-t7 c = search needs
 
-declined-requires : tie.Need-declined-requires
-declined-requires c κs = search needs
+noted-requires : tie.Need-noted-requires
+noted-requires c κs = search needs
 
 returns : tie.Need-returns
 returns c =
@@ -22,8 +24,8 @@ returns c =
 returns-2 : tie.Need-returns-2
 returns-2 c =
     spoils _ _ _ _ (c .before .before .wrapping-sub-u8 .ensures) (omega arith) (omega arith) _
-    (c .before .if1 .left) (c .declined .ensures)
+    (c .before .if1 .left) (ap Refused (c .noted .ensures))
 
 pub at-check-spec : {M : Type 1} → statement M
 at-check-spec =
-    tie.close (tie.spec wrapping-sub-u8-requires add-t7 declined-requires returns returns-2)
+    tie.close (tie.spec wrapping-sub-u8-requires add-t7 noted-requires returns returns-2)

@@ -1,7 +1,7 @@
 -- `listener::at_kind` meets its contract: the octet is taken or declined as the machine does.
 -- Assumes nothing.
 use mathlib.Core.Path.{refl, sym, _∙_}
-use Rattle.rules.specs.Judge.{final, fits, after, fault}
+use Rattle.rules.specs.Judge.{final, fits, after, fault, standsIn}
 use Rattle.rules.proofs.Steps.{takes, declines}
 use borrow.Author.Needs.{needs}
 use Rattle.listener.proofs.at_kind.Statement.{statement}
@@ -11,10 +11,12 @@ message-kind-requires : tie.Need-message-kind-requires
 message-kind-requires c κs = search needs
 
 moved-requires : tie.Need-moved-requires
-moved-requires c κs = search needs
+unfolding standsIn
+moved-requires c κs = (c .before .before .pre, refl)
 
 declined-requires : tie.Need-declined-requires
-declined-requires c κs = search needs
+unfolding standsIn
+declined-requires c κs = refl
 
 returns : tie.Need-returns
 unfolding final fits after fault

@@ -4,7 +4,7 @@
 use mathlib.Core.Path.{refl, sym, _∙_, ap}
 use native.Mathlib.Omega.{arith}
 use Rattle.rules.proofs.Tests.{both}
-use Rattle.rules.specs.Judge.{final, fits, contents, after, fault}
+use Rattle.rules.specs.Judge.{final, fits, contents, after, fault, standsIn}
 use Rattle.rules.proofs.Returns.{T-of}
 use Rattle.rules.proofs.Steps.{takes, declines, room-left}
 use borrow.Author.Needs.{needs}
@@ -32,10 +32,12 @@ contents-requires : tie.Need-contents-requires
 contents-requires c κs = search needs
 
 moved-requires : tie.Need-moved-requires
-moved-requires c κs = search needs
+unfolding standsIn
+moved-requires c κs = (c .before .before .before .pre, refl)
 
 declined-requires : tie.Need-declined-requires
-declined-requires c κs = search needs
+unfolding standsIn
+declined-requires c κs = refl
 
 returns : tie.Need-returns
 unfolding final fits after fault

@@ -1,7 +1,7 @@
 -- `listener::at_size` meets its contract: the octet is taken or declined as the machine does.
 -- Assumes nothing.
 use mathlib.Core.Path.{refl}
-use Rattle.rules.specs.Judge.{final, fits, after, fault}
+use Rattle.rules.specs.Judge.{final, fits, after, fault, standsIn}
 use Rattle.rules.proofs.Returns.{yes-le, no-le}
 use Rattle.rules.proofs.Steps.{takes, declines}
 use borrow.Author.Needs.{needs}
@@ -9,10 +9,12 @@ use Rattle.listener.proofs.at_size.Statement.{statement}
 use Rattle.listener.proofs.at_size.Tie as tie
 
 moved-requires : tie.Need-moved-requires
-moved-requires c κs = search needs
+unfolding standsIn
+moved-requires c κs = (c .before .pre, refl)
 
 declined-requires : tie.Need-declined-requires
-declined-requires c κs = search needs
+unfolding standsIn
+declined-requires c κs = refl
 
 returns : tie.Need-returns
 unfolding final fits after fault

@@ -7,6 +7,7 @@ use Prim.Native.Nat.{_-_, _<_}
 use native.Mathlib.Omega.{arith}
 use lib.ListN as list
 use Rattle.rules.specs.Table.{rulesOf}
+use Rattle.rules.specs.Judge.{standsIn}
 use Rattle.rules.proofs.ContentLaw.{sound-rules}
 use Rattle.rules.proofs.Asked.{asked-ok}
 use Rattle.rules.proofs.Returns.{via}
@@ -90,7 +91,8 @@ content-at-requires : tie.Need-content-at-requires Inv-loop μ-loop
 content-at-requires c κs = search needs
 
 declined-requires : tie.Need-declined-requires Inv-loop μ-loop
-declined-requires c κs = search needs
+unfolding standsIn
+declined-requires c κs = rw (c .content-at .ensures) refl
 
 add-t28 : tie.Need-add-t28 Inv-loop μ-loop
 add-t28 c = omega arith

@@ -1,8 +1,6 @@
 -- `listener::in_range` meets its contract: its answer is the test of the rules, state by state.
 -- Assumes nothing.
-use mathlib.Core.Path.{refl, sym, _∙_}
 use Rattle.rules.specs.Judge.{inRange}
-use Rattle.rules.proofs.Returns.{is-le, and-t, and-f}
 use borrow.Author.Needs.{needs}
 use Rattle.listener.proofs.in_range.Statement.{statement}
 use Rattle.listener.proofs.in_range.Tie as tie
@@ -25,11 +23,10 @@ between-requires c κs = search needs
 enum-known-s-3 : tie.Need-enum-known-s-3
 enum-known-s-3 c = search needs
 
-known-number-requires : tie.Need-known-number-requires
-known-number-requires c κs = search needs
+fault-in-range-requires : tie.Need-fault-in-range-requires
+fault-in-range-requires c κs = search needs
 
 returns : tie.Need-returns
-unfolding inRange
 returns c = rw (c .before .before .s .given .1) (c .spot-in-range .ensures)
 
 returns-2 : tie.Need-returns-2
@@ -37,17 +34,7 @@ unfolding inRange
 returns-2 c = rw (c .before .before .s2 .given .1) (c .between .ensures)
 
 returns-3 : tie.Need-returns-3
-unfolding inRange
-returns-3 c =
-    let arm = c .before .before .before .before in
-    rw (arm .s3 .given .1)
-    (and-t _ _ _ (sym (c .before .before .known-number .ensures) ∙ c .before .if1 .taken) (is-le _ _))
-
-returns-4 : tie.Need-returns-4
-unfolding inRange
-returns-4 c =
-    rw (c .before .before .before .s3 .given .1)
-    (and-f _ _ _ (sym (c .before .known-number .ensures) ∙ c .if1 .left) refl)
+returns-3 c = rw (c .before .before .s3 .given .1) (c .fault-in-range .ensures)
 
 pub in-range-spec : {M : Type 1} → statement M
 in-range-spec =
@@ -59,8 +46,7 @@ in-range-spec =
     cast-between
     between-requires
     enum-known-s-3
-    known-number-requires
+    fault-in-range-requires
     returns
     returns-2
-    returns-3
-    returns-4)
+    returns-3)

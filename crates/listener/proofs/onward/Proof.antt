@@ -2,7 +2,7 @@
 -- Assumes nothing.
 use native.Mathlib.Omega.{arith}
 use Rattle.rules.proofs.ContentLaw.{sound-rules}
-use Rattle.listener.proofs.Bounds.{place-small}
+use Rattle.listener.proofs.Bounds.{place-small, count-small}
 use Rattle.listener.proofs.Going.{one-step}
 use borrow.Author.Needs.{needs}
 use Rattle.listener.proofs.onward.Statement.{statement}
@@ -42,7 +42,7 @@ sub-if1 c = search needs
 at-header-requires : tie.Need-at-header-requires
 at-header-requires c κs =
     let start = c .before .before .before .before .before .before in
-    place-small _ (sound-rules _) _ _ (start .pre .0)
+    (place-small _ (sound-rules _) _ _ (start .pre .0), count-small _ (sound-rules _) _ _ (start .pre .0))
 
 add-t28 : tie.Need-add-t28
 add-t28 c = search needs

@@ -1,133 +1,25 @@
--- `listener::spot_in_range` meets its contract: its answer is the test of the rules, stage by stage.
+-- `listener::spot_in_range` meets its contract: place and parameters fit the stage.
 -- Assumes nothing.
-use mathlib.Core.Path.{refl}
-use native.Mathlib.Omega.{arith}
+use mathlib.Core.Path.{refl, sym, _∙_}
 use Rattle.rules.specs.Judge.{inRange}
-use Rattle.rules.proofs.Returns.{is-eq, and-t, and-f, yes-le, no-le}
+use Rattle.rules.proofs.Returns.{and-t, and-f}
 use borrow.Author.Needs.{needs}
 use Rattle.listener.proofs.spot_in_range.Statement.{statement}
 use Rattle.listener.proofs.spot_in_range.Tie as tie
 
-cast-place : tie.Need-cast-place
-cast-place c = search needs
+place-fits-requires : tie.Need-place-fits-requires
+place-fits-requires c κs = search needs
 
-enum-told : tie.Need-enum-told
-enum-told c = search needs
-
-enum-told-2 : tie.Need-enum-told-2
-enum-told-2 c = search needs
-
-enum-known-stage : tie.Need-enum-known-stage
-enum-known-stage c = search needs
-
-cast-between : tie.Need-cast-between
-cast-between c = search needs
-
-add-between : tie.Need-add-between
-add-between c = search needs
-
-between-requires : tie.Need-between-requires
-between-requires c κs = search needs
-
-enum-known-stage-2 : tie.Need-enum-known-stage-2
-enum-known-stage-2 c = search needs
-
-cast-between-2 : tie.Need-cast-between-2
-cast-between-2 c = search needs
-
-add-between-2 : tie.Need-add-between-2
-add-between-2 c = search needs
-
-between-requires-2 : tie.Need-between-requires-2
-between-requires-2 c κs = search needs
-
-enum-known-stage-3 : tie.Need-enum-known-stage-3
-enum-known-stage-3 c = search needs
-
-cast-i : tie.Need-cast-i
-cast-i c = search needs
-
-add-between-3 : tie.Need-add-between-3
-add-between-3 c = search needs
-
-add-between-4 : tie.Need-add-between-4
-add-between-4 c = search needs
-
-cast-between-3 : tie.Need-cast-between-3
-cast-between-3 c = search needs
-
-add-between-5 : tie.Need-add-between-5
-add-between-5 c = search needs
-
-cast-between-4 : tie.Need-cast-between-4
-cast-between-4 c = search needs
-
-add-between-6 : tie.Need-add-between-6
-add-between-6 c = search needs
-
-between-requires-3 : tie.Need-between-requires-3
-between-requires-3 c κs = search needs
+count-fits-requires : tie.Need-count-fits-requires
+count-fits-requires c κs = search needs
 
 returns : tie.Need-returns
 unfolding inRange
-returns c = rw (c .before .enum-told .given .1) (is-eq _ _)
+returns c = and-t _ _ _ (sym (c .before .before .place-fits .ensures) ∙ c .before .if1 .taken) (c .count-fits .ensures)
 
 returns-2 : tie.Need-returns-2
 unfolding inRange
-returns-2 c = rw (c .before .enum-told2 .given .1) (is-eq _ _)
-
-returns-3 : tie.Need-returns-3
-unfolding inRange
-returns-3 c = rw (c .before .before .stage .given .1) (c .between .ensures)
-
-returns-4 : tie.Need-returns-4
-unfolding inRange
-returns-4 c =
-    rw (c .before .before .before .stage2 .given .1)
-    (and-t _ _ _ (yes-le _ _ (c .before .if1 .taken)) (c .between2 .ensures))
-
-returns-5 : tie.Need-returns-5
-unfolding inRange
-returns-5 c = rw (c .before .before .stage2 .given .1) (and-f _ _ _ (no-le _ _ (c .if1 .left)) refl)
-
-returns-6 : tie.Need-returns-6
-unfolding inRange
-returns-6 c =
-    rw (c .before .before .before .stage3 .given .1)
-    (and-t _ _ _ (yes-le _ _ (c .before .if2 .taken)) (c .between3 .ensures))
-
-returns-7 : tie.Need-returns-7
-unfolding inRange
-returns-7 c = rw (c .before .before .stage3 .given .1) (and-f _ _ _ (no-le _ _ (omega arith)) refl)
+returns-2 c = and-f _ _ _ (sym (c .before .place-fits .ensures) ∙ c .if1 .left) refl
 
 pub spot-in-range-spec : {M : Type 1} → statement M
-spot-in-range-spec =
-    tie.close
-    (tie.spec
-    cast-place
-    enum-told
-    enum-told-2
-    enum-known-stage
-    cast-between
-    add-between
-    between-requires
-    enum-known-stage-2
-    cast-between-2
-    add-between-2
-    between-requires-2
-    enum-known-stage-3
-    cast-i
-    add-between-3
-    add-between-4
-    cast-between-3
-    add-between-5
-    cast-between-4
-    add-between-6
-    between-requires-3
-    returns
-    returns-2
-    returns-3
-    returns-4
-    returns-5
-    returns-6
-    returns-7)
+spot-in-range-spec = tie.close (tie.spec place-fits-requires count-fits-requires returns returns-2)

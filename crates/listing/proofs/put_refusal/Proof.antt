@@ -1,6 +1,6 @@
--- `listing::put_refusal` meets its contract: two lines of numbers.
+-- `listing::put_refusal` meets its contract: three lines of numbers.
 -- Assumes nothing.
-use Rattle.listing.specs.Put.{put-then, put-same, room-left, room-then}
+use Rattle.listing.specs.Put.{put-three, put-same, room-first, room-second, room-third}
 use Rattle.listing.proofs.Pieces.{room-same}
 use Rattle.listing.proofs.Rows.{refusal-text}
 use Rattle.listing.specs.Listing.{numberLine}
@@ -19,8 +19,8 @@ put-number-requires : tie.Need-put-number-requires
 unfolding ascii
 put-number-requires c κs =
     let start = c .before .before .before .before in
-    room-left (numberLine (ascii "refused=") (start .args .fault .number))
-    (numberLine (ascii "at=") (start .args .fault .place)) _ _
+    room-first (numberLine (ascii "refused=") (start .args .fault .number))
+    (numberLine (ascii "at=") (start .args .fault .place)) (numberLine (ascii "in=") (start .args .fault .parameter)) _ _
     (room-same _ _ _ _ (refusal-text (start .args .fault)) (start .pre))
 
 slice-aggregate-put-number-2 : tie.Need-slice-aggregate-put-number-2
@@ -29,11 +29,28 @@ slice-aggregate-put-number-2 c = search needs
 put-number-requires-2 : tie.Need-put-number-requires-2
 unfolding ascii
 put-number-requires-2 c κs =
-    let after-put-number = c .before .before .before .before in
-    let start = after-put-number .before .before .before .before .before in
-    room-then (numberLine (ascii "refused=") (start .args .fault .number))
-    (numberLine (ascii "at=") (start .args .fault .place)) _ _ _ _
-    (room-same _ _ _ _ (refusal-text (start .args .fault)) (start .pre)) (after-put-number .put-number .ensures)
+    let after-number = c .before .before .before .before in
+    let start = after-number .before .before .before .before .before in
+    room-second (numberLine (ascii "refused=") (start .args .fault .number))
+    (numberLine (ascii "at=") (start .args .fault .place)) (numberLine (ascii "in=") (start .args .fault .parameter)) _ _
+    (room-same _ _ _ _ (refusal-text (start .args .fault)) (start .pre)) _ _ (after-number .put-number .ensures)
+
+slice-aggregate-put-number-3 : tie.Need-slice-aggregate-put-number-3
+slice-aggregate-put-number-3 c = search needs
+
+cast-put-number-2 : tie.Need-cast-put-number-2
+cast-put-number-2 c = search needs
+
+put-number-requires-3 : tie.Need-put-number-requires-3
+unfolding ascii
+put-number-requires-3 c κs =
+    let after-place = c .before .before .before .before .before in
+    let after-number = after-place .before .before .before .before .before in
+    let start = after-number .before .before .before .before .before in
+    room-third (numberLine (ascii "refused=") (start .args .fault .number))
+    (numberLine (ascii "at=") (start .args .fault .place)) (numberLine (ascii "in=") (start .args .fault .parameter)) _ _
+    (room-same _ _ _ _ (refusal-text (start .args .fault)) (start .pre)) _ _ (after-number .put-number .ensures) _ _
+    (after-place .put-number2 .ensures)
 
 same-length : tie.Need-same-length
 same-length c = search needs
@@ -41,10 +58,13 @@ same-length c = search needs
 returns : tie.Need-returns
 unfolding ascii
 returns c =
-    let after-put-number = c .before .before .before .before .before .before .before in
-    let start = after-put-number .before .before .before .before .before in
+    let after-parameter = c .before .before in
+    let after-place = after-parameter .before .before .before .before .before .before in
+    let after-number = after-place .before .before .before .before .before in
+    let start = after-number .before .before .before .before .before in
     put-same _ _ _ _ _ _ (refusal-text (start .args .fault))
-    (put-then _ _ _ _ _ _ _ _ (after-put-number .put-number .ensures) (c .before .before .put-number2 .ensures))
+    (put-three _ _ _ _ _ _ _ _ _ _ _ (after-number .put-number .ensures) (after-place .put-number2 .ensures)
+    (after-parameter .put-number3 .ensures))
 
 pub put-refusal-spec : {M : Type 1} → statement M
 put-refusal-spec =
@@ -55,5 +75,8 @@ put-refusal-spec =
     put-number-requires
     slice-aggregate-put-number-2
     put-number-requires-2
+    slice-aggregate-put-number-3
+    cast-put-number-2
+    put-number-requires-3
     same-length
     returns)

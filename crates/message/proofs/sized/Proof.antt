@@ -66,8 +66,8 @@ add-verdict-at c =
     let b = octets-take (length o - 2) (drop 2 o) (octets-drop 2 o q) in
     omega (
       arith,
-      near (rulesOf (start .args .book)) (take (length o - 2) (drop 2 o)) (sound-rules (start .args .book)) b 0 _ _
-          (omega (arith, read .shared-slice-known3 .given 1)) _ (c .before .through .ensures),
+      near (rulesOf (start .args .book)) (take (length o - 2) (drop 2 o)) (sound-rules (start .args .book)) b 0 _ _ 0
+          (omega (arith, read .shared-slice-known3 .given 1)) (omega arith) _ (c .before .through .ensures),
     )
 
 verdict-at-requires : tie.Need-verdict-at-requires

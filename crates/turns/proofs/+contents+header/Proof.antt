@@ -2,7 +2,7 @@
 -- measure is twice its room, contents' twice the room after them and one more. Assumes nothing.
 use native.Mathlib.Omega.{arith}
 use borrow.Author.Needs.{needs}
-use Rattle.turns.proofs.Ways.{as-word, held-wrong, held-passed, head-fits, headed, in-room, fitting-told, not-both}
+use Rattle.turns.proofs.Ways.{as-word, some-contents, held-wrong, held-passed, head-fits, headed, in-room, fitting-told, not-both}
 use Rattle.rules.specs.Table.{rulesOf}
 use Prim.Native.Nat.{ℕ, _<_, _+_, _*_}
 use borrow.Fn.Kinds.{In}
@@ -168,6 +168,34 @@ contents-add-word : (t : ℕ) → contents-lts.Need-add-word (
 ) (contents-at t) contents.Post
 contents-add-word t c = search needs
 
+contents-add-word-2 : (t : ℕ) → contents-lts.Need-add-word-2 (
+  cut-reads.Asked,
+  cut-reads.Learnt,
+  first-wrong-reads.Asked,
+  first-wrong-reads.Learnt,
+  word-reads.Asked,
+  word-reads.Learnt,
+  sum-on-reads.Asked,
+  sum-on-reads.Learnt,
+  header-below t,
+  header.Post,
+) (contents-at t) contents.Post
+contents-add-word-2 t c = search needs
+
+contents-add-header : (t : ℕ) → contents-lts.Need-add-header (
+  cut-reads.Asked,
+  cut-reads.Learnt,
+  first-wrong-reads.Asked,
+  first-wrong-reads.Learnt,
+  word-reads.Asked,
+  word-reads.Learnt,
+  sum-on-reads.Asked,
+  sum-on-reads.Learnt,
+  header-below t,
+  header.Post,
+) (contents-at t) contents.Post
+contents-add-header t c = search needs
+
 contents-word-requires : (t : ℕ) → contents-lts.Need-word-requires (
   cut-reads.Asked,
   cut-reads.Learnt,
@@ -197,8 +225,8 @@ contents-returns-2 : (t : ℕ) → contents-lts.Need-returns-2 (
 contents-returns-2 t c =
     let branch = c .before .before .before .before in
     let start = c .before .before .before .before .before .before in
-    as-word _ _ _ _ _ _ _ (c .word .ensures)
-    (held-wrong _ _ _ _ _ _ _ (start .pre .1) _ (branch .if1 .left)
+    as-word _ _ _ _ _ _ _ _ (c .word .ensures)
+    (held-wrong _ _ _ _ _ _ _ _ (start .pre .1 .0) _ (branch .if1 .left)
     (c .before .before .first-wrong .ensures) (c .before .if2 .taken))
 
 contents-sum-on-requires : (t : ℕ) → contents-lts.Need-sum-on-requires (
@@ -227,7 +255,14 @@ contents-header-requires : (t : ℕ) → contents-lts.Need-header-requires (
   header-below t,
   header.Post,
 ) (contents-at t) contents.Post
-contents-header-requires t c κs = search needs
+contents-header-requires t c κs =
+    let start = c .before .before .before .before .before .before in
+    omega (
+      arith,
+      start .pre .1 .0 .near,
+      start .pre .1 .1,
+      some-contents _ _ _ _ _ _ (start .args .sum) (start .args .count) (start .pre .1 .0),
+    )
 
 contents-returns-3 : (t : ℕ) → contents-lts.Need-returns-3 (
   cut-reads.Asked,
@@ -244,7 +279,7 @@ contents-returns-3 : (t : ℕ) → contents-lts.Need-returns-3 (
 contents-returns-3 t c =
     let branch = c .before .before .before .before .before in
     let start = c .before .before .before .before .before .before .before in
-    held-passed _ _ _ _ _ _ _ (start .pre .1) _ (branch .if1 .left)
+    held-passed _ _ _ _ _ _ _ _ (start .pre .1 .0) _ (branch .if1 .left)
     (c .before .before .before .first-wrong .ensures) (c .before .before .if2 .left) _ _
     (c .before .sum-on .ensures) (c .header .ensures)
 
@@ -402,7 +437,11 @@ header-contents-requires t c κs =
         head-fits (rulesOf (a .book)) (a .m .now .now) (a .at) (a .room) _ _ (named .class-of .ensures) fitting
             (c .if2 .taken),
       ),
-      headed _ _ _ _ _ _ (named .class-of .ensures) fitting (c .if2 .taken) (start .pre .1) (named .before .before .if1 .left),
+      (
+        headed _ _ _ _ _ _ (named .class-of .ensures) fitting (c .if2 .taken) (start .pre .1 .0)
+            (named .before .before .if1 .left),
+        start .pre .1 .1,
+      ),
     )
 
 header-last-requires-2 : (t : ℕ) → header-lts.Need-last-requires-2 (
@@ -418,9 +457,10 @@ header-last-requires-2 : (t : ℕ) → header-lts.Need-last-requires-2 (
 header-last-requires-2 t c κs =
     let named = c .before .before .before in
     let start = named .before .before .before .before in (
-      start .pre .1,
+      start .pre .1 .0,
       λ t. absurd (not-both _ t (fitting-told _ _ _ _ _ (named .class-of .ensures) _ (c .before .length-fits .ensures)
           (c .if2 .left))),
+      start .pre .1 .1,
     )
 
 header-returns-2 : (t : ℕ) → header-lts.Need-returns-2 (
@@ -435,7 +475,7 @@ header-returns-2 : (t : ℕ) → header-lts.Need-returns-2 (
 ) (header-at t) header.Post
 header-returns-2 t c =
     let named = c .before .before .before .before in
-    in-room _ _ _ _ _ _ (named .class-of .ensures) (c .before .before .length-fits .ensures) (c .before .if2 .taken) _ _
+    in-room _ _ _ _ _ _ (named .class-of .ensures) (c .before .before .length-fits .ensures) (c .before .if2 .taken) _ _ _
     (c .contents .ensures)
 
 header-returns-3 : (t : ℕ) → header-lts.Need-returns-3 (
@@ -474,9 +514,11 @@ pub +contents+header-spec : {M : Type 1} → statement M
     (contents-part-first-wrong-end t)
     (contents-first-wrong-requires t)
     (contents-add-word t)
+    (contents-add-word-2 t)
     (contents-word-requires t)
     (contents-returns-2 t)
     (contents-sum-on-requires t)
+    (contents-add-header t)
     (contents-header-requires t)
     (contents-returns-3 t))
     λ t. header-lts.spec (

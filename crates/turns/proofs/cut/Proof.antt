@@ -28,7 +28,7 @@ add-if1 c =
       arith,
       start .pre .1,
       start .pre .0 .near,
-      cut-near _ _ _ _ _ _ (start .args .sum) (start .pre .0) _ (start .pre .1) (c .reached .ensures),
+      cut-near _ _ _ _ _ _ (start .args .sum) (start .args .count) (start .pre .0) _ (start .pre .1) (c .reached .ensures),
     )
 
 add-word : tie.Need-add-word
@@ -43,20 +43,23 @@ add-word-2 c = search needs
 add-word-3 : tie.Need-add-word-3
 add-word-3 c = search needs
 
+add-word-4 : tie.Need-add-word-4
+add-word-4 c = search needs
+
 word-requires-2 : tie.Need-word-requires-2
 word-requires-2 c κs = search needs
 
 returns : tie.Need-returns
 returns c =
     let start = c .before .before .before .before .before in
-    as-word _ _ _ _ _ _ _ (c .word .ensures)
-    (cut-wrong _ _ _ _ _ _ _ (start .pre .0) _ (start .pre .1) (c .before .before .reached .ensures) (c .before .if1 .taken))
+    as-word _ _ _ _ _ _ _ _ (c .word .ensures)
+    (cut-wrong _ _ _ _ _ _ _ _ (start .pre .0) _ (start .pre .1) (c .before .before .reached .ensures) (c .before .if1 .taken))
 
 returns-2 : tie.Need-returns-2
 returns-2 c =
     let start = c .before .before .before .before .before in
-    as-word _ _ _ _ _ _ _ (c .word2 .ensures)
-    (cut-off _ _ _ _ _ _ _ (start .pre .0) _ (start .pre .1) (c .before .before .reached .ensures) (c .before .if1 .left))
+    as-word _ _ _ _ _ _ _ _ (c .word2 .ensures)
+    (cut-off _ _ _ _ _ _ _ _ (start .pre .0) _ (start .pre .1) (c .before .before .reached .ensures) (c .before .if1 .left))
 
 pub cut-spec : {M : Type 1} → statement M
 cut-spec =
@@ -69,9 +72,10 @@ cut-spec =
     reached-requires
     add-if1
     add-word
-    word-requires
     add-word-2
+    word-requires
     add-word-3
+    add-word-4
     word-requires-2
     returns
     returns-2)

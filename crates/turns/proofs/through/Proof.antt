@@ -20,9 +20,12 @@ cast-t15 c = search needs
 cast-t18 : tie.Need-cast-t18
 cast-t18 c = search needs
 
+cast-t21 : tie.Need-cast-t21
+cast-t21 c = search needs
+
 returns : tie.Need-returns
 unfolding stopIn
 returns c = c .header .ensures
 
 pub through-spec : {M : Type 1} → statement M
-through-spec = tie.close (tie.spec header-requires cast-t9 cast-t12 cast-t15 cast-t18 returns)
+through-spec = tie.close (tie.spec header-requires cast-t9 cast-t12 cast-t15 cast-t18 cast-t21 returns)
