@@ -49,11 +49,13 @@ use Rattle.caption.specs.Finds.{Shows, Captions, Finds}
 module _ (o d : List ℕ) (start : ℕ) (v : List ℕ) where
   message-shows : take (length v) (drop start o) ≡ v → Shows o d (InMessage start (length v)) 0 start v
   unfolding told sliceOf partText
-  message-shows e = record { number = refl; place = refl; parameter = refl; side = refl; start = refl; size = refl; text = e }
+  message-shows e =
+      record { number = refl; place = refl; parameter = refl; side = refl; start = refl; size = refl; text = e }
 
   directory-shows : take (length v) (drop start d) ≡ v → Shows o d (InDirectory start (length v)) 1 start v
   unfolding told sliceOf partText
-  directory-shows e = record { number = refl; place = refl; parameter = refl; side = refl; start = refl; size = refl; text = e }
+  directory-shows e =
+      record { number = refl; place = refl; parameter = refl; side = refl; start = refl; size = refl; text = e }
 
 module _ (book : Book) where
   -- ---- the caption of a message

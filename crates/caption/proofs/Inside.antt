@@ -1,4 +1,5 @@
--- What is found lies inside the slice that it names: contents inside the message, an entry's text inside the directory.
+-- What is found lies inside the slice that it names: contents inside the message, an entry's text inside the
+-- directory.
 -- Assumes nothing.
 use Prim.Native.Nat.{ℕ, suc, _+_, _-_, _≤_, _<_}
 use mathlib.Core.Path.{_≡_, refl, sym, _∙_, ap, subst}

@@ -20,7 +20,8 @@ pub record Told : Type 0 where
 unfoldable pub told : Shown → Told
 told (InMessage start n) = record { number = 0; place = 0; parameter = 0; side = 0; start = start; size = n }
 told (InDirectory start n) = record { number = 0; place = 0; parameter = 0; side = 1; start = start; size = n }
-told (Refused f) = record { number = f .number; place = f .place; parameter = f .parameter; side = 0; start = 0; size = 0 }
+told (Refused f) =
+    record { number = f .number; place = f .place; parameter = f .parameter; side = 0; start = 0; size = 0 }
 
 -- a refusal with number k at p, in parameter b
 abbrev pub refusal : ℕ → ℕ → ℕ → Told

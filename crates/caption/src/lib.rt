@@ -1,5 +1,5 @@
-// The caption of a message (document 01, The caption): a part of the message or a part of a lent directory. `find` says which, where and how long,
-// or a refusal; `caption` returns that part itself, and which in a lent code.
+// The caption of a message (document 01, The caption): a part of the message or a part of a lent directory. `find`
+// says which, where and how long, or a refusal; `caption` returns that part itself, and which in a lent code.
 use message::Part;
 use message::Verdict;
 use rules::Book;
@@ -142,8 +142,8 @@ pub fn find(book: Book, message: &[u8], directory: &[u8]) -> Shown
     }
 }
 
-// The part that `find` finds, and in the lent code which slice it is part of: 0 the message, 1 the directory. With every refusal the empty part at the
-// message's start, and the code as it was; the refusal is `find`'s.
+// The part that `find` finds, and in the lent code which slice it is part of: 0 the message, 1 the directory. With
+// every refusal the empty part at the message's start, and the code as it was; the refusal is `find`'s.
 pub fn caption<'a>(book: Book, message: &'a [u8], directory: &'a [u8], side: &mut u8) -> &'a [u8]
     ensures part { λ r. ⌜ now r ≡ captionOf (rulesOf book) (now (message .entry)) (now (directory .entry)) ⌝ }
     ensures side { λ r. ⌜ now (side .exit) ≡ codeOf (findOf (rulesOf book) (now (message .entry)) (now (directory .entry))) (now (side .entry)) ⌝ }

@@ -1,4 +1,5 @@
--- Number, place and parameter tell the answer of settling, since a refusal has a number; and what is settled, case by case.
+-- Number, place and parameter tell the answer of settling, since a refusal has a number; and what is settled, case by
+-- case.
 -- Assumes nothing.
 use Prim.Native.Nat.{ℕ, _≤_}
 use mathlib.Core.Path.{_≡_, refl, sym, _∙_, ap, subst}

@@ -1,4 +1,5 @@
-// The desk on which notices are settled (document 01, The desk; document 02, Q-6). It goes in by value and comes back by value.
+// The desk on which notices are settled (document 01, The desk; document 02, Q-6). It goes in by value and comes back
+// by value.
 use message::Part;
 use message::Verdict;
 use rules::Book;
@@ -294,8 +295,8 @@ fn settle_message(book: Book, desk: Desk, octets: &[u8]) -> Outcome
     }
 }
 
-// A desk with a place out of range or a reference twice is 17; octets that the whole read declines with 1 to 8 or 10 get that number; 21 where a reference has no
-// place. With each the desk comes back as it was.
+// A desk with a place out of range or a reference twice is 17; octets that the whole read declines with 1 to 8 or 10
+// get that number; 21 where a reference has no place. With each the desk comes back as it was.
 pub fn settle(book: Book, desk: Desk, octets: &[u8]) -> Outcome
     ensures { λ r. ⌜ r ≡ settleOf (rulesOf book) desk (now (octets .entry)) ⌝ }
 {

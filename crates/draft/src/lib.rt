@@ -99,7 +99,8 @@ pub fn form_of(class: Class) -> u8
     form_number(rules::form_of(class))
 }
 
-// A value laid flat: the number of its kind, its numbers (0 where it has fewer than four), and where its text lies (0 and 0 where it has none).
+// A value laid flat: the number of its kind, its numbers (0 where it has fewer than four), and where its text lies (0
+// and 0 where it has none).
 pub struct Flat {
     pub form: u8,
     pub first: u16,
@@ -267,7 +268,8 @@ fn same_entries(a: Draft, s: &[u8], b: Draft, t: &[u8]) -> bool
     true
 }
 
-// Are two drafts, each with its text area, equal? One with over 85 entries or with a text outside its area is equal to none.
+// Are two drafts, each with its text area, equal? One with over 85 entries or with a text outside its area is equal to
+// none.
 pub fn same(a: Draft, s: &[u8], b: Draft, t: &[u8]) -> bool
     ensures { λ r. ⌜ r ≡ sameDraft a (now (s .entry)) b (now (t .entry)) ⌝ }
 {

@@ -78,7 +78,8 @@ lenient-number : (w : State) → T (inRange (rulesOf PresentLenient) w) → told
 unfolding told answerOf inRange
 lenient-number (Waiting s q) t = omega arith
 lenient-number (Message n) t = omega arith
-lenient-number (Refused f) t = given-lenient (rulesOf PresentLenient) _ lenient-others .0 (both _ _ (both _ _ t .0) .0) .1
+lenient-number (Refused f) t =
+    given-lenient (rulesOf PresentLenient) _ lenient-others .0 (both _ _ (both _ _ t .0) .0) .1
 
 pub number-six : (b : Book) → b ≡ PresentLenient → (w : State) → T (inRange (rulesOf b) w) →
     told (answerOf w) .number ≤ 6

@@ -100,7 +100,8 @@ pub record-reads-one : (o c t : List ℕ) (w : ℕ) (c' t' : List ℕ) (v : ℕ)
 record-reads-one o c t w c' t' v d u A B =
     let e = reads-one (rulesOf PresentLenient) o t (A .reading) t' (B .reading) u (A .reads) (B .reads) in
     let a = ap (λ (r : Reading). r .answer) (e .0) in (
-      A .word .whole ∙ (λ i. packed (reader.told (a i) .number) (reader.told (a i) .place) (reader.told (a i) .parameter)
+      A .word .whole ∙ (λ i. packed (reader.told (a i) .number) (reader.told (a i) .place) (reader.told
+          (a i) .parameter)
           (reader.told (a i) .size) 0)
           ∙ sym (B .word .whole),
       cells (e .0) (decide (reader.told (A .reading .answer) .number =? 0)),
@@ -148,14 +149,16 @@ record-counts-one o t w v A B = go (A .verdict) refl
         let l : 1 ≤ message.told (A .verdict) .number =
         subst (λ (x : Verdict). 1 ≤ message.told x .number) (sym e) (some-number (A .judged) f e) in
         words-one _ _ _ _ _ w v (A .refused l)
-        (subst (λ (x : Verdict). Unpacked (message.told x .number) (message.told x .place) (message.told x .parameter) 0 0 v) (sym k)
+        (subst (λ (x : Verdict). Unpacked (message.told x .number) (message.told x .place)
+        (message.told x .parameter) 0 0 v) (sym k)
         (B .refused (subst (λ (x : Verdict). 1 ≤ message.told x .number) k l)))
 
 -- the caption
 pub record-finds-one : (o d c : List ℕ) (w : ℕ) (c' : List ℕ) (v : ℕ) (e : List ℕ) → RecordFinds o d c w c' →
     RecordFinds o d c v e → (w ≡ v) × (c' ≡ e)
 record-finds-one o d c w c' v e A B = (
-  A .word .whole ∙ (λ i. packed (caption.told (x i) .number) (caption.told (x i) .place) (caption.told (x i) .parameter) 0 0)
+  A .word .whole ∙ (λ i. packed (caption.told (x i) .number) (caption.told (x i) .place) (caption.told
+      (x i) .parameter) 0 0)
       ∙ sym (B .word .whole),
   cells (decide (caption.told (A .found) .number =? 0)),
 )

@@ -138,7 +138,8 @@ module _ (c h : List ℕ) (d : RecordHasHeard c h) (o : List ℕ) (q : Octets o)
   -- a message or a refusal, once given, is given again by each call after it, which takes none and leaves the record
   -- as it was
   pub answer-stays : (((wordNumber w ≡ 0) × (wordSize w ≡ 0)) → ⊥) → (o' : List ℕ) (w' : ℕ) (c'' : List ℕ) →
-      listen-gives c' o' w' c'' → (w' ≡ packed (wordNumber w) (wordPlace w) (wordParameter w) (wordSize w) 0) × (c'' ≡ c')
+      listen-gives c' o' w' c'' →
+      (w' ≡ packed (wordNumber w) (wordPlace w) (wordParameter w) (wordSize w) 0) × (c'' ≡ c')
   answer-stays n o' w' c'' x =
       hears.answer-stays c h (led-by c h d) o q w (listen-word c o w c' k) c' (listen-cells c o w c' k) n o' w' c''
       (listen-word c' o' w' c'' x) (listen-cells c' o' w' c'' x)

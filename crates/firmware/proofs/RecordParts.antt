@@ -119,7 +119,8 @@ module _ (o d c : List ℕ) (w : ℕ) (c' : List ℕ) (a : w ≡ captionAnswer o
     abbrev r : Shown
     r = findOf (rulesOf PresentLenient) o d
 
-    found-small : (x : Shown) → ((f : Fault) → x ≡ found.Refused f → (f .number < 256) × (f .place ≤ 258) × (f .parameter ≤ 85)) →
+    found-small : (x : Shown) → ((f : Fault) → x ≡ found.Refused f →
+        (f .number < 256) × (f .place ≤ 258) × (f .parameter ≤ 85)) →
         (told x .number < 256) × (told x .place ≤ 258) × (told x .parameter ≤ 85)
     unfolding told
     found-small (found.InMessage start k) h = (omega arith, omega arith, omega arith)

@@ -92,7 +92,8 @@ module _ (c o : List ℕ) (w : ℕ) (c' : List ℕ) (a : w ≡ settleAnswer c o)
   settled-word q t =
       let x = settleOf (rulesOf PresentLenient) (deskIn c) o in
       let s = settles.settles PresentLenient (deskIn c) o q in
-      subst (Unpacked (told (x .answer) .number) (told (x .answer) .place) (told (x .answer) .parameter) 0 0) (sym (a ∙ pick-yes _ _ _ t))
+      subst (Unpacked (told (x .answer) .number) (told (x .answer) .place) (told (x .answer) .parameter) 0 0) (sym
+      (a ∙ pick-yes _ _ _ t))
       (unpacked (told (x .answer) .number) (told (x .answer) .place) (told (x .answer) .parameter) 0 0
       (omega (arith, number-small (deskIn c) o x s (x .answer) refl))
       (omega (arith, near (deskIn c) o x s (x .answer) refl)) (omega (arith, few (deskIn c) o x s (x .answer) refl))
@@ -126,7 +127,8 @@ module _ (c o : List ℕ) (w : ℕ) (c' : List ℕ) (a : w ≡ settleAnswer c o)
         )
         desk t y (Refused f) e = (
           λ x i. unfit-iff (y .settles) (f .place) .0
-              (e ∙ ap Refused (noted-at (y .settles) f e 17 (sym (word-number t y (Refused f) e) ∙ x) (inl refl))) .1 (i .places),
+              (e ∙ ap Refused (noted-at (y .settles) f e 17 (sym (word-number t y (Refused f) e) ∙ x) (inl refl))) .1
+              (i .places),
           λ n. word-number t y (Refused (noted 17 0))
               (unfit-iff (y .settles) 0 .1 (refl, λ i. n (record { codes = t; places = i }))),
         )
@@ -184,7 +186,8 @@ small-after d o x s w = go (x .answer) refl
     go (Refused f) e = subst (λ (y : Desk). Small (y .places)) (sym (refusal-leaves s f e)) w
 
 pub again : (c o : List ℕ) → Octets c → Octets o → (w : ℕ) (c₁ : List ℕ) (w₂ : ℕ) (c₂ : List ℕ) →
-    w ≡ settleAnswer c o → c₁ ≡ settleRecord c o → w₂ ≡ settleAnswer c₁ o → c₂ ≡ settleRecord c₁ o → (w₂ ≡ w) × (c₂ ≡ c₁)
+    w ≡ settleAnswer c o → c₁ ≡ settleRecord c o → w₂ ≡ settleAnswer c₁ o → c₂ ≡ settleRecord c₁ o →
+    (w₂ ≡ w) × (c₂ ≡ c₁)
 unfolding settleAnswer settleRecord
 again c o k q w c₁ w₂ c₂ a b e f = go (decide (isRecord c))
   where
@@ -248,7 +251,8 @@ module _ (c : List ℕ) (t : T (isRecord c)) (w : Small (deskIn c .places)) (x :
   number-is = settled-word c (x .octets) (x .word) (x .cells) a b q t .number
 
   no-number : (f : Fault) →
-      T (verdictNumber (languageOf PresentLenient) (f .number)) ⊎ ((f .number ≡ 17) ⊎ (f .number ≡ 21)) → f .number ≡ 0 → ⊥
+      T (verdictNumber (languageOf PresentLenient) (f .number)) ⊎ ((f .number ≡ 17) ⊎ (f .number ≡ 21)) →
+      f .number ≡ 0 → ⊥
   no-number f (inl h) z = omega (arith, told-small (spoken-of PresentLenient) _ h .0, z)
   no-number f (inr (inl h)) z = omega (arith, h, z)
   no-number f (inr (inr h)) z = omega (arith, h, z)

@@ -41,7 +41,8 @@ pub record Sound (c : List ℕ) : Type 0 where
   pub known : decodeOf c ≡ Known listener
   pub in-range : T (languageOf (listener .book) .inRange (listener .state))
 
--- two calls on a run cut in two end as one call on the whole: the same record and answer, and the octets taken together
+-- two calls on a run cut in two end as one call on the whole: the same record and answer, and the octets taken
+-- together
 pub record SameEnd (w w₁ w₂ : ℕ) (d d₂ : List ℕ) : Type 0 where
   pub left : d ≡ d₂
   pub number : wordNumber w ≡ wordNumber w₂

@@ -1,4 +1,5 @@
-// The desk's record (document 01, The desk; document 02, Q-6): 52 octets, judged before anything else and written whole.
+// The desk's record (document 01, The desk; document 02, Q-6): 52 octets, judged before anything else and written
+// whole.
 use desk::Desk;
 use desk::Lamp;
 use desk::PLACES;

@@ -1,4 +1,5 @@
-// The listener, the reader, the desk, what counts and the caption for the boxes' firmware, which is C: records of octets, and answers packed into one word (include/anthercup.h says the same to C).
+// The listener, the reader, the desk, what counts and the caption for the boxes' firmware, which is C: records of
+// octets, and answers packed into one word (include/anthercup.h says the same to C).
 mod desks;
 mod drafts;
 mod parts;
@@ -111,7 +112,8 @@ fn known(ok: bool, state: State) -> Decoded
     }
 }
 
-// Before a parameter: the message type, L, a parameter type or the checksum is to come. What is unused sums up to `idle`, and must be 0.
+// Before a parameter: the message type, L, a parameter type or the checksum is to come. What is unused sums up to
+// `idle`, and must be 0.
 fn opening_of(stage: u8, q: Spot, room: u8, idle: u32) -> Decoded
     requires { ⌜ idle ≤ 100000 ⌝ }
     ensures { λ r. ⌜ r ≡ record-of.openingOf stage q room idle ⌝ }
@@ -389,7 +391,8 @@ fn desk_word(a: desk::Answer) -> u64
     }
 }
 
-// In a message: the contents of a type that count, their length as the size, and their start in octets 5 and 6; 0 and 0 where none count.
+// In a message: the contents of a type that count, their length as the size, and their start in octets 5 and 6; 0 and
+// 0 where none count.
 fn counted_in(octets: &[u8], kind: u8) -> u64
     requires { ⌜ length (now octets) ≤ 258 ⌝ }
     ensures { λ r. ⌜ r ≡ exports.partWord (countedAt (rulesOf book.PresentLenient) (now (octets .entry)) kind) ⌝ }
@@ -451,7 +454,8 @@ pub extern "C" fn anthercup_listen(cells: &mut [u8], octets: &[u8]) -> u64
     }
 }
 
-// A whole read: the draft's record and the texts, or one of 1 to 9 with its place and both as they were; a record of another size than 688 is 17.
+// A whole read: the draft's record and the texts, or one of 1 to 9 with its place and both as they were; a record of
+// another size than 688 is 17.
 #[no_mangle]
 pub extern "C" fn anthercup_read(octets: &[u8], cells: &mut [u8], texts: &mut [u8]) -> u64
     ensures answer { λ r. ⌜ r ≡ exports.readAnswer (now (octets .entry)) (now (cells .entry)) (now (texts .entry)) ⌝ }
@@ -478,8 +482,8 @@ pub extern "C" fn anthercup_new_desk(cells: &mut [u8]) -> u64
     }
 }
 
-// Settles a whole message on a desk. A record of another size, with a code or number out of range or with a reference twice is 17; with it, with 1 to 8 and
-// with 21, where a reference has no place, the record stays.
+// Settles a whole message on a desk. A record of another size, with a code or number out of range or with a reference
+// twice is 17; with it, with 1 to 8 and with 21, where a reference has no place, the record stays.
 #[no_mangle]
 pub extern "C" fn anthercup_settle(cells: &mut [u8], octets: &[u8]) -> u64
     ensures { λ r. ⌜ (r ≡ exports.settleAnswer (now (cells .entry)) (now (octets .entry))) × (now (cells .exit) ≡ exports.settleRecord (now (cells .entry)) (now (octets .entry))) ⌝ }
@@ -508,7 +512,8 @@ pub extern "C" fn anthercup_counted(octets: &[u8], kind: u8) -> u64
     }
 }
 
-// The caption of a whole message: the part's record, or one of 1 to 8 with its place and the record as it was; a record of another size than 24 is 17.
+// The caption of a whole message: the part's record, or one of 1 to 8 with its place and the record as it was; a
+// record of another size than 24 is 17.
 #[no_mangle]
 pub extern "C" fn anthercup_caption(octets: &[u8], directory: &[u8], cells: &mut [u8]) -> u64
     ensures answer { λ r. ⌜ r ≡ exports.captionAnswer (now (octets .entry)) (now (directory .entry)) (now (cells .entry)) ⌝ }

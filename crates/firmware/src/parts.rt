@@ -1,4 +1,5 @@
-// The record of a part (document 01, The caption): 24 octets, only ever written: which of two slices, where the part starts in it and how long it is.
+// The record of a part (document 01, The caption): 24 octets, only ever written: which of two slices, where the part
+// starts in it and how long it is.
 ghost use mathlib.Core.Path.{_≡_};
 ghost use Prim.Native.Nat.{_≤_};
 ghost use lib.ListN as list;

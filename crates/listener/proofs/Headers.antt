@@ -189,7 +189,8 @@ module _ (R : Rules) (S : SoundRules R) (o : List ℕ) (i : ℕ) (room : ℕ) (q
                 further = omega arith;
                 there = omega (arith, l, ap length all-there, length-drop i o);
                 in-range =
-                    join _ _ (inside 5 257 _ (omega (arith, m, low _ _ _ room-here)) (omega (arith, m, high _ _ _ room-here)))
+                    join _ _ (inside 5 257 _ (omega (arith, m, low _ _ _ room-here)) (omega
+                    (arith, m, high _ _ _ room-here)))
                     (to-behind _ _ (omega (arith, k, count-here)));
                 same =
                     ap (run M (Waiting (Header r) (record {

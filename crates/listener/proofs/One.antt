@@ -30,7 +30,8 @@ hears-one L h o r s A B = go (r .answer) refl
     go (Refused f) e =
         let l : 1 ≤ f .number = subst Clear e (A .clear) in
         let a = told-refused _ (f .number) (f .place) (f .parameter) l .1 e in
-        let b = B .refuses (f .number) (f .place) (f .parameter) l .1 (A .refuses (f .number) (f .place) (f .parameter) l .0 a) in (
+        let b = B .refuses (f .number) (f .place) (f .parameter) l .1 (A .refuses (f .number) (f .place)
+        (f .parameter) l .0 a) in (
           e ∙ sym (told-refused _ (f .number) (f .place) (f .parameter) l .0 b),
           omega (
             arith,

@@ -162,7 +162,12 @@ module _ (m : Message) (legal : LegalMessage (rulesOf PresentLenient) m) where
         one-line
             (carriedLine n),
         two-digits n
-            (omega (arith, carried-few (m .parameters), few (rulesOf PresentLenient) (sound-rules PresentLenient) m legal)),
+            (omega (
+              arith,
+              carried-few (m .parameters),
+              few (rulesOf PresentLenient)
+                  (sound-rules PresentLenient) m legal,
+            )),
       )
 
 -- nor is that of a refusal

@@ -16,7 +16,8 @@ Room v at old = at + length v ≤ length old
 abbrev pub part : List ℕ → ℕ → ℕ → List ℕ
 part v start end = take (end - start) (drop start v)
 
--- v was put behind the first `at` octets of the area: it ends at `end`, what stood before it and behind it is as it was
+-- v was put behind the first `at` octets of the area: it ends at `end`, what stood before it and behind it is as it
+-- was
 pub record Put (v : List ℕ) (at : ℕ) (old : List ℕ) (end : ℕ) (new : List ℕ) : Type 0 where
   pub ends : end ≡ at + length v
   pub long : length new ≡ length old

@@ -1,5 +1,6 @@
-// The listing of a message (document 01, What showmsg prints): a key=value line for each value that counts, in the order of the table; or the two lines of
-// a refusal. It comes back by value, in a buffer of the longest listing, so that it needs no refusal of its own.
+// The listing of a message (document 01, What showmsg prints): a key=value line for each value that counts, in the
+// order of the table; or the two lines of a refusal. It comes back by value, in a buffer of the longest listing, so
+// that it needs no refusal of its own.
 use message::Found;
 use message::Part;
 use message::Verdict;
@@ -28,7 +29,8 @@ pub struct ListingText {
     pub length: usize,
 }
 
-// The rows of the listing: their types in its order, and where the key of each begins in the row of keys; behind the last, where they end.
+// The rows of the listing: their types in its order, and where the key of each begins in the row of keys; behind the
+// last, where they end.
 const ROWS: usize = 14;
 
 const TYPES: [u8; ROWS] = [

@@ -75,7 +75,8 @@ module _ (R : Rules) where
         answer M (x ∷ o) ≡ run M (Waiting Size (record { sum = x; place = 1; parameter = 0 })) o
     unfolding run machine final fits after standsIn
     kind-on k h =
-        ap (λ (w : State). run M w o) (sym (takes R Kind fresh x Size (record { sum = x; place = 1; parameter = 0 }) refl k refl
+        ap (λ (w : State). run M w o) (sym (takes R Kind fresh x Size
+        (record { sum = x; place = 1; parameter = 0 }) refl k refl
         (λ i. record { sum = one-octet x h i; place = 1; parameter = 0 })))
 
     kind-refused : messageKind x ≡ false → Declined (noted 1 0) ≡ verdictOf R (x ∷ o)
@@ -96,7 +97,8 @@ module _ (R : Rules) where
       unfolding verdictOf judged run machine final fits fault standsIn
       size-refused l =
           sym (ap (judged (x ∷ y ∷ b)) (kind-on x (y ∷ b) k h ∙ ap (λ (w : State). run M w b)
-          (sym (declines R Size (record { sum = x; place = 1; parameter = 0 }) y (Refused (noted 2 1)) refl (no-le _ _ l) refl))
+          (sym (declines R Size (record { sum = x; place = 1; parameter = 0 }) y (Refused (noted 2 1)) refl
+          (no-le _ _ l) refl))
           ∙ refused-stays M (noted 2 1) b))
 
       size-on : 3 ≤ y → answer M (x ∷ y ∷ b) ≡ from R b 0 y ((x + y) % 256) 0 2 0

@@ -1,8 +1,8 @@
 // Reading by value, walking, captions and drafts, run (document 01, Drafts and The caption): reads cases from standard
 // input, a message and a directory each behind its length in two octets, then the size of a text area in two octets,
 // and prints for each what `reader::read`, the walker, `caption` and `writer::write` answer, and whether the message
-// comes back from its draft. What it must print was written by the second reader, some rows by hand (tools/replay). All
-// is by the present edition, and types without a row are carried.
+// comes back from its draft. What it must print was written by the second reader, some rows by hand (tools/replay).
+// All is by the present edition, and types without a row are carried.
 use caption::Shown;
 use draft::Draft;
 use draft::Entry;

@@ -1,8 +1,8 @@
 -- Demand 1: every input gets its answer. For each function that can refuse, and any input at all, an answer is the
--- work or one refusal with a number of its list, a place and a parameter; and a refusal leaves everything that was lent or handed
--- in as it was, the listener's own record excepted. Over the promises, whatever outcomes they allow; the only
--- hypothesis is that octets are below 256, which every slice of octets meets. Which number at which place in which parameter, exactly,
--- and that there is only one, say the sentences of demands 2 and 3.
+-- work or one refusal with a number of its list, a place and a parameter; and a refusal leaves everything that was
+-- lent or handed in as it was, the listener's own record excepted. Over the promises, whatever outcomes they allow;
+-- the only hypothesis is that octets are below 256, which every slice of octets meets. Which number at which place in
+-- which parameter, exactly, and that there is only one, say the sentences of demands 2 and 3.
 -- Assumes nothing.
 use Prim.Native.Nat.{ℕ, _≤_, _<_}
 use mathlib.Core.Path.{_≡_, refl, sym, _∙_, ap, subst}
@@ -131,8 +131,8 @@ listen-refuses l o r h q f e = go (listener.numbers l o r h q f e) (decide (lang
         let y = listener.out-of-range l o r h n in
         inr (fault-of f (noted 17 0) (sym e ∙ ap (λ (z : Heard). z .answer) y), y)
 
--- the whole read, and the texts alone: 1 to 8, and 10 where the book is strict, at one of the octets or at their end, in
--- a parameter that it has; or 9 at the text octets that are needed; the area stays, and the draft is empty
+-- the whole read, and the texts alone: 1 to 8, and 10 where the book is strict, at one of the octets or at their end,
+-- in a parameter that it has; or 9 at the text octets that are needed; the area stays, and the draft is empty
 pub record Unread (b : Book) (o old : List ℕ) (f : Fault) (area : List ℕ) : Type 0 where
   pub number : T (readNumber (rulesOf b) (f .number))
   pub place : (f .number ≡ 9 → ⊥) → f .place ≤ length o
@@ -304,7 +304,8 @@ numbers-given OldLenient k = given-lenient (rulesOf OldLenient) k refl
 numbers-given PresentStrict k = given-strict (rulesOf PresentStrict) k refl
 numbers-given OldStrict k = given-strict (rulesOf OldStrict) k refl
 
--- by the book of the exports and programs the numbers are document 01's: 1 to 6, 1 to 8, 1 to 9, and 10 is none of them
+-- by the book of the exports and programs the numbers are document 01's: 1 to 6, 1 to 8, 1 to 9, and 10 is none of
+-- them
 pub six-lenient : (k : ℕ) → T (languageOf PresentLenient .given k) ↔ From 1 6 k
 six-lenient k = given-lenient (rulesOf PresentLenient) k lenient-others
 

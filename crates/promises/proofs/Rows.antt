@@ -1,5 +1,5 @@
--- Document 01's rows marked P (Octets on each side of the line) and those of document 02, Q-2 and Q-3, one list under one
--- claim over the promises of `listen`, `read`, `write`, `settle` and `counted`, whatever outcomes they allow.
+-- Document 01's rows marked P (Octets on each side of the line) and those of document 02, Q-2 and Q-3, one list under
+-- one claim over the promises of `listen`, `read`, `write`, `settle` and `counted`, whatever outcomes they allow.
 -- Assumes nothing.
 use Prim.Native.Nat.{ℕ}
 use mathlib.Core.Path.{_≡_, refl, _∙_, ap}

@@ -1,1 +1,2 @@
-// What is promised of several crates together: theorems over the promises of their public functions, in proofs/. Nothing runs here.
+// What is promised of several crates together: theorems over the promises of their public functions, in proofs/.
+// Nothing runs here.

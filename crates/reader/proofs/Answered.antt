@@ -180,7 +180,8 @@ module _ (R : Rules) (S : SoundRules R) where
     refused-number f e = numbers-of v f (number-of j) e
 
     -- numbers, places, parameters and sizes are small: a word has room for them
-    near-of : (w : Verdict) → ((g : Fault) → w ≡ Declined g → (g .number ≤ 10) × (g .place ≤ 258) × (g .parameter ≤ 85)) →
+    near-of : (w : Verdict) → ((g : Fault) → w ≡ Declined g →
+        (g .number ≤ 10) × (g .place ≤ 258) × (g .parameter ≤ 85)) →
         ((n : ℕ) → w ≡ Accepted n → length o ≤ 258) → Near (packFrom R o room w)
     unfolding packFrom told
     near-of (Accepted n) b l =

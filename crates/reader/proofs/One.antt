@@ -1,5 +1,5 @@
--- The sentences on reading leave one reading and one area: a refusal's number, place and parameter are told by the octets and
--- the room, and a draft by its message.
+-- The sentences on reading leave one reading and one area: a refusal's number, place and parameter are told by the
+-- octets and the room, and a draft by its message.
 -- Assumes nothing.
 use Prim.Native.Nat.{ℕ, _≤_}
 use mathlib.Core.Path.{_≡_, refl, sym, _∙_, ap}

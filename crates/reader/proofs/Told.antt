@@ -1,4 +1,5 @@
--- Number, place, parameter and size tell the answer of a read, since a refusal has a number; and what is read, case by case.
+-- Number, place, parameter and size tell the answer of a read, since a refusal has a number; and what is read, case by
+-- case.
 -- Assumes nothing.
 use Prim.Native.Nat.{ℕ, _≤_, _<_}
 use mathlib.Core.Path.{_≡_, sym, _∙_, ap, subst}

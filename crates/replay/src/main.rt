@@ -1,5 +1,5 @@
-// Traffic: reads messages from standard input, each behind its length in two octets, and prints the listing of each. What it must print was written by the
-// second reader (tools/replay).
+// Traffic: reads messages from standard input, each behind its length in two octets, and prints the listing of each.
+// What it must print was written by the second reader (tools/replay).
 use libc::STDIN_FILENO;
 use libc::STDOUT_FILENO;
 ghost use Prim.Native.Nat.{_≤_};

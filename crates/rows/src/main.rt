@@ -1,7 +1,8 @@
-// Every row of document 01's table and both sides of every limit: reads octets from standard input, each case behind its length in two octets, and prints
-// one line for each: the octets, their listing, what a new listener answers to them, and the verdict. What it must print was written by the second reader,
-// the table's rows by hand (tools/replay). The two upper bits of a length say by which book a case is heard and judged; a listing is of the present edition,
-// so the other books' cases have none, and what is said of them stands by hand too.
+// Every row of document 01's table and both sides of every limit: reads octets from standard input, each case behind
+// its length in two octets, and prints one line for each: the octets, their listing, what a new listener answers to
+// them, and the verdict. What it must print was written by the second reader, the table's rows by hand (tools/replay).
+// The two upper bits of a length say by which book a case is heard and judged; a listing is of the present edition, so
+// the other books' cases have none, and what is said of them stands by hand too.
 use libc::STDIN_FILENO;
 use libc::STDOUT_FILENO;
 use listener::Answer;

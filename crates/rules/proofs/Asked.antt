@@ -1,5 +1,5 @@
--- Classes that ask for the rows of their octets, and those that do not (document 02, Q-7): of these the first octet alone
--- is judged, and behind it any may stand; of those a date goes by the calendar, and a text by one kind.
+-- Classes that ask for the rows of their octets, and those that do not (document 02, Q-7): of these the first octet
+-- alone is judged, and behind it any may stand; of those a date goes by the calendar, and a text by one kind.
 -- Assumes nothing.
 use Prim.Native.Nat.{ℕ, suc, _≤_, _<_}
 use mathlib.Core.Path.{_≡_, refl, sym, _∙_, ap, ap₂}
@@ -149,7 +149,8 @@ text-judged Unlisted e d = absurd (T-of false e)
 -- judged by its own row, an octet is judged by the rules
 pub asked-ok : (c : Class) (n i m row x : ℕ) → AskedRow c row x → okBy c n i m row x ≡ okAt c n i m x
 unfolding okBy askedKind kindSet asks pick _=?_ classCode judgeOf
-asked-ok Date n i m row x a = ap (λ (d : Bool). calendarBy d timeRanges i m x) (row-digit x row (a refl)) ∙ date-by timeRanges i m x
+asked-ok Date n i m row x a =
+    ap (λ (d : Bool). calendarBy d timeRanges i m x) (row-digit x row (a refl)) ∙ date-by timeRanges i m x
 asked-ok Number n i m row x a = admits-kind 2 numbers x row (a refl)
 asked-ok Absent n i m row x a = refl
 asked-ok Name n i m row x a = admits-kind 4 names x row (a refl)

@@ -1,5 +1,5 @@
--- What a class of contents owes a message: laws between its rule over whole contents and its judge of single octets, as
--- one record; and what follows for any class that has them: contents of any of its lengths can be begun and gone on
+-- What a class of contents owes a message: laws between its rule over whole contents and its judge of single octets,
+-- as one record; and what follows for any class that has them: contents of any of its lengths can be begun and gone on
 -- with, they fit exactly where each octet passes, and they are octets.
 -- Assumes nothing.
 use Prim.Native.Nat.{ℕ, zero, suc, _≤_, _<_}

@@ -50,7 +50,8 @@ unfolding close
 close-octets σ [] o = (checksum-octet σ, tt)
 close-octets σ (x ∷ b) o = (o .0, close-octets _ b (o .1))
 
--- what listening needs of a format: what may still come at each stage, and how the machine's step takes one octet of it
+-- what listening needs of a format: what may still come at each stage, and how the machine's step takes one octet of
+-- it
 pub record Grammar (M : Machine) : Type 1 where
   pub Body : Stage → List ℕ → Type 0
   pub octets : (b : List ℕ) → Body (M .first) b → Octets b

@@ -1,6 +1,7 @@
 -- Number and parameter of a refusal are what the role of the refused octet gives for it, in every message that the
--- octets before it begin; for any grammar. The argument: the roles of a message's octets are the machine's faults along
--- them, and the machine stands, after the octets before, at the stage and in the parameter whose role comes next.
+-- octets before it begin; for any grammar. The argument: the roles of a message's octets are the machine's faults
+-- along them, and the machine stands, after the octets before, at the stage and in the parameter whose role comes
+-- next.
 -- Assumes nothing.
 use Prim.Native.Nat.{ℕ, zero, suc, _<_}
 use mathlib.Core.Path.{_≡_, refl, sym, _∙_, ap, subst}

@@ -1,6 +1,6 @@
--- The table of octets (document 02, Q-7): the table that the rule makes has the row of each octet, and a row says of each
--- kind what the rules say. Where the code lays its own table down (`by_rows`; `reached` in turns, `along` in listener) the
--- two are compared, all 256 rows at once.
+-- The table of octets (document 02, Q-7): the table that the rule makes has the row of each octet, and a row says of
+-- each kind what the rules say. Where the code lays its own table down (`by_rows`; `reached` in turns, `along` in
+-- listener) the two are compared, all 256 rows at once.
 -- Assumes nothing.
 use mathlib.Core.Path.{_≡_, refl, sym, _∙_, ap}
 use mathlib.Core.Bool.{Bool, true, false}
@@ -77,7 +77,8 @@ set-of kind numbers x = refl
 set-of kind names x = refl
 
 -- what a row says of a kind is what the rules say of its octet
-pub admits-kind : (kind : ℕ) → ContentKind kind → (x row : ℕ) → row ≡ kindsOf x → admitted row kind ≡ inSet (kindSet kind) x
+pub admits-kind : (kind : ℕ) → ContentKind kind → (x row : ℕ) → row ≡ kindsOf x →
+    admitted row kind ≡ inSet (kindSet kind) x
 unfolding kindsOf
 admits-kind kind k x row e = ap (λ (r : ℕ). admitted r kind) e ∙ kind-bit kind k _ _ _ ∙ set-of kind k x
 

@@ -91,8 +91,8 @@ machine R =
 unfoldable pub given : Rules → ℕ → Bool
 given R k = within (1, 6) k or (k =? 10 and classFault (R .others) =? 10)
 
--- what a refusal's number says of its parameter (document 02, Q-3): one of at most 85 with a type, a length and contents,
--- none with all others
+-- what a refusal's number says of its parameter (document 02, Q-3): one of at most 85 with a type, a length and
+-- contents, none with all others
 unfoldable pub named : ℕ → ℕ → Bool
 named k b = pick (within (3, 5) k or k =? 10) (within (1, most) b) (b =? 0)
 

@@ -12,8 +12,9 @@ use Rattle.rules.specs.declared.Spot.{Spot}
 use Rattle.rules.specs.declared.State.{State}
 use Rattle.rules.specs.declared.State.the-variants.{Waiting, Message, Refused}
 
--- where it begins; whether the checksum comes; whether an octet may come; the stage after it; the number of its refusal;
--- the parameter that it stands in, where it is not the checksum and so many began before it: from 1, and 0 in none
+-- where it begins; whether the checksum comes; whether an octet may come; the stage after it; the number of its
+-- refusal; the parameter that it stands in, where it is not the checksum and so many began before it: from 1, and 0 in
+-- none
 pub record Machine : Type 0 where
   pub first : Stage
   pub final : Stage → Bool

@@ -814,7 +814,8 @@ fn code_ok(c: Class, x: u8) -> bool
     }
 }
 
-// May octet x stand at index i of n, where m is remembered? Where the class asks for its row, it goes by the row beside it.
+// May octet x stand at index i of n, where m is remembered? Where the class asks for its row, it goes by the row
+// beside it.
 pub fn content_ok(c: Class, n: u8, i: u8, m: u8, row: u8, x: u8) -> bool
     ensures { λ r. ⌜ r ≡ okBy c n i m row x ⌝ }
 {

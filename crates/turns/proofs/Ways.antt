@@ -96,7 +96,8 @@ module _ (R : Rules) (o : List ℕ) (at room sum count : ℕ) where
   stays-here e = Along.stays {at = at} {room = room} {sum = sum} {count = count} e
 
   -- a stop as one number
-  pub as-word : (w : ℕ) (s : Stop) → stopIn w ≡ s → Turned R o at room sum count s → Turned R o at room sum count (stopIn w)
+  pub as-word : (w : ℕ) (s : Stop) → stopIn w ≡ s → Turned R o at room sum count s →
+      Turned R o at room sum count (stopIn w)
   as-word w s e t = subst (Turned R o at room sum count) (sym e) t
 
   -- ---- the octets' own end
@@ -201,7 +202,8 @@ module _ (R : Rules) (o : List ℕ) (at room sum count : ℕ) where
       -- one of the octets that have come may not stand
       spoilt-at : (w v : List ℕ) → w ++ v ≡ rest → length w ≤ n →
           passing (judgeOf (classOf R (getD o at 0))) n 0 0 w < length w →
-          Turned R o at room sum count (stop 5 (at + 2 + passing (judgeOf (classOf R (getD o at 0))) n 0 0 w) 0 0 (count + 1))
+          Turned R o at room sum count (stop 5 (at + 2 + passing (judgeOf (classOf R (getD o at 0))) n 0 0 w) 0 0
+          (count + 1))
       spoilt-at w v e l g =
           Turned.spoilt 5 (at + 2 + passing (judgeOf (classOf R (getD o at 0))) n 0 0 w) (count + 1)
           (λ q. absurd (omega arith)) (λ q. absurd (omega arith)) (λ q. absurd (omega arith))
@@ -226,7 +228,8 @@ module _ (R : Rules) (o : List ℕ) (at room sum count : ℕ) where
         counted-so =
             ap (λ (j : ℕ). passing (judgeOf (classOf R (getD o at 0))) j 0 0 (take n rest)) (sym inside)
 
-        pub contents-spoilt : whole-reached < n → Turned R o at room sum count (stop 5 (at + 2 + whole-reached) 0 0 (count + 1))
+        pub contents-spoilt : whole-reached < n →
+            Turned R o at room sum count (stop 5 (at + 2 + whole-reached) 0 0 (count + 1))
         contents-spoilt g =
             subst (λ (j : ℕ). Turned R o at room sum count (stop 5 (at + 2 + j) 0 0 (count + 1))) counted-so
             (spoilt-at (take n rest) (drop n rest) (take-append-drop n rest) (omega (arith, inside))
@@ -301,7 +304,8 @@ module _ (R : Rules) (o : List ℕ) (at : ℕ) (c : Class) (n left sum count : �
 
   -- contents have an octet at least
   pub some-contents : 1 ≤ n
-  some-contents = omega (arith, h .length-is, fits-facts R (classOf R (getD o at 0)) held (getD o (at + 1) 0) (h .fits) .0)
+  some-contents =
+      omega (arith, h .length-is, fits-facts R (classOf R (getD o at 0)) held (getD o (at + 1) 0) (h .fits) .0)
 
   module _ (g : ℕ) (short : length o < at + 2 + n)
       (e : g ≡ passing (judgeOf c) n 0 0 (take (length o - (at + 2)) (drop (at + 2) o))) where

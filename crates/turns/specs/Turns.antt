@@ -34,8 +34,8 @@ stands R room (t ∷ n ∷ v) =
 abbrev pub fitsAt : Rules → List ℕ → ℕ → ℕ → Bool
 fitsAt R o at room = lengthFits (classOf R (getD o at 0)) (getD o (at + 1) 0) and roomFits (getD o (at + 1) 0) room
 
--- at a place, a header whose type has the class and whose length is n; contents follow it, and `left` is the room after
--- them
+-- at a place, a header whose type has the class and whose length is n; contents follow it, and `left` is the room
+-- after them
 pub record Headed (R : Rules) (o : List ℕ) (at : ℕ) (class : Class) (n left : ℕ) : Type 0 where
   pub near : at + 2 + n + left ≤ 255
   pub begun : at + 2 < length o

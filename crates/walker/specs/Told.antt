@@ -5,7 +5,8 @@ use Prim.Native.Nat.{ℕ, _≤_}
 use Rattle.walker.specs.declared.Step.{Step}
 use Rattle.walker.specs.declared.Step.the-variants.{Parameter, NoMore, Refused}
 
--- number, place and parameter of a refusal; the type of a parameter and the part of its contents; 0 where there is none
+-- number, place and parameter of a refusal; the type of a parameter and the part of its contents; 0 where there is
+-- none
 pub record Told : Type 0 where
   pub number : ℕ
   pub place : ℕ
@@ -17,9 +18,11 @@ pub record Told : Type 0 where
   pub size : ℕ
 
 unfoldable pub told : Step → Told
-told (Parameter k start n next) = record { number = 0; place = 0; parameter = 0; more = 1; kind = k; start = start; size = n }
+told (Parameter k start n next) =
+    record { number = 0; place = 0; parameter = 0; more = 1; kind = k; start = start; size = n }
 told NoMore = record { number = 0; place = 0; parameter = 0; more = 0; kind = 0; start = 0; size = 0 }
-told (Refused f) = record { number = f .number; place = f .place; parameter = f .parameter; more = 0; kind = 0; start = 0; size = 0 }
+told (Refused f) =
+    record { number = f .number; place = f .place; parameter = f .parameter; more = 0; kind = 0; start = 0; size = 0 }
 
 -- no parameter begins there
 abbrev pub nothing : Told

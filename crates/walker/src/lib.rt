@@ -1,5 +1,5 @@
-// The parameters of one lent message, one at a time (document 01, Drafts): a walker holds the message and a place. The work is done on the slice and the
-// place: `step_at` says what stands there, `place_after` where the next call goes.
+// The parameters of one lent message, one at a time (document 01, Drafts): a walker holds the message and a place. The
+// work is done on the slice and the place: `step_at` says what stands there, `place_after` where the next call goes.
 use message::Found;
 use message::Verdict;
 use rules::Book;
@@ -11,7 +11,8 @@ ghost use Rattle.rules.specs.Message.{most};
 ghost use Rattle.walker.specs.Steps.{walkFrom, stepOf, nextPlace};
 ghost use Rattle.walker.specs.Moves.{Begun, Seen, Moved};
 
-// A parameter: its type, where its contents start, how long they are, and the place behind them; or none; or a refusal.
+// A parameter: its type, where its contents start, how long they are, and the place behind them; or none; or a
+// refusal.
 pub enum Step {
     Parameter {
         kind: u8,

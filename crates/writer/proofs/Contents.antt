@@ -1,5 +1,5 @@
--- What the judging of contents needs: contents fit exactly where their length is one of the class's and all their octets
--- may stand.
+-- What the judging of contents needs: contents fit exactly where their length is one of the class's and all their
+-- octets may stand.
 -- Assumes nothing.
 use Prim.Native.Nat.{ℕ, _+_, _≤_, _<_}
 use mathlib.Core.Path.{_≡_, refl, sym}

@@ -77,7 +77,8 @@ module _ (texts : List ℕ) (start n : ℕ) (h : start + n ≤ length texts) whe
 
   pub part-put : (kind : ℕ) (old new : List ℕ) (r : ℕ) →
       LaidParameter kind (length (take (start + n - start) (drop start texts)))
-      (take (start + n - start) (drop start texts)) old new r → LaidParameter kind n (take n (drop start texts)) old new r
+      (take (start + n - start) (drop start texts)) old new r → LaidParameter kind n (take n
+      (drop start texts)) old new r
   part-put kind old new r d =
       subst (λ (v : List ℕ). LaidParameter kind n v old new r) (part-is texts start n)
       (subst (λ (m : ℕ). LaidParameter kind m (take (start + n - start) (drop start texts)) old new r) part-long d)

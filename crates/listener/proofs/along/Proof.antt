@@ -1,4 +1,5 @@
--- `listener::along` meets its contract: the table has the row of each octet, and is at hand where the class asks for it.
+-- `listener::along` meets its contract: the table has the row of each octet, and is at hand where the class asks for
+-- it.
 -- Assumes nothing.
 use mathlib.Core.Path.{_∙_, sym}
 use mathlib.Core.Bool.{false}

@@ -1,6 +1,6 @@
--- `listener::by_octets` meets its contract. The loop's invariant: the run stands at octet i and at an index of the contents
--- that it has come to. The measure is what is left of the run. A turn reads its octet and its row and judges it; then it goes
--- further, or stops.
+-- `listener::by_octets` meets its contract. The loop's invariant: the run stands at octet i and at an index of the
+-- contents that it has come to. The measure is what is left of the run. A turn reads its octet and its row and judges
+-- it; then it goes further, or stops.
 -- Assumes nothing.
 use mathlib.Core.Path.{refl, _∙_}
 use Prim.Native.Nat.{_-_, _<_}

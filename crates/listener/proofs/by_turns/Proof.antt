@@ -79,7 +79,8 @@ at-header-requires c κs =
 
 add-t27 : tie.Need-add-t27
 add-t27 c =
-    let came = c .before .before .before .before .before .before .before .before .before .before .before .before .before in
+    let came =
+    c .before .before .before .before .before .before .before .before .before .before .before .before .before in
     let start = came .before .before .before in
     omega (arith, start .pre .1, start .fits)
 

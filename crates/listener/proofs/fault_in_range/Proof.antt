@@ -17,7 +17,8 @@ returns : tie.Need-returns
 unfolding inRange
 returns c =
     and-t _ _ _
-    (sym (and-t _ _ _ (sym (c .before .before .before .before .known-number .ensures) ∙ c .before .before .before .if1 .taken)
+    (sym (and-t _ _ _ (sym
+    (c .before .before .before .before .known-number .ensures) ∙ c .before .before .before .if1 .taken)
     (sym (yes-le _ _ (c .before .if2 .taken))))) (c .named .ensures)
 
 returns-2 : tie.Need-returns-2

@@ -34,7 +34,8 @@ returns-3 : tie.Need-returns-3
 returns-3 c =
     let start = c .before .before .before .before .before .before in
     ap Declined (c .noted2 .ensures)
-    ∙ kind-spoils _ (start .args .s .now) (omega arith) (sym (c .before .before .message-kind .ensures) ∙ c .before .if2 .left)
+    ∙ kind-spoils _ (start .args .s .now) (omega arith) (sym
+    (c .before .before .message-kind .ensures) ∙ c .before .if2 .left)
 
 pub judge-spec : {M : Type 1} → statement M
 judge-spec =

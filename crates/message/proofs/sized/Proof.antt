@@ -79,7 +79,8 @@ verdict-at-requires c κs =
     let q = octets-known o (read .shared-slice-known3 .given) in
     early-short (rulesOf (start .args .book)) _ _ o (size .before .before .if1 .left) (start .pre .1)
     (omega (arith, read .shared-slice-known3 .given 0)) (size .if2 .left)
-    (c .before .before .before .wrapping-add-u8 .ensures) (c .before .through .ensures) (sound-rules (start .args .book)) q
+    (c .before .before .before .wrapping-add-u8 .ensures) (c .before .through .ensures) (sound-rules
+    (start .args .book)) q
 
 returns-3 : tie.Need-returns-3
 returns-3 c =

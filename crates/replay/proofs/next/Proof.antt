@@ -38,7 +38,8 @@ array-share-prefix-octets : tie.Need-array-share-prefix-octets
 array-share-prefix-octets c = search needs
 
 slice-aggregate-show : tie.Need-slice-aggregate-show
-slice-aggregate-show c = sym (length-take-le _ _ (omega (arith, c .before .before .fill .ensures, c .before .before .fill .kept .0)))
+slice-aggregate-show c =
+    sym (length-take-le _ _ (omega (arith, c .before .before .fill .ensures, c .before .before .fill .kept .0)))
 
 show-requires : tie.Need-show-requires
 show-requires c κs = search needs

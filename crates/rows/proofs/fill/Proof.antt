@@ -22,7 +22,13 @@ same-length c = search needs
 returns : tie.Need-returns
 returns c =
     let start = c .before .before .before .before .before in
-    omega (arith, c .before .before .read-full .ensures, c .before .before .read-full .kept .1 .0, length-take-le (start .args .n) (start .args .octets .now) (start .pre))
+    omega (
+      arith,
+      c .before .before .read-full .ensures,
+      c .before .before .read-full .kept .1 .0,
+      length-take-le
+          (start .args .n) (start .args .octets .now) (start .pre),
+    )
 
 pub fill-spec : {M : Type 1} → statement M
 fill-spec =

@@ -36,7 +36,8 @@ unfolding kindRows tabled kindsOf bit digit within inSet _or_ _and_ _≤?_
 kind-along-requires c κs =
     let code = c .before .before in
     let start = code .before .before .before in
-    (rowed, rw (c .kind-of .ensures) (text-kind _ (start .pre) (λ z. code .if1 .left (code .before .code-of .ensures ∙ z))))
+    let text = text-kind _ (start .pre) (λ z. code .if1 .left (code .before .code-of .ensures ∙ z)) in
+    (rowed, rw (c .kind-of .ensures) text)
 
 returns : tie.Need-returns
 returns c =

@@ -1,5 +1,5 @@
--- `rules::content_ok` meets its contract: where no rows are asked for the first octet alone is judged; else a date by the
--- calendar, a text by its kind.
+-- `rules::content_ok` meets its contract: where no rows are asked for the first octet alone is judged; else a date by
+-- the calendar, a text by its kind.
 -- Assumes nothing.
 use mathlib.Core.Path.{_∙_, sym, ap}
 use Prim.Native.Nat.{ℕ}

@@ -1,4 +1,5 @@
--- `rules::day_ok` meets its contract: the row says whether it is a digit, then the day goes by what is left of the month.
+-- `rules::day_ok` meets its contract: the row says whether it is a digit, then the day goes by what is left of the
+-- month.
 -- Assumes nothing.
 use mathlib.Core.Path.{refl, _∙_, ap}
 use Prim.Native.Nat.{ℕ}
@@ -18,13 +19,15 @@ digit-of-requires c κs = search needs
 returns : tie.Need-returns
 returns c =
     rw (← c .before .before .digit-of .ensures)
-    (and-t _ _ _ (via _ _ _ (c .before .before .before .before .admits .ensures) (c .before .before .before .if1 .taken))
+    (and-t _ _ _
+    (via _ _ _ (c .before .before .before .before .admits .ensures) (c .before .before .before .if1 .taken))
     (and-t _ _ _ (yes-le _ _ (c .before .if2 .taken)) (or-t _ _ _ (yes-le _ _ (c .if3 .taken)) refl)))
 
 returns-2 : tie.Need-returns-2
 returns-2 c =
     let ones = c .before .before .digit-of .ensures in
-    and-t _ _ _ (via _ _ _ (c .before .before .before .before .admits .ensures) (c .before .before .before .if1 .taken))
+    and-t _ _ _
+    (via _ _ _ (c .before .before .before .before .admits .ensures) (c .before .before .before .if1 .taken))
     (rw (← ones) (and-t _ _ _ (yes-le _ _ (c .before .if2 .taken))
     (or-f _ _ _ (no-le _ _ (c .if3 .left)) (ap (λ (k : ℕ). leb 1 k) ones ∙ some-ones _))))
 

@@ -1,5 +1,5 @@
--- `rules::first_wrong` meets its contract: a class that asks for rows is gone along by them, of the others the first octet
--- decides.
+-- `rules::first_wrong` meets its contract: a class that asks for rows is gone along by them, of the others the first
+-- octet decides.
 -- Assumes nothing.
 use mathlib.Core.Path.{refl, sym, _∙_}
 use Rattle.rules.proofs.Octets.{octets-known}

@@ -1,5 +1,5 @@
--- `rules::kind_along` meets its contract. The loop's invariant: the octets before i are of the kind, so those from i on
--- decide. The measure is what is left.
+-- `rules::kind_along` meets its contract. The loop's invariant: the octets before i are of the kind, so those from i
+-- on decide. The measure is what is left.
 -- Assumes nothing.
 use mathlib.Core.Path.{_∙_, sym}
 use Prim.Native.Nat.{_-_, _≤_, _<_}

@@ -32,7 +32,9 @@ returns c =
 returns-2 : tie.Need-returns-2
 unfolding within
 returns-2 c =
-    rw (← c .before .digit-of .ensures) (and-t _ _ _ (via _ _ _ (c .before .before .before .admits .ensures) (c .before .before .if1 .taken)) (first-fails _ _ _ (c .if2 .left)))
+    rw (← c .before .digit-of .ensures)
+    (and-t _ _ _ (via _ _ _ (c .before .before .before .admits .ensures) (c .before .before .if1 .taken))
+    (first-fails _ _ _ (c .if2 .left)))
 
 returns-3 : tie.Need-returns-3
 returns-3 c = and-f _ _ _ (via _ _ _ (c .before .admits .ensures) (c .if1 .left)) refl

@@ -20,41 +20,58 @@ admits-requires-2 c κs = search needs
 
 sub-among : tie.Need-sub-among
 sub-among c =
-    let first = c .before .before .before .before in
+    let second = c .before .before in
+    let first = second .before .before in
     let start = first .before .before .before in
-    let tens = digit-told _ _ _ _ (start .pre .row _ (omega arith)) (first .admits .ensures) (c .before .before .before .if1 .taken) in
-    let ones = digit-told _ _ _ _ (start .pre .row _ (omega arith)) (c .before .admits2 .ensures) (c .if2 .taken) in digit-least _ tens
+    let tens =
+    digit-told _ _ _ _ (start .pre .row _ (omega arith)) (first .admits .ensures)
+    (second .before .if1 .taken) in
+    digit-least _ tens
 
 mul-among : tie.Need-mul-among
 mul-among c =
-    let first = c .before .before .before .before in
+    let second = c .before .before in
+    let first = second .before .before in
     let start = first .before .before .before in
-    let tens = digit-told _ _ _ _ (start .pre .row _ (omega arith)) (first .admits .ensures) (c .before .before .before .if1 .taken) in
-    let ones = digit-told _ _ _ _ (start .pre .row _ (omega arith)) (c .before .admits2 .ensures) (c .if2 .taken) in let h = digit-most _ tens in search needs
+    let tens =
+    digit-told _ _ _ _ (start .pre .row _ (omega arith)) (first .admits .ensures)
+    (second .before .if1 .taken) in
+    let most = digit-most _ tens in
+    search needs
 
 sub-among-2 : tie.Need-sub-among-2
 sub-among-2 c =
-    let first = c .before .before .before .before in
-    let start = first .before .before .before in
-    let tens = digit-told _ _ _ _ (start .pre .row _ (omega arith)) (first .admits .ensures) (c .before .before .before .if1 .taken) in
-    let ones = digit-told _ _ _ _ (start .pre .row _ (omega arith)) (c .before .admits2 .ensures) (c .if2 .taken) in digit-least _ ones
+    let start = c .before .before .before .before .before .before .before in
+    let ones = digit-told _ _ _ _ (start .pre .row _ (omega arith)) (c .before .admits2 .ensures) (c .if2 .taken) in
+    digit-least _ ones
 
 add-among : tie.Need-add-among
 add-among c =
-    let first = c .before .before .before .before in
+    let second = c .before .before in
+    let first = second .before .before in
     let start = first .before .before .before in
-    let tens = digit-told _ _ _ _ (start .pre .row _ (omega arith)) (first .admits .ensures) (c .before .before .before .if1 .taken) in
-    let ones = digit-told _ _ _ _ (start .pre .row _ (omega arith)) (c .before .admits2 .ensures) (c .if2 .taken) in let h = digit-most _ tens in let k = digit-most _ ones in search needs
+    let tens =
+    digit-told _ _ _ _ (start .pre .row _ (omega arith)) (first .admits .ensures)
+    (second .before .if1 .taken) in
+    let ones = digit-told _ _ _ _ (start .pre .row _ (omega arith)) (c .before .admits2 .ensures) (c .if2 .taken) in
+    let most-tens = digit-most _ tens in
+    let most-ones = digit-most _ ones in
+    search needs
 
 among-requires : tie.Need-among-requires
 among-requires c κs = search needs
 
 returns : tie.Need-returns
 returns c =
-    let first = c .before .before .before .before .before in
+    let second = c .before .before .before in
+    let first = second .before .before in
     let start = first .before .before .before in
-    let tens = digit-told _ _ _ _ (start .pre .row _ (omega arith)) (first .admits .ensures) (c .before .before .before .before .if1 .taken) in
-    let ones = digit-told _ _ _ _ (start .pre .row _ (omega arith)) (c .before .before .admits2 .ensures) (c .before .if2 .taken) in two-told _ _ _ _ _ tens ones (c .among .ensures)
+    let tens =
+    digit-told _ _ _ _ (start .pre .row _ (omega arith)) (first .admits .ensures)
+    (second .before .if1 .taken) in
+    let ones = digit-told _ _ _ _ (start .pre .row _ (omega arith)) (c .before .before .admits2 .ensures)
+    (c .before .if2 .taken) in
+    two-told _ _ _ _ _ tens ones (c .among .ensures)
 
 returns-2 : tie.Need-returns-2
 returns-2 c =

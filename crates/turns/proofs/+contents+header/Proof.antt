@@ -475,7 +475,8 @@ header-returns-2 : (t : ℕ) → header-lts.Need-returns-2 (
 ) (header-at t) header.Post
 header-returns-2 t c =
     let named = c .before .before .before .before in
-    in-room _ _ _ _ _ _ (named .class-of .ensures) (c .before .before .length-fits .ensures) (c .before .if2 .taken) _ _ _
+    in-room _ _ _ _ _ _ (named .class-of .ensures) (c .before .before .length-fits .ensures)
+    (c .before .if2 .taken) _ _ _
     (c .contents .ensures)
 
 header-returns-3 : (t : ℕ) → header-lts.Need-returns-3 (

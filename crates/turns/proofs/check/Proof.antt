@@ -27,14 +27,16 @@ returns c R count =
     let asked = c .before .before .wrapping-sub-u8 in
     let start = c .before .before .before .before .before in
     as-word R _ _ _ _ count _ _ (c .word .ensures)
-    (sums-up R _ _ _ _ count (start .pre .1) refl _ (asked .ensures) (omega arith) (omega arith) (c .before .if1 .taken))
+    (sums-up R _ _ _ _ count (start .pre .1) refl _ (asked .ensures) (omega arith) (omega arith)
+    (c .before .if1 .taken))
 
 returns-2 : tie.Need-returns-2
 returns-2 c R count =
     let asked = c .before .before .wrapping-sub-u8 in
     let start = c .before .before .before .before .before in
     as-word R _ _ _ _ count _ _ (c .word2 .ensures)
-    (sums-not R _ _ _ _ count (start .pre .1) refl _ (asked .ensures) (omega arith) (omega arith) (c .before .if1 .left))
+    (sums-not R _ _ _ _ count (start .pre .1) refl _ (asked .ensures) (omega arith) (omega arith)
+    (c .before .if1 .left))
 
 pub check-spec : {M : Type 1} → statement M
 check-spec =

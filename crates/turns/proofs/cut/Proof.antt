@@ -28,7 +28,8 @@ add-if1 c =
       arith,
       start .pre .1,
       start .pre .0 .near,
-      cut-near _ _ _ _ _ _ (start .args .sum) (start .args .count) (start .pre .0) _ (start .pre .1) (c .reached .ensures),
+      cut-near _ _ _ _ _ _ (start .args .sum) (start .args .count) (start .pre .0) _ (start .pre .1)
+          (c .reached .ensures),
     )
 
 add-word : tie.Need-add-word
@@ -53,13 +54,15 @@ returns : tie.Need-returns
 returns c =
     let start = c .before .before .before .before .before in
     as-word _ _ _ _ _ _ _ _ (c .word .ensures)
-    (cut-wrong _ _ _ _ _ _ _ _ (start .pre .0) _ (start .pre .1) (c .before .before .reached .ensures) (c .before .if1 .taken))
+    (cut-wrong _ _ _ _ _ _ _ _ (start .pre .0) _ (start .pre .1) (c .before .before .reached .ensures)
+    (c .before .if1 .taken))
 
 returns-2 : tie.Need-returns-2
 returns-2 c =
     let start = c .before .before .before .before .before in
     as-word _ _ _ _ _ _ _ _ (c .word2 .ensures)
-    (cut-off _ _ _ _ _ _ _ _ (start .pre .0) _ (start .pre .1) (c .before .before .reached .ensures) (c .before .if1 .left))
+    (cut-off _ _ _ _ _ _ _ _ (start .pre .0) _ (start .pre .1) (c .before .before .reached .ensures)
+    (c .before .if1 .left))
 
 pub cut-spec : {M : Type 1} → statement M
 cut-spec =

@@ -82,7 +82,8 @@ returns-4 c =
     let branch = measured .before .before .before in
     let named = branch .before .before in
     let start = named .before .before .before .before .before in
-    let fitting = fitting-told _ _ _ _ _ (named .class-of .ensures) _ (measured .length-fits .ensures) (c .before .if5 .taken) in
+    let fitting =
+    fitting-told _ _ _ _ _ (named .class-of .ensures) _ (measured .length-fits .ensures) (c .before .if5 .taken) in
     as-word _ _ _ _ _ _ _ _ (c .word3 .ensures)
     (length-left _ _ _ _ _ _ (omega (arith, measured .before .before .if4 .left)) fitting (start .pre .1 fitting))
 
@@ -102,7 +103,8 @@ returns-6 c =
     let branch = c .before .before in
     let named = branch .before .before in
     let start = named .before .before in
-    as-word _ _ _ _ _ _ _ _ (c .word5 .ensures ∙ ap (λ (k : ℕ). stop k (start .before .before .before .args .at) 0 0 (start .before .before .before .args .count + 1))
+    as-word _ _ _ _ _ _ _ _ (c .word5 .ensures ∙ ap (λ (k : ℕ). stop k (start .before .before .before .args .at) 0 0
+    (start .before .before .before .args .count + 1))
     (c .before .class-fault .ensures ∙ ap classFault (named .class-of .ensures)))
     (type-wrong _ _ _ _ _ _ (omega (arith, start .before .if1 .left)) (start .if2 .left)
     (possible-told _ _ _ _ _ (named .class-of .ensures) (branch .before .possible .ensures) (branch .if3 .left)))
