@@ -6,7 +6,7 @@ use mathlib.Core.Bool.{Bool}
 use mathlib.Core.List.{List, [], _∷_}
 use Prim.Native.Nat.{ℕ, _+_, _*_, _/_, _%_, _≤_}
 use native.Mathlib.Omega.{arith}
-use lib.ListN.{length}
+use lib.ListN.{length, getD}
 use Rattle.rules.specs.Tests.{_≤?_, _=?_, pick}
 use Rattle.rules.proofs.Tests.{clash, picked-by, pick-yes, of-eq, eq-of, of-le, le-of}
 use Rattle.rules.specs.Octets.{Octets}
@@ -83,10 +83,15 @@ laid-size : (f : Fields) → length (laidFields f) ≡ listenerSize
 unfolding laidFields
 laid-size f = refl
 
+laid-kept : (f : Fields) → getD (laidFields f) 11 0 ≡ 0
+unfolding laidFields
+laid-kept f = refl
+
 pub decode-encode : (l : Listener) → l .book ≡ PresentLenient → Coded (l .state) → decodeOf (recordOf l) ≡ Known l
 unfolding decodeOf recordOf
 decode-encode l b h =
     pick-yes _ _ _ (of-eq _ _ (laid-size (fieldsFor (l .state))))
+    ∙ pick-yes _ _ _ (of-eq _ _ (laid-kept (fieldsFor (l .state))))
     ∙ ap stateOf (fields-laid (fieldsFor (l .state)) (no-spare (l .state)))
     ∙ state-fields (l .state) h
     ∙ (λ i. Known (record { book = sym b i; state = l .state }))
@@ -122,7 +127,10 @@ state-good f l e =
 
 pub decoded-good : (c : List ℕ) (l : Listener) → decodeOf c ≡ Known l → Good l
 unfolding decodeOf
-decoded-good c l e = picked-by (Good l) _ _ _ _ e (λ _ e. state-good (fieldsOf c) l e) (λ _ e. absurd (unknown-not l e))
+decoded-good c l e =
+    picked-by (Good l) _ _ _ _ e
+    (λ _ e. picked-by (Good l) _ _ _ _ e (λ _ e. state-good (fieldsOf c) l e) (λ _ e. absurd (unknown-not l e)))
+    (λ _ e. absurd (unknown-not l e))
 
 -- ---- encode (decode c) is c, where c decodes
 known-is : (n : ℕ) (s : State) (l : Listener) → known (n =? 0) s ≡ Known l → (n ≡ 0) × (l .state ≡ s)
@@ -223,28 +231,29 @@ module _ (f : Fields) (l : Listener) where
       (λ g e. picked-by Back _ _ _ _ e (λ t. parameter-back (le-of _ _ t) (λ k. g (of-le _ _ k))) (λ _. ended-back))
 
 -- the 16 octets of a record are its fields
-laid-fields : (c : List ℕ) → length c ≡ listenerSize → Octets c → fieldsOf c .spare ≡ 0 → laidFields (fieldsOf c) ≡ c
+laid-fields : (c : List ℕ) → length c ≡ listenerSize → Octets c → fieldsOf c .spare ≡ 0 → getD c 11 0 ≡ 0 →
+    laidFields (fieldsOf c) ≡ c
 unfolding laidFields fieldsOf
-laid-fields [] n o e = absurd (omega arith)
-laid-fields (a0 ∷ []) n o e = absurd (omega arith)
-laid-fields (a0 ∷ a1 ∷ []) n o e = absurd (omega arith)
-laid-fields (a0 ∷ a1 ∷ a2 ∷ []) n o e = absurd (omega arith)
-laid-fields (a0 ∷ a1 ∷ a2 ∷ a3 ∷ []) n o e = absurd (omega arith)
-laid-fields (a0 ∷ a1 ∷ a2 ∷ a3 ∷ a4 ∷ []) n o e = absurd (omega arith)
-laid-fields (a0 ∷ a1 ∷ a2 ∷ a3 ∷ a4 ∷ a5 ∷ []) n o e = absurd (omega arith)
-laid-fields (a0 ∷ a1 ∷ a2 ∷ a3 ∷ a4 ∷ a5 ∷ a6 ∷ []) n o e = absurd (omega arith)
-laid-fields (a0 ∷ a1 ∷ a2 ∷ a3 ∷ a4 ∷ a5 ∷ a6 ∷ a7 ∷ []) n o e = absurd (omega arith)
-laid-fields (a0 ∷ a1 ∷ a2 ∷ a3 ∷ a4 ∷ a5 ∷ a6 ∷ a7 ∷ a8 ∷ []) n o e = absurd (omega arith)
-laid-fields (a0 ∷ a1 ∷ a2 ∷ a3 ∷ a4 ∷ a5 ∷ a6 ∷ a7 ∷ a8 ∷ a9 ∷ []) n o e = absurd (omega arith)
-laid-fields (a0 ∷ a1 ∷ a2 ∷ a3 ∷ a4 ∷ a5 ∷ a6 ∷ a7 ∷ a8 ∷ a9 ∷ a10 ∷ []) n o e = absurd (omega arith)
-laid-fields (a0 ∷ a1 ∷ a2 ∷ a3 ∷ a4 ∷ a5 ∷ a6 ∷ a7 ∷ a8 ∷ a9 ∷ a10 ∷ a11 ∷ []) n o e = absurd (omega arith)
-laid-fields (a0 ∷ a1 ∷ a2 ∷ a3 ∷ a4 ∷ a5 ∷ a6 ∷ a7 ∷ a8 ∷ a9 ∷ a10 ∷ a11 ∷ a12 ∷ []) n o e = absurd (omega arith)
-laid-fields (a0 ∷ a1 ∷ a2 ∷ a3 ∷ a4 ∷ a5 ∷ a6 ∷ a7 ∷ a8 ∷ a9 ∷ a10 ∷ a11 ∷ a12 ∷ a13 ∷ []) n o e = absurd (omega arith)
-laid-fields (a0 ∷ a1 ∷ a2 ∷ a3 ∷ a4 ∷ a5 ∷ a6 ∷ a7 ∷ a8 ∷ a9 ∷ a10 ∷ a11 ∷ a12 ∷ a13 ∷ a14 ∷ []) n o e =
+laid-fields [] n o e k = absurd (omega arith)
+laid-fields (a0 ∷ []) n o e k = absurd (omega arith)
+laid-fields (a0 ∷ a1 ∷ []) n o e k = absurd (omega arith)
+laid-fields (a0 ∷ a1 ∷ a2 ∷ []) n o e k = absurd (omega arith)
+laid-fields (a0 ∷ a1 ∷ a2 ∷ a3 ∷ []) n o e k = absurd (omega arith)
+laid-fields (a0 ∷ a1 ∷ a2 ∷ a3 ∷ a4 ∷ []) n o e k = absurd (omega arith)
+laid-fields (a0 ∷ a1 ∷ a2 ∷ a3 ∷ a4 ∷ a5 ∷ []) n o e k = absurd (omega arith)
+laid-fields (a0 ∷ a1 ∷ a2 ∷ a3 ∷ a4 ∷ a5 ∷ a6 ∷ []) n o e k = absurd (omega arith)
+laid-fields (a0 ∷ a1 ∷ a2 ∷ a3 ∷ a4 ∷ a5 ∷ a6 ∷ a7 ∷ []) n o e k = absurd (omega arith)
+laid-fields (a0 ∷ a1 ∷ a2 ∷ a3 ∷ a4 ∷ a5 ∷ a6 ∷ a7 ∷ a8 ∷ []) n o e k = absurd (omega arith)
+laid-fields (a0 ∷ a1 ∷ a2 ∷ a3 ∷ a4 ∷ a5 ∷ a6 ∷ a7 ∷ a8 ∷ a9 ∷ []) n o e k = absurd (omega arith)
+laid-fields (a0 ∷ a1 ∷ a2 ∷ a3 ∷ a4 ∷ a5 ∷ a6 ∷ a7 ∷ a8 ∷ a9 ∷ a10 ∷ []) n o e k = absurd (omega arith)
+laid-fields (a0 ∷ a1 ∷ a2 ∷ a3 ∷ a4 ∷ a5 ∷ a6 ∷ a7 ∷ a8 ∷ a9 ∷ a10 ∷ a11 ∷ []) n o e k = absurd (omega arith)
+laid-fields (a0 ∷ a1 ∷ a2 ∷ a3 ∷ a4 ∷ a5 ∷ a6 ∷ a7 ∷ a8 ∷ a9 ∷ a10 ∷ a11 ∷ a12 ∷ []) n o e k = absurd (omega arith)
+laid-fields (a0 ∷ a1 ∷ a2 ∷ a3 ∷ a4 ∷ a5 ∷ a6 ∷ a7 ∷ a8 ∷ a9 ∷ a10 ∷ a11 ∷ a12 ∷ a13 ∷ []) n o e k = absurd (omega arith)
+laid-fields (a0 ∷ a1 ∷ a2 ∷ a3 ∷ a4 ∷ a5 ∷ a6 ∷ a7 ∷ a8 ∷ a9 ∷ a10 ∷ a11 ∷ a12 ∷ a13 ∷ a14 ∷ []) n o e k =
     absurd (omega arith)
-laid-fields (a0 ∷ a1 ∷ a2 ∷ a3 ∷ a4 ∷ a5 ∷ a6 ∷ a7 ∷ a8 ∷ a9 ∷ a10 ∷ a11 ∷ a12 ∷ a13 ∷ a14 ∷ a15 ∷ a16 ∷ c) n o e =
+laid-fields (a0 ∷ a1 ∷ a2 ∷ a3 ∷ a4 ∷ a5 ∷ a6 ∷ a7 ∷ a8 ∷ a9 ∷ a10 ∷ a11 ∷ a12 ∷ a13 ∷ a14 ∷ a15 ∷ a16 ∷ c) n o e k =
     absurd (omega arith)
-laid-fields (a0 ∷ a1 ∷ a2 ∷ a3 ∷ a4 ∷ a5 ∷ a6 ∷ a7 ∷ a8 ∷ a9 ∷ a10 ∷ a11 ∷ a12 ∷ a13 ∷ a14 ∷ a15 ∷ []) n o e =
+laid-fields (a0 ∷ a1 ∷ a2 ∷ a3 ∷ a4 ∷ a5 ∷ a6 ∷ a7 ∷ a8 ∷ a9 ∷ a10 ∷ a11 ∷ a12 ∷ a13 ∷ a14 ∷ a15 ∷ []) n o e k =
     let p : (a2 + 256 * a3) % 256 ≡ a2 = omega (arith, o .1 .1 .0) in
     let q : (a2 + 256 * a3) / 256 ≡ a3 = omega (arith, o .1 .1 .0) in
     let z11 : 0 ≡ a11 = omega arith in
@@ -259,6 +268,10 @@ unfolding recordOf decodeOf
 encode-decode c l o e =
     picked-by (laidFields (fieldsFor (l .state)) ≡ c) _ _ _ _ e
     (λ t e.
+    picked-by (laidFields (fieldsFor (l .state)) ≡ c) _ _ _ _ e
+    (λ k e.
     let f = fields-state (fieldsOf c) l e in
-    ap laidFields f ∙ laid-fields c (eq-of _ _ t) o (sym (ap (λ (g : Fields). g .spare) f) ∙ no-spare (l .state)))
+    ap laidFields f
+    ∙ laid-fields c (eq-of _ _ t) o (sym (ap (λ (g : Fields). g .spare) f) ∙ no-spare (l .state)) (eq-of _ _ k))
+    (λ _ e. absurd (unknown-not l e)))
     (λ _ e. absurd (unknown-not l e))

@@ -34,7 +34,7 @@ fieldsOf c = record {
   room = getD c 8 0;
   number = getD c 9 0;
   parameter = getD c 10 0;
-  spare = getD c 11 0 + getD c 12 0 + (getD c 13 0 + getD c 14 0 + getD c 15 0);
+  spare = getD c 12 0 + 256 * getD c 13 0 + (65536 * getD c 14 0 + 16777216 * getD c 15 0);
 }
 
 -- the fields of each state; what it does not use is 0
@@ -132,4 +132,4 @@ stateOf f =
 
 -- a record of another size stands for nothing
 unfoldable pub decodeOf : List ℕ → Decoded
-decodeOf c = pick (length c =? listenerSize) (stateOf (fieldsOf c)) Unknown
+decodeOf c = pick (length c =? listenerSize) (pick (getD c 11 0 =? 0) (stateOf (fieldsOf c)) Unknown) Unknown

@@ -48,7 +48,7 @@ struct Fields {
     memory: u8,
     room: u8,
     number: u8,
-    spare: u16,
+    spare: u32,
     parameter: u8,
 }
 
@@ -63,10 +63,11 @@ fn joined(low: u8, high: u8) -> u16
     low as u16 + 256 * (high as u16)
 }
 
-fn five(a: u8, b: u8, c: u8, d: u8, e: u8) -> u16
-    ensures { λ r. ⌜ r ≡ a + b + (c + d + e) ⌝ }
+// Four octets as one number, the lowest first: so they are looked at in one go.
+fn four(a: u8, b: u8, c: u8, d: u8) -> u32
+    ensures { λ r. ⌜ r ≡ a + 256 * b + (65536 * c + 16777216 * d) ⌝ }
 {
-    a as u16 + b as u16 + (c as u16 + d as u16 + e as u16)
+    a as u32 + 256 * (b as u32) + (65536 * (c as u32) + 16777216 * (d as u32))
 }
 
 fn fields_of(cells: &[u8]) -> Fields
@@ -82,7 +83,7 @@ fn fields_of(cells: &[u8]) -> Fields
     let room = cells[8];
     let number = cells[9];
     let parameter = cells[10];
-    let spare = five(cells[11], cells[12], cells[13], cells[14], cells[15]);
+    let spare = four(cells[12], cells[13], cells[14], cells[15]);
     let place = joined(cells[2], cells[3]);
     Fields {
         stage,
@@ -114,14 +115,14 @@ fn known(ok: bool, state: State) -> Decoded
 
 // Before a parameter: the message type, L, a parameter type or the checksum is to come. What is unused sums up to
 // `idle`, and must be 0.
-fn opening_of(stage: u8, q: Spot, room: u8, idle: u32) -> Decoded
-    requires { ⌜ idle ≤ 100000 ⌝ }
+fn opening_of(stage: u8, q: Spot, room: u8, idle: u64) -> Decoded
+    requires { ⌜ idle ≤ 10000000000 ⌝ }
     ensures { λ r. ⌜ r ≡ record-of.openingOf stage q room idle ⌝ }
 {
     if stage == 0 {
-        known(idle + room as u32 == 0, State::Waiting(Stage::Kind, q))
+        known(idle + room as u64 == 0, State::Waiting(Stage::Kind, q))
     } else if stage == 1 {
-        known(idle + room as u32 == 0, State::Waiting(Stage::Size, q))
+        known(idle + room as u64 == 0, State::Waiting(Stage::Size, q))
     } else {
         known(idle == 0, State::Waiting(Stage::Header { room }, q))
     }
@@ -136,9 +137,9 @@ fn parameter_of(
     index: u8,
     memory: u8,
     room: u8,
-    idle: u32,
+    idle: u64,
 ) -> Decoded
-    requires { ⌜ idle ≤ 100000 ⌝ }
+    requires { ⌜ idle ≤ 10000000000 ⌝ }
     ensures { λ r. ⌜ r ≡ record-of.parameterState stage q code length index memory room idle ⌝ }
 {
     if rules::LAST_PRESENT < code {
@@ -147,7 +148,7 @@ fn parameter_of(
     let class = rules::class_coded(code);
     if stage == 3 {
         known(
-            length as u32 + index as u32 + memory as u32 + idle == 0,
+            length as u64 + index as u64 + memory as u64 + idle == 0,
             State::Waiting(Stage::Length { class, room }, q),
         )
     } else {
@@ -163,13 +164,13 @@ fn parameter_of(
 }
 
 // A message or a refusal.
-fn ended_of(stage: u8, place: u16, number: u8, parameter: u8, idle: u32) -> Decoded
-    requires { ⌜ idle ≤ 100000 ⌝ }
+fn ended_of(stage: u8, place: u16, number: u8, parameter: u8, idle: u64) -> Decoded
+    requires { ⌜ idle ≤ 10000000000 ⌝ }
     ensures { λ r. ⌜ r ≡ record-of.endedOf stage place number parameter idle ⌝ }
 {
     if stage == 5 {
         known(
-            idle + number as u32 + parameter as u32 == 0,
+            idle + number as u64 + parameter as u64 == 0,
             State::Message(place),
         )
     } else if stage == 6 {
@@ -187,16 +188,16 @@ fn ended_of(stage: u8, place: u16, number: u8, parameter: u8, idle: u32) -> Deco
 fn state_of(f: Fields) -> Decoded
     ensures { λ r. ⌜ r ≡ record-of.stateOf f ⌝ }
 {
-    let inner = f.class as u32 + f.length as u32 + f.index as u32 + f.memory as u32;
+    let inner = f.class as u64 + f.length as u64 + f.index as u64 + f.memory as u64;
     let q = Spot {
         sum: f.sum,
         place: f.place,
         parameter: f.parameter,
     };
     if f.stage <= 2 {
-        opening_of(f.stage, q, f.room, inner + f.number as u32 + f.spare as u32)
+        opening_of(f.stage, q, f.room, inner + f.number as u64 + f.spare as u64)
     } else if f.stage <= 4 {
-        let idle = f.number as u32 + f.spare as u32;
+        let idle = f.number as u64 + f.spare as u64;
         parameter_of(
             f.stage,
             q,
@@ -208,7 +209,7 @@ fn state_of(f: Fields) -> Decoded
             idle,
         )
     } else {
-        let idle = inner + f.sum as u32 + f.room as u32 + f.spare as u32;
+        let idle = inner + f.sum as u64 + f.room as u64 + f.spare as u64;
         ended_of(f.stage, f.place, f.number, f.parameter, idle)
     }
 }
@@ -217,7 +218,11 @@ fn decode(cells: &[u8]) -> Decoded
     ensures { λ r. ⌜ r ≡ record-of.decodeOf (now (cells .entry)) ⌝ }
 {
     if cells.len() == LISTENER {
-        state_of(fields_of(cells))
+        if cells[11] == 0 {
+            state_of(fields_of(cells))
+        } else {
+            Decoded::Unknown
+        }
     } else {
         Decoded::Unknown
     }

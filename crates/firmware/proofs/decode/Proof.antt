@@ -7,6 +7,9 @@ use borrow.Author.Needs.{needs}
 use Rattle.firmware.proofs.decode.Statement.{statement}
 use Rattle.firmware.proofs.decode.Tie as tie
 
+shared-slice-read-if2 : tie.Need-shared-slice-read-if2
+shared-slice-read-if2 c = search needs
+
 fields-of-requires : tie.Need-fields-of-requires
 fields-of-requires c κs = search needs
 
@@ -16,12 +19,20 @@ state-of-requires c κs = search needs
 returns : tie.Need-returns
 unfolding decodeOf
 returns c =
-    pick-t _ _ _ _ (yes-eq _ _ (c .before .before .if1 .taken))
-    (c .state-of .ensures ∙ ap stateOf (c .before .fields-of .ensures))
+    let branch = c .before .before in
+    pick-t _ _ _ _ (yes-eq _ _ (branch .before .before .if1 .taken))
+    (pick-t _ _ _ _ (yes-eq _ _ (branch .if2 .taken))
+    (c .state-of .ensures ∙ ap stateOf (c .before .fields-of .ensures)))
 
 returns-2 : tie.Need-returns-2
 unfolding decodeOf
 returns-2 c = search tests
 
+returns-3 : tie.Need-returns-3
+unfolding decodeOf
+returns-3 c = search tests
+
 pub decode-spec : {M : Type 1} → statement M
-decode-spec = tie.close (tie.spec fields-of-requires state-of-requires returns returns-2)
+decode-spec =
+    tie.close
+    (tie.spec shared-slice-read-if2 fields-of-requires state-of-requires returns returns-2 returns-3)

@@ -32,23 +32,20 @@ shared-slice-read-number c = search needs
 shared-slice-read-parameter : tie.Need-shared-slice-read-parameter
 shared-slice-read-parameter c = search needs
 
-shared-slice-read-five : tie.Need-shared-slice-read-five
-shared-slice-read-five c = search needs
+shared-slice-read-four : tie.Need-shared-slice-read-four
+shared-slice-read-four c = search needs
 
-shared-slice-read-five-2 : tie.Need-shared-slice-read-five-2
-shared-slice-read-five-2 c = search needs
+shared-slice-read-four-2 : tie.Need-shared-slice-read-four-2
+shared-slice-read-four-2 c = search needs
 
-shared-slice-read-five-3 : tie.Need-shared-slice-read-five-3
-shared-slice-read-five-3 c = search needs
+shared-slice-read-four-3 : tie.Need-shared-slice-read-four-3
+shared-slice-read-four-3 c = search needs
 
-shared-slice-read-five-4 : tie.Need-shared-slice-read-five-4
-shared-slice-read-five-4 c = search needs
+shared-slice-read-four-4 : tie.Need-shared-slice-read-four-4
+shared-slice-read-four-4 c = search needs
 
-shared-slice-read-five-5 : tie.Need-shared-slice-read-five-5
-shared-slice-read-five-5 c = search needs
-
-five-requires : tie.Need-five-requires
-five-requires c κs = search needs
+four-requires : tie.Need-four-requires
+four-requires c κs = search needs
 
 shared-slice-read-joined : tie.Need-shared-slice-read-joined
 shared-slice-read-joined c = search needs
@@ -61,7 +58,7 @@ joined-requires c κs = search needs
 
 returns : tie.Need-returns
 unfolding fieldsOf
-returns c = rw (← c .joined .ensures, ← c .before .before .before .five .ensures)
+returns c = rw (← c .joined .ensures, ← c .before .before .before .four .ensures)
 
 pub fields-of-spec : {M : Type 1} → statement M
 fields-of-spec =
@@ -76,12 +73,11 @@ fields-of-spec =
     shared-slice-read-room
     shared-slice-read-number
     shared-slice-read-parameter
-    shared-slice-read-five
-    shared-slice-read-five-2
-    shared-slice-read-five-3
-    shared-slice-read-five-4
-    shared-slice-read-five-5
-    five-requires
+    shared-slice-read-four
+    shared-slice-read-four-2
+    shared-slice-read-four-3
+    shared-slice-read-four-4
+    four-requires
     shared-slice-read-joined
     shared-slice-read-joined-2
     joined-requires
