@@ -1,36 +1,59 @@
 /* A plain C listener as a firmware programmer would write it by hand, on the record that include/anthercup.h lays out:
- * the record's size, every code and number, and that unused octets are 0, are judged at entry; every octet is judged
- * by document 01's rules as it arrives, and parameters are counted as they begin (document 02, Q-3). */
+ * the record's size, every code and number, and that unused octets are 0, are judged at entry, then its edition; every
+ * octet is judged by document 01's rules, or by those of the old edition (document 02, Q-5), as it arrives, and
+ * parameters are counted as they begin (document 02, Q-3). */
 #include "peer.h"
 
 #include <string.h>
 
 enum { KIND, SIZE, HEADER, LENGTH, CONTENT, MESSAGE, REFUSED };
-enum { CARRIED, DATE, NUMBER, ABSENT, NAME, LAMP, IDENTITY, CALL_TYPE, WAITING, FORWARDED, USER };
+enum { CARRIED, DATE, NUMBER, ABSENT, NAME, LAMP, IDENTITY, CALL_TYPE, WAITING, FORWARDED, USER,
+       OLD_NUMBER, OLD_NAME, OLD_FORWARDED, OLD_USER };
+enum { PRESENT, OLD };
 
 struct state {
-    unsigned stage, sum, place, class, length, index, memory, room, number, parameter;
+    unsigned stage, sum, place, class, length, index, memory, room, number, parameter, edition;
 };
 
-static const uint8_t class_of[256] = {
-    [0x01] = DATE, [0x02] = NUMBER, [0x03] = NUMBER, [0x04] = ABSENT, [0x07] = NAME, [0x08] = ABSENT, [0x0B] = LAMP,
-    [0x0D] = IDENTITY, [0x0E] = NUMBER, [0x11] = CALL_TYPE, [0x12] = NUMBER, [0x13] = WAITING, [0x15] = FORWARDED,
-    [0x16] = USER,
+static const uint8_t class_of[2][256] = {
+    {[0x01] = DATE, [0x02] = NUMBER, [0x03] = NUMBER, [0x04] = ABSENT, [0x07] = NAME, [0x08] = ABSENT, [0x0B] = LAMP,
+     [0x0D] = IDENTITY, [0x0E] = NUMBER, [0x11] = CALL_TYPE, [0x12] = NUMBER, [0x13] = WAITING, [0x15] = FORWARDED,
+     [0x16] = USER},
+    {[0x01] = DATE, [0x02] = OLD_NUMBER, [0x04] = ABSENT, [0x07] = OLD_NAME, [0x0B] = LAMP, [0x12] = OLD_NUMBER,
+     [0x15] = OLD_FORWARDED, [0x16] = OLD_USER},
 };
-static const uint8_t least[11] = {1, 8, 1, 1, 1, 1, 3, 1, 1, 1, 1};
-static const uint8_t most[11] = {253, 8, 20, 1, 50, 1, 3, 1, 1, 1, 1};
+static const uint8_t least[15] = {1, 8, 1, 1, 1, 1, 3, 1, 1, 1, 1, 1, 1, 1, 1};
+static const uint8_t most[15] = {253, 8, 20, 1, 50, 1, 3, 1, 1, 1, 1, 18, 20, 1, 1};
 static const uint8_t from[4] = {1, 1, 0, 0}, to[4] = {12, 31, 23, 59};
 static const uint8_t days[13] = {31, 31, 29, 31, 30, 31, 30, 31, 31, 30, 31, 30, 31};
 
-static uint64_t word(unsigned number, unsigned place, unsigned size, size_t taken, unsigned parameter) {
-    return number | (uint64_t)place << 8 | (uint64_t)size << 24 | (uint64_t)taken << 40 | (uint64_t)parameter << 56;
+static uint64_t word(unsigned edition, unsigned number, unsigned place, unsigned size, size_t taken,
+                     unsigned parameter) {
+    return number | (uint64_t)place << 8 | (uint64_t)size << 24 | (uint64_t)taken << 40 | (uint64_t)parameter << 56
+         | (uint64_t)edition << 63;
 }
+
+/* 16 and 17 name no edition */
+static uint64_t refused(unsigned number) { return word(0, number, 0, 0, 0, 0); }
 
 static int among(unsigned lo, unsigned hi, unsigned x) { return lo <= x && x <= hi; }
 
+/* each edition has classes of its own; of one that is not known any may stand */
+static int class_known(const struct state *s) {
+    if (s->edition == PRESENT) return s->class <= USER;
+    if (s->edition == OLD && s->class <= USER)
+        return s->class == CARRIED || s->class == DATE || s->class == ABSENT || s->class == LAMP;
+    return s->class <= OLD_USER;
+}
+
+/* a refusal's: 10 where the edition is not known */
+static int number_known(const struct state *s) {
+    return among(1, 6, s->number) || (s->number == 10 && s->edition > OLD);
+}
+
 /* a refusal's: with a type, a length or contents from 1 to the most that a message holds, else none */
 static int parameter_known(const struct state *s) {
-    return among(3, 5, s->number) ? among(1, 85, s->parameter) : s->parameter == 0;
+    return among(3, 5, s->number) || s->number == 10 ? among(1, 85, s->parameter) : s->parameter == 0;
 }
 
 static int in_range(const struct state *s) {
@@ -40,21 +63,21 @@ static int in_range(const struct state *s) {
     case SIZE: return (inner | s->room | s->number | s->parameter) == 0 && s->place == 1;
     case HEADER: return (inner | s->number) == 0 && among(5, 257, s->place + s->room) && least_place + 2 <= s->place;
     case LENGTH:
-        return (s->length | s->index | s->memory | s->number) == 0 && s->class <= USER && s->room >= 1
+        return (s->length | s->index | s->memory | s->number) == 0 && class_known(s) && s->room >= 1
             && among(6, 258, s->place + s->room) && s->parameter >= 1 && least_place <= s->place;
     case CONTENT:
-        return s->number == 0 && s->class <= USER && s->index < s->length
+        return s->number == 0 && class_known(s) && s->index < s->length
             && among(5 + s->index, 257 + s->index, s->place + s->length + s->room) && s->parameter >= 1
             && least_place + 1 + s->index <= s->place;
     case MESSAGE: return (inner | s->sum | s->room | s->number | s->parameter) == 0 && among(6, 258, s->place);
     case REFUSED:
-        return (inner | s->sum | s->room) == 0 && among(1, 6, s->number) && s->place <= 257 && parameter_known(s);
+        return (inner | s->sum | s->room) == 0 && number_known(s) && s->place <= 257 && parameter_known(s);
     default: return 0;
     }
 }
 
 static int load(struct state *s, const uint8_t *r) {
-    if (r[11] | r[12] | r[13] | r[14] | r[15]) return 0;
+    if (r[12] | r[13] | r[14] | r[15]) return 0;
     s->stage = r[0];
     s->sum = r[1];
     s->place = r[2] | (unsigned)r[3] << 8;
@@ -65,6 +88,7 @@ static int load(struct state *s, const uint8_t *r) {
     s->room = r[8];
     s->number = r[9];
     s->parameter = r[10];
+    s->edition = r[11];
     return in_range(s);
 }
 
@@ -80,11 +104,14 @@ static void store(const struct state *s, uint8_t *r) {
     r[8] = (uint8_t)s->room;
     r[9] = (uint8_t)s->number;
     r[10] = (uint8_t)s->parameter;
-    memset(r + 11, 0, 5);
+    r[11] = (uint8_t)s->edition;
+    memset(r + 12, 0, 4);
 }
 
 static void ends(struct state *s, unsigned stage, unsigned place, unsigned number, unsigned parameter) {
+    unsigned edition = s->edition;
     memset(s, 0, sizeof *s);
+    s->edition = edition;
     s->stage = stage;
     s->place = place;
     s->number = number;
@@ -123,13 +150,17 @@ static int content_octet(const struct state *s, unsigned x) {
     switch (s->class) {
     case DATE: return date_octet(s, x);
     case NUMBER: return among('0', '9', x) || among('(', '*', x) || x == '#' || x == ' ' || x == '-';
-    case NAME: return among(0x20, 0x7E, x);
+    case NAME:
+    case OLD_NAME: return among(0x20, 0x7E, x);
+    case OLD_NUMBER: return among('0', '9', x);
     case ABSENT: return s->index || x == 'O' || x == 'P';
     case LAMP: return s->index || x == 0x00 || x == 0xFF;
     case IDENTITY: return s->index || x == 0x00 || x == 0x55 || x == 0xFF;
     case CALL_TYPE: return s->index || among(1, 7, x) || among(0x10, 0x11, x) || among(0x50, 0x51, x) || x >= 0x81;
     case FORWARDED: return s->index || x <= 6 || x >= 0x80;
     case USER: return s->index || x <= 0x0F;
+    case OLD_FORWARDED: return s->index || x <= 6;
+    case OLD_USER: return s->index || x == 0 || among(3, 5, x) || among(0x0A, 0x0D, x) || x == 0x0F;
     default: return 1;
     }
 }
@@ -157,9 +188,9 @@ static unsigned judge(struct state *s, unsigned x) {
         return 0;
     case HEADER:
         s->parameter++;
-        if (!possible(class_of[x], s->room)) return 3;
+        if (!possible(class_of[s->edition][x], s->room)) return 3;
         s->stage = LENGTH;
-        s->class = class_of[x];
+        s->class = class_of[s->edition][x];
         return 0;
     case LENGTH:
         if (!among(least[s->class], most[s->class], x) || !room_left(x, s->room)) return 4;
@@ -193,17 +224,20 @@ static size_t hear(struct state *s, const uint8_t *o, size_t n) {
     return taken;
 }
 
-uint64_t peer_reset(uint8_t *record, size_t size) {
-    if (size != 16) return word(17, 0, 0, 0, 0);
+uint64_t peer_reset(uint8_t edition, uint8_t *record, size_t size) {
+    if (size != 16) return refused(17);
+    if (edition > OLD) return refused(16);
     memset(record, 0, 16);
-    return 0;
+    record[11] = edition;
+    return word(edition, 0, 0, 0, 0, 0);
 }
 
 uint64_t peer_listen(uint8_t *record, size_t size, const uint8_t *octets, size_t count) {
     struct state s;
-    if (size != 16 || !load(&s, record)) return word(17, 0, 0, 0, 0);
+    if (size != 16 || !load(&s, record)) return refused(17);
+    if (s.edition > OLD) return refused(16);
     size_t taken = hear(&s, octets, count);
     store(&s, record);
-    if (s.stage == REFUSED) return word(s.number, s.place, 0, taken, s.parameter);
-    return word(0, 0, s.stage == MESSAGE ? s.place : 0, taken, 0);
+    if (s.stage == REFUSED) return word(s.edition, s.number, s.place, 0, taken, s.parameter);
+    return word(s.edition, 0, 0, s.stage == MESSAGE ? s.place : 0, taken, 0);
 }

@@ -5,7 +5,7 @@
 #include <stddef.h>
 #include <stdint.h>
 
-uint64_t peer_reset(uint8_t *record, size_t size);
+uint64_t peer_reset(uint8_t edition, uint8_t *record, size_t size);
 uint64_t peer_listen(uint8_t *record, size_t size, const uint8_t *octets, size_t count);
 
 #endif

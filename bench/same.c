@@ -1,8 +1,9 @@
 /* The peers of the benchmark do our work: the same words, records and areas.
- * The plain listener and the tuned C hear traffic in random runs, and records
- * of random octets; the tuned C reads it into areas of random sizes, and
- * settles it on a desk that lives on and on desks of random octets. Usage:
- * same [SEED] */
+ * The plain listener and the tuned C hear traffic of both editions in random
+ * runs, by the edition that it is of or by the other, and records of random
+ * octets; the tuned C reads it into areas of random sizes, and settles it on a
+ * desk that lives on and on desks of random octets. Unknown editions are named
+ * now and then. Usage: same [SEED] */
 #include <stdio.h>
 #include <stdlib.h>
 #include <string.h>
@@ -16,11 +17,30 @@ enum { MESSAGES = 40000, ANY = 60 };
 
 static unsigned long heard, sound, reads, accepted, nines, settled, done, full;
 
+/* answers that name the old edition, and those with 16 */
+static unsigned long old, unknown;
+
 static void fail(const char *what, uint64_t x, uint64_t y)
 {
     printf("same: %s: %llx and %llx, or another record\n", what,
            (unsigned long long)x, (unsigned long long)y);
     exit(1);
+}
+
+static void names(uint64_t answer)
+{
+    old += anthercup_edition(answer) == ANTHERCUP_OLD;
+    unknown += anthercup_number(answer) == ANTHERCUP_REFUSED_EDITION;
+}
+
+/* Often this one, now and then the other, or any. */
+static uint8_t any_edition(struct traffic *t, uint8_t edition)
+{
+    if (traffic_number(t, 8))
+        return edition;
+    if (traffic_number(t, 2))
+        return (uint8_t)(1 - edition);
+    return (uint8_t)traffic_number(t, traffic_number(t, 2) ? 4 : 256);
 }
 
 /* ---- Listening ---- */
@@ -37,33 +57,52 @@ static void all_hear(struct records *r, size_t size, const uint8_t *o,
     uint64_t z = tuned_listen(r->tuned, size, o, n);
 
     heard++;
-    sound += anthercup_number(x) != ANTHERCUP_REFUSED_RECORD;
+    names(x);
+    sound += anthercup_number(x) != ANTHERCUP_REFUSED_RECORD
+             && anthercup_number(x) != ANTHERCUP_REFUSED_EDITION;
     if (x != y || memcmp(r->ours, r->peer, size) != 0)
         fail("listen", x, y);
     if (x != z || memcmp(r->ours, r->tuned, size) != 0)
         fail("listen, tuned", x, z);
 }
 
-static void in_runs(struct traffic *t, const uint8_t *o, size_t n)
+/* A reset of records that hold anything; whether it was refused. */
+static int all_reset(struct records *r, uint8_t edition, size_t size)
+{
+    uint64_t x = anthercup_reset(edition, r->ours, size);
+    uint64_t y = peer_reset(edition, r->peer, size);
+    uint64_t z = tuned_reset(edition, r->tuned, size);
+
+    names(x);
+    if (x != y || memcmp(r->ours, r->peer, ANY) != 0)
+        fail("reset", x, y);
+    if (x != z || memcmp(r->ours, r->tuned, ANY) != 0)
+        fail("reset, tuned", x, z);
+    return anthercup_number(x) != 0;
+}
+
+static void in_runs(struct traffic *t, uint8_t edition, const uint8_t *o,
+                    size_t n)
 {
     struct records r;
 
-    anthercup_reset(r.ours, ANTHERCUP_LISTENER_OCTETS);
-    peer_reset(r.peer, ANTHERCUP_LISTENER_OCTETS);
-    tuned_reset(r.tuned, ANTHERCUP_LISTENER_OCTETS);
+    memset(&r, (int)traffic_number(t, 256), sizeof r);
+    if (all_reset(&r, edition, ANTHERCUP_LISTENER_OCTETS))
+        return;
     for (size_t at = 0, run; at < n; at += run) {
         run = traffic_number(t, 12);
         if (run > n - at)
             run = n - at;
         all_hear(&r, ANTHERCUP_LISTENER_OCTETS, o + at, run);
     }
+    all_reset(&r, any_edition(t, edition), traffic_number(t, 40));
 }
 
 static uint8_t any_octet(struct traffic *t)
 {
     if (traffic_number(t, 2))
         return 0;
-    return (uint8_t)traffic_number(t, traffic_number(t, 8) ? 14 : 256);
+    return (uint8_t)traffic_number(t, traffic_number(t, 8) ? 17 : 256);
 }
 
 /* Parameters near the most that the octets so far can hold, or that any message
@@ -77,7 +116,8 @@ static uint8_t near_most(struct traffic *t, const uint8_t *record)
     return (uint8_t)(most + traffic_number(t, 4) - 2);
 }
 
-/* Octets 1 to 10 that the stage does not use are 0, a bit for each. */
+/* Octets 1 to 10 that the stage does not use are 0, a bit for each; the edition
+ * is often one that there is. */
 static void tidy(uint8_t *record)
 {
     static const uint16_t unused[] = {0x7FC, 0x7F8, 0x2F0, 0x2E0,
@@ -97,8 +137,10 @@ static void any_record(struct traffic *t, const uint8_t *o, size_t n)
 
     for (size_t i = 0; i < size; i++)
         r.ours[i] = any_octet(t);
-    if (size > 11 && traffic_number(t, 2))
-        memset(r.ours + 11, 0, size - 11);
+    if (size > 12 && traffic_number(t, 4)) {
+        memset(r.ours + 12, 0, size - 12);
+        r.ours[11] = any_edition(t, (uint8_t)traffic_number(t, 2));
+    }
     if (size > 10 && traffic_number(t, 2))
         r.ours[9] = 0, r.ours[0] = 4;
     if (size > 10 && traffic_number(t, 2))
@@ -112,7 +154,8 @@ static void any_record(struct traffic *t, const uint8_t *o, size_t n)
 
 /* ---- Reading ---- */
 
-static void both_read(struct traffic *t, const uint8_t *o, size_t n)
+static void both_read(struct traffic *t, uint8_t edition, const uint8_t *o,
+                      size_t n)
 {
     static uint8_t a[700], b[700], s[300], u[300];
     size_t size = traffic_number(t, 50) ? ANTHERCUP_DRAFT_OCTETS
@@ -125,9 +168,10 @@ static void both_read(struct traffic *t, const uint8_t *o, size_t n)
         a[i] = b[i] = (uint8_t)traffic_number(t, 256);
     memset(s, 0xEE, sizeof s);
     memset(u, 0xEE, sizeof u);
-    x = anthercup_read(o, n, a, size, s, area);
-    y = tuned_read(o, n, b, size, u, area);
+    x = anthercup_read(edition, o, n, a, size, s, area);
+    y = tuned_read(edition, o, n, b, size, u, area);
     reads++;
+    names(x);
     accepted += anthercup_number(x) == 0;
     nines += anthercup_number(x) == ANTHERCUP_REFUSED_AREA;
     if (x != y || memcmp(a, b, sizeof a) || memcmp(s, u, sizeof s))
@@ -136,13 +180,14 @@ static void both_read(struct traffic *t, const uint8_t *o, size_t n)
 
 /* ---- Settling ---- */
 
-static void both_settle(uint8_t *a, uint8_t *b, size_t size, const uint8_t *o,
-                        size_t n)
+static void both_settle(uint8_t edition, uint8_t *a, uint8_t *b, size_t size,
+                        const uint8_t *o, size_t n)
 {
-    uint64_t x = anthercup_settle(a, size, o, n);
-    uint64_t y = tuned_settle(b, size, o, n);
+    uint64_t x = anthercup_settle(edition, a, size, o, n);
+    uint64_t y = tuned_settle(edition, b, size, o, n);
 
     settled++;
+    names(x);
     done += anthercup_number(x) == 0;
     full += anthercup_number(x) == ANTHERCUP_REFUSED_NO_PLACE;
     if (x != y || memcmp(a, b, ANTHERCUP_DESK_OCTETS))
@@ -167,25 +212,28 @@ static void any_desk(struct traffic *t, const uint8_t *o, size_t n)
         a[i + 2] = traffic_number(t, 100) == 0;
     }
     memcpy(b, a, sizeof b);
-    both_settle(a, b, size, o, n);
+    both_settle(any_edition(t, ANTHERCUP_PRESENT), a, b, size, o, n);
 }
 
 static void one_message(struct traffic *t, uint8_t *a, uint8_t *b,
                         const uint8_t *o, size_t n)
 {
-    in_runs(t, o, n);
+    uint8_t edition = any_edition(t, t->edition);
+
+    in_runs(t, edition, o, n);
     for (int k = 0; k < 20; k++)
         any_record(t, o, n);
-    both_read(t, o, n);
-    both_settle(a, b, ANTHERCUP_DESK_OCTETS, o, n);
+    both_read(t, edition, o, n);
+    both_settle(edition, a, b, ANTHERCUP_DESK_OCTETS, o, n);
 }
 
 static void one_notice(struct traffic *t, uint8_t *a, uint8_t *b, uint8_t *o)
 {
     size_t n = traffic_about(t, o);
+    uint8_t edition = any_edition(t, ANTHERCUP_PRESENT);
 
-    both_read(t, o, n);
-    both_settle(a, b, ANTHERCUP_DESK_OCTETS, o, n);
+    both_read(t, edition, o, n);
+    both_settle(edition, a, b, ANTHERCUP_DESK_OCTETS, o, n);
     any_desk(t, o, n);
     if (traffic_number(t, 40) == 0) {
         anthercup_new_desk(a, ANTHERCUP_DESK_OCTETS);
@@ -203,14 +251,18 @@ int main(int argc, char **argv)
     anthercup_new_desk(a, sizeof a);
     tuned_new_desk(b, sizeof b);
     for (int i = 0; i < MESSAGES; i++) {
-        size_t n = i % 8 ? traffic_next(&t, o) : traffic_dated(&t, o);
+        size_t n;
 
+        t.edition = (uint8_t)traffic_number(&t, 2);
+        n = i % 8 ? traffic_next(&t, o) : traffic_dated(&t, o);
         one_message(&t, a, b, o, n);
         for (int k = 0; k < 5; k++)
             one_notice(&t, a, b, o);
     }
     printf("same: %lu calls of listen alike, %lu on sound records; %lu reads, "
-           "%lu accepted, %lu with 9; %lu settlings, %lu done, %lu with 21\n",
-           heard, sound, reads, accepted, nines, settled, done, full);
-    return !(sound && accepted && nines && done && full);
+           "%lu accepted, %lu with 9; %lu settlings, %lu done, %lu with 21; "
+           "%lu answers name the old edition, %lu are 16\n",
+           heard, sound, reads, accepted, nines, settled, done, full, old,
+           unknown);
+    return !(sound && accepted && nines && done && full && old && unknown);
 }

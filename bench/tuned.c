@@ -1,9 +1,10 @@
 /* The listener, the whole read and the desk as an embedded C programmer would
- * tune them, on the records of include/anthercup.h and with its answers: one
- * table of octet kinds and one of types, the record taken as two words (low
- * octet first, so for little-endian machines), each stage reading and writing
- * only what it needs, contents in runs, a header judged at once where its
- * length octet is there too. Portable C99: no intrinsics, no alignment asked.
+ * tune them, on the records of include/anthercup.h and with its answers: a
+ * table of octet kinds and one of types for each edition, the record taken as
+ * two words (low octet first, so for little-endian machines), each stage
+ * reading and writing only what it needs, contents in runs, a header judged at
+ * once where its length octet is there too. Portable C99: no intrinsics, no
+ * alignment asked.
  */
 #include "tuned.h"
 
@@ -22,12 +23,18 @@ enum {
     WAITING,
     FORWARDED,
     USER,
+    OLD_NUMBER,
+    OLD_NAME,
+    OLD_FORWARDED,
+    OLD_USER,
     CLASSES
 };
+enum { OLD = 1, EDITIONS };
 enum { CODE_VALUE, DATE_VALUE, STATE_VALUE, TEXT_VALUE, CARRIED_VALUE };
 
 /* The kinds that an octet belongs to, a bit for each class that judges octets
- * by a set. */
+ * by a set; the old edition's classes have the bits of the present ones, in a
+ * table of its own. */
 enum {
     IN_NUMBER = 1,
     IN_NAME = 2,
@@ -57,17 +64,64 @@ enum {
     ((x) >= 0x81 ? IN_CALL_TYPE : 0) | ((x) >= 0x80 ? IN_FORWARDED : 0) \
         | ((x) == 0xFF ? IN_LAMP | IN_IDENTITY : 0)
 #define OF(x) (uint8_t)((LOW(x)) | (MID(x)) | (HIGH(x)))
-#define ROW4(x) OF(x), OF((x) + 1), OF((x) + 2), OF((x) + 3)
-#define ROW16(x) ROW4(x), ROW4((x) + 4), ROW4((x) + 8), ROW4((x) + 12)
-#define ROW64(x) ROW16(x), ROW16((x) + 16), ROW16((x) + 32), ROW16((x) + 48)
-static const uint8_t kinds_of[256] = {ROW64(0), ROW64(64), ROW64(128),
-                                      ROW64(192)};
+#define OLD_OF(x)                                                           \
+    (uint8_t)(((x) == 0x00 || (x) == 0xFF ? IN_LAMP : 0)                    \
+              | ((x) <= 6 ? IN_FORWARDED : 0)                               \
+              | ((x) == 0 || ((x) >= 3 && (x) <= 5)                         \
+                         || ((x) >= 0x0A && (x) <= 0x0D) || (x) == 0x0F     \
+                     ? IN_USER                                              \
+                     : 0)                                                   \
+              | ((x) >= 0x20 && (x) <= 0x7E ? IN_NAME : 0)                  \
+              | ((x) >= '0' && (x) <= '9' ? IN_NUMBER : 0)                  \
+              | ((x) == 'O' || (x) == 'P' ? IN_ABSENT : 0))
+#define ROW4(of, x) of(x), of((x) + 1), of((x) + 2), of((x) + 3)
+#define ROW16(of, x) \
+    ROW4(of, x), ROW4(of, (x) + 4), ROW4(of, (x) + 8), ROW4(of, (x) + 12)
+#define ROW64(of, x) \
+    ROW16(of, x), ROW16(of, (x) + 16), ROW16(of, (x) + 32), ROW16(of, (x) + 48)
+static const uint8_t kinds_of[EDITIONS][256] = {
+    {ROW64(OF, 0), ROW64(OF, 64), ROW64(OF, 128), ROW64(OF, 192)},
+    {ROW64(OLD_OF, 0), ROW64(OLD_OF, 64), ROW64(OLD_OF, 128),
+     ROW64(OLD_OF, 192)},
+};
 
-static const uint8_t class_of[256] = {
-    [0x01] = DATE,      [0x02] = NUMBER,    [0x03] = NUMBER, [0x04] = ABSENT,
-    [0x07] = NAME,      [0x08] = ABSENT,    [0x0B] = LAMP,   [0x0D] = IDENTITY,
-    [0x0E] = NUMBER,    [0x11] = CALL_TYPE, [0x12] = NUMBER, [0x13] = WAITING,
-    [0x15] = FORWARDED, [0x16] = USER,
+static const uint8_t class_of[EDITIONS][256] = {
+    {
+        [0x01] = DATE,
+        [0x02] = NUMBER,
+        [0x03] = NUMBER,
+        [0x04] = ABSENT,
+        [0x07] = NAME,
+        [0x08] = ABSENT,
+        [0x0B] = LAMP,
+        [0x0D] = IDENTITY,
+        [0x0E] = NUMBER,
+        [0x11] = CALL_TYPE,
+        [0x12] = NUMBER,
+        [0x13] = WAITING,
+        [0x15] = FORWARDED,
+        [0x16] = USER,
+    },
+    {
+        [0x01] = DATE,
+        [0x02] = OLD_NUMBER,
+        [0x04] = ABSENT,
+        [0x07] = OLD_NAME,
+        [0x0B] = LAMP,
+        [0x12] = OLD_NUMBER,
+        [0x15] = OLD_FORWARDED,
+        [0x16] = OLD_USER,
+    },
+};
+
+/* The classes that a record may have, a bit each: of the present edition, of
+ * the old one, and of all that are not known. */
+#define COMMON (1 << CARRIED | 1 << DATE | 1 << ABSENT | 1 << LAMP)
+static const uint16_t classes_of[EDITIONS + 1] = {
+    (1 << OLD_NUMBER) - 1,
+    COMMON | 1 << OLD_NUMBER | 1 << OLD_NAME | 1 << OLD_FORWARDED
+        | 1 << OLD_USER,
+    (1 << CLASSES) - 1,
 };
 
 /* By class: the least length and how far above it the greatest is, the kinds
@@ -87,7 +141,17 @@ static const struct rule {
     {1, 0, 0, CODE_VALUE},
     {1, 0, IN_FORWARDED, CODE_VALUE},
     {1, 0, IN_USER, CODE_VALUE},
+    {1, 17, IN_NUMBER, TEXT_VALUE},
+    {1, 19, IN_NAME, TEXT_VALUE},
+    {1, 0, IN_FORWARDED, CODE_VALUE},
+    {1, 0, IN_USER, CODE_VALUE},
 };
+
+/* The bit of a word that names the edition; 16 and 17 name none. */
+static uint64_t named(unsigned edition)
+{
+    return (uint64_t)edition << 63;
+}
 
 static uint64_t word(unsigned number, unsigned place, unsigned size,
                      size_t taken)
@@ -189,12 +253,14 @@ static unsigned remember_all(const uint8_t *p, const uint8_t *end,
 }
 
 /* The first place from p on whose octet may not stand there, or the end; the
- * first of them, one at least, stands at `index`. */
-static const uint8_t *fine(struct rule c, const uint8_t *p, const uint8_t *end,
+ * first of them, one at least, stands at `index`. Octets are judged by the
+ * edition's kinds. */
+static const uint8_t *fine(struct rule c, const uint8_t *kinds,
+                           const uint8_t *p, const uint8_t *end,
                            unsigned index, unsigned memory)
 {
     if (c.form == TEXT_VALUE) {
-        while (kinds_of[*p] & c.kinds)
+        while (kinds[*p] & c.kinds)
             if (++p == end)
                 break;
         return p;
@@ -207,7 +273,7 @@ static const uint8_t *fine(struct rule c, const uint8_t *p, const uint8_t *end,
         }
         return p;
     }
-    return index || !c.kinds || kinds_of[*p] & c.kinds ? end : p;
+    return index || !c.kinds || kinds[*p] & c.kinds ? end : p;
 }
 
 static unsigned sum_of(const uint8_t *p, const uint8_t *end, unsigned sum)
@@ -218,41 +284,48 @@ static unsigned sum_of(const uint8_t *p, const uint8_t *end, unsigned sum)
     return s;
 }
 
-uint64_t tuned_reset(uint8_t *r, size_t size)
+uint64_t tuned_reset(uint8_t edition, uint8_t *r, size_t size)
 {
     if (size != 16)
         return word(17, 0, 0, 0);
-    record(r, 0, 0);
-    return 0;
+    if (edition >= EDITIONS)
+        return word(16, 0, 0, 0);
+    record(r, 0, (uint64_t)edition << 24);
+    return named(edition);
 }
 
 static uint64_t refused(uint8_t *r, unsigned number, unsigned place,
                         unsigned parameter, size_t taken)
 {
-    record(r, REFUSED | (uint64_t)place << 16, number << 8 | parameter << 16);
-    return fault(number, place, parameter, taken);
+    unsigned edition = r[11];
+    record(r, REFUSED | (uint64_t)place << 16,
+           number << 8 | parameter << 16 | edition << 24);
+    return fault(number, place, parameter, taken) | named(edition);
 }
 
 /* A run of octets, or none; tuned_listen has judged the record of a waiting
  * listener. What the run took is summed where it stops; a parameter is counted
  * as its type is looked at. */
-static uint64_t run_on(uint8_t *r, uint64_t low, unsigned room,
-                       unsigned parameter, const uint8_t *o, size_t count)
+static uint64_t run_on(uint8_t *r, const uint8_t *o, size_t count)
 {
+    const uint64_t low = load(r);
     const uint8_t *p = o, *end = o + count, *stop, *good;
-    unsigned sum = (unsigned)(low >> 8) & 0xff,
+    const unsigned edition = r[11], kept = edition << 24;
+    const uint8_t *classes = class_of[edition], *kinds = kinds_of[edition];
+    unsigned room = r[8], parameter = r[10],
+             sum = (unsigned)(low >> 8) & 0xff,
              place = (unsigned)(low >> 16) & 0xffff, class, length, index = 0,
              memory = 0, number;
     if (count == 0)
-        return 0;
+        return named(edition);
     switch (low & 0xff) {
     case KIND:
         number = 1;
         if (*p != 0x80 && *p != 0x82)
             goto refuse;
         if (++p == end) {
-            record(r, SIZE | ((sum + *o) & 0xff) << 8 | 1 << 16, 0);
-            return word(0, 0, 0, count);
+            record(r, SIZE | ((sum + *o) & 0xff) << 8 | 1 << 16, kept);
+            return word(0, 0, 0, count) | named(edition);
         }
         /* fall through */
     case SIZE:
@@ -282,7 +355,7 @@ static uint64_t run_on(uint8_t *r, uint64_t low, unsigned room,
     content:
         number = 5;
         stop = (size_t)(end - p) < length - index ? end : p + (length - index);
-        good = fine(rules[class], p, stop, index, memory);
+        good = fine(rules[class], kinds, p, stop, index, memory);
         if (class == DATE)
             memory = remember_all(p, good, index, memory);
         index += (unsigned)(stop - p);
@@ -298,10 +371,10 @@ static uint64_t run_on(uint8_t *r, uint64_t low, unsigned room,
             place += (unsigned)(p - o);
             if (sum_of(o, p, sum))
                 return refused(r, 6, place - 1, 0, (size_t)(p - o));
-            record(r, MESSAGE | place << 16, 0);
-            return word(0, 0, place, (size_t)(p - o));
+            record(r, MESSAGE | place << 16, kept);
+            return word(0, 0, place, (size_t)(p - o)) | named(edition);
         }
-        class = class_of[*p];
+        class = classes[*p];
         parameter++;
         /* a length that fits says that the type was possible */
         if (p + 1 == end || !length_fits(rules[class], room, p[1])) {
@@ -315,8 +388,8 @@ static uint64_t run_on(uint8_t *r, uint64_t low, unsigned room,
                    LENGTH | (uint64_t)sum_of(o, p, sum) << 8
                        | (uint64_t)(place + count) << 16
                        | (uint64_t) class << 32,
-                   room | parameter << 16);
-            return word(0, 0, 0, count);
+                   room | parameter << 16 | kept);
+            return word(0, 0, 0, count) | named(edition);
         }
         length = p[1];
         room -= length + 2;
@@ -329,23 +402,23 @@ static uint64_t run_on(uint8_t *r, uint64_t low, unsigned room,
         }
         stop = p + length;
         number = 5;
-        p = fine(rules[class], p, stop, 0, 0);
+        p = fine(rules[class], kinds, p, stop, 0, 0);
         if (p < stop)
             goto refuse;
     }
     record(r,
            HEADER | (uint64_t)sum_of(o, p, sum) << 8
                | (uint64_t)(place + count) << 16,
-           room | parameter << 16);
-    return word(0, 0, 0, count);
+           room | parameter << 16 | kept);
+    return word(0, 0, 0, count) | named(edition);
 cut:
     record(r,
            CONTENT | (uint64_t)sum_of(o, p, sum) << 8
                | (uint64_t)(place + count) << 16 | (uint64_t) class << 32
                | (uint64_t)length << 40 | (uint64_t)index << 48
                | (uint64_t)(class == DATE ? memory : 0) << 56,
-           room | parameter << 16);
-    return word(0, 0, 0, count);
+           room | parameter << 16 | kept);
+    return word(0, 0, 0, count) | named(edition);
 refuse:
     return refused(r, number, place + (unsigned)(p - o), parameter,
                    (size_t)(p - o) + 1);
@@ -353,15 +426,25 @@ refuse:
 
 /* A record of a waiting listener, a message or a refusal is in range, and what
  * it does not use is 0. No parameter, where there must be one, wraps to more
- * than any place has room for. */
+ * than any place has room for. Any edition may stand. */
 static int room_and_parameter_alone(const uint8_t *r)
 {
-    return !(load(r + 8) & ~UINT64_C(0xff00ff));
+    return !(load(r + 8) & ~UINT64_C(0xffff00ff));
 }
 
-static int content_known(const uint8_t *r, unsigned place)
+static int edition_alone(const uint8_t *r)
 {
-    return room_and_parameter_alone(r) && r[4] < CLASSES && r[6] < r[5]
+    return !(load(r + 8) & ~UINT64_C(0xff000000));
+}
+
+static int class_known(const uint8_t *r, unsigned edition)
+{
+    return r[4] < CLASSES && classes_of[edition] >> r[4] & 1;
+}
+
+static int content_known(const uint8_t *r, unsigned place, unsigned edition)
+{
+    return room_and_parameter_alone(r) && class_known(r, edition) && r[6] < r[5]
            && place + r[5] - r[6] + r[8] - 5u <= 252
            && 3u * (uint8_t)(r[10] - 1) + 4 + r[6] <= place;
 }
@@ -372,30 +455,55 @@ static int header_known(const uint8_t *r, unsigned place)
            && place + r[8] - 5u <= 252 && 3u * r[10] + 2 <= place;
 }
 
-static int length_known(const uint8_t *r, unsigned place)
+static int length_known(const uint8_t *r, unsigned place, unsigned edition)
 {
-    return load(r) >> 32 < CLASSES && room_and_parameter_alone(r) && r[8]
+    return !(load(r) >> 40) && class_known(r, edition)
+           && room_and_parameter_alone(r) && r[8]
            && place + r[8] - 6u <= 252
            && 3u * (uint8_t)(r[10] - 1) + 3 <= place;
 }
 
 static int start_known(const uint8_t *r)
 {
-    return load(r) >> 16 == r[0] && !load(r + 8);
+    return load(r) >> 16 == r[0] && edition_alone(r);
 }
 
 static int message_known(const uint8_t *r, unsigned place)
 {
-    return !(load(r) & 0xffffffff0000ff00) && !load(r + 8) && place - 6 <= 252;
+    return !(load(r) & 0xffffffff0000ff00) && edition_alone(r)
+           && place - 6 <= 252;
 }
 
-/* a parameter's with 3 to 5, none's with 1, 2 and 6 */
+/* a parameter's with 3 to 5, none's with 1, 2 and 6; 10 is a parameter's, and
+ * known where the edition is not */
 static int refusal_known(const uint8_t *r, unsigned place)
 {
     return !(load(r) & 0xffffffff0000ff00)
-           && load(r + 8) == (r[9] | (uint64_t)r[10] << 8) << 8
-           && r[9] - 1u <= 5 && place <= 257
-           && (r[9] - 3u <= 2 ? r[10] - 1u <= 84 : !r[10]);
+           && !(load(r + 8) & ~UINT64_C(0xffffff00))
+           && (r[9] - 1u <= 5 || (r[9] == 10 && r[11] >= EDITIONS))
+           && place <= 257
+           && (r[9] - 3u <= 2 || r[9] == 10 ? r[10] - 1u <= 84 : !r[10]);
+}
+
+static int in_range(const uint8_t *r, unsigned place)
+{
+    switch (r[0]) {
+    case KIND:
+    case SIZE:
+        return start_known(r);
+    case HEADER:
+        return header_known(r, place);
+    case LENGTH:
+        return length_known(r, place, EDITIONS);
+    case CONTENT:
+        return content_known(r, place, EDITIONS);
+    case MESSAGE:
+        return message_known(r, place);
+    case REFUSED:
+        return refusal_known(r, place);
+    default:
+        return 0;
+    }
 }
 
 static void spot(uint8_t *r, unsigned stage, unsigned sum, unsigned place)
@@ -404,90 +512,133 @@ static void spot(uint8_t *r, unsigned stage, unsigned sum, unsigned place)
     memcpy(r, &w, 4);
 }
 
-/* One octet of a parameter, as a modem hands them over: only what its stage
- * uses is read and written. Anything else goes to run_on. */
-uint64_t tuned_listen(uint8_t *r, size_t size, const uint8_t *o, size_t count)
+/* What a stage does with a run, its record, place and edition being handed
+ * over. One octet of a parameter, as a modem hands them over: only what the
+ * stage uses is read and written. Anything else goes to run_on. */
+static uint64_t at_content(uint8_t *r, unsigned place, unsigned edition,
+                           const uint8_t *o, size_t count)
 {
-    unsigned place, x;
-    if (size != 16)
+    unsigned x;
+    if (!content_known(r, place, edition))
         return word(17, 0, 0, 0);
-    place = r[2] | (unsigned)r[3] << 8;
-    switch (r[0]) {
-    case CONTENT:
-        if (!content_known(r, place))
-            break;
-        if (count != 1)
-            return run_on(r, load(r), r[8], r[10], o, count);
-        x = *o;
-        if (r[4] == DATE) {
-            if (!date_octet(r[6], r[7], x))
-                return refused(r, 5, place, r[10], 1);
-            r[7] = (uint8_t)remember(r[6], r[7], x);
-        } else {
-            struct rule c = rules[r[4]];
-            if (c.kinds && (r[6] == 0 || c.form == TEXT_VALUE)
-                && !(kinds_of[x] & c.kinds))
-                return refused(r, 5, place, r[10], 1);
-            r[7] = 0;
-        }
-        if (++r[6] == r[5]) {
-            store(r, HEADER | ((r[1] + x) & 0xff) << 8
-                         | (uint64_t)(place + 1) << 16);
-        } else {
-            spot(r, CONTENT, r[1] + x, place + 1);
-        }
-        return word(0, 0, 0, 1);
-    case HEADER:
-        if (!header_known(r, place))
-            break;
-        if (count != 1)
-            return run_on(r, load(r), r[8], r[10], o, count);
-        x = *o;
-        if (r[8] == 0) {
-            if ((r[1] + x) & 0xff)
-                return refused(r, 6, place, 0, 1);
-            record(r, MESSAGE | (uint64_t)(place + 1) << 16, 0);
-            return word(0, 0, place + 1, 1);
-        }
-        if (!possible(rules[class_of[x]], r[8]))
-            return refused(r, 3, place, r[10] + 1u, 1);
-        spot(r, LENGTH, r[1] + x, place + 1);
-        r[4] = class_of[x];
-        r[10]++;
-        return word(0, 0, 0, 1);
-    case LENGTH:
-        if (!length_known(r, place))
-            break;
-        if (count != 1)
-            return run_on(r, load(r), r[8], r[10], o, count);
-        x = *o;
-        if (!length_fits(rules[r[4]], r[8], x))
-            return refused(r, 4, place, r[10], 1);
-        spot(r, CONTENT, r[1] + x, place + 1);
-        r[5] = (uint8_t)x;
-        r[8] = (uint8_t)(r[8] - 2 - x);
-        return word(0, 0, 0, 1);
-    case KIND:
-    case SIZE:
-        if (!start_known(r))
-            break;
-        return run_on(r, load(r), 0, 0, o, count);
-    case MESSAGE:
-        if (!message_known(r, place))
-            break;
-        return word(0, 0, place, 0);
-    case REFUSED:
-        if (!refusal_known(r, place))
-            break;
-        return fault(r[9], place, r[10], 0);
+    if (count != 1)
+        return run_on(r, o, count);
+    x = *o;
+    if (r[4] == DATE) {
+        if (!date_octet(r[6], r[7], x))
+            return refused(r, 5, place, r[10], 1);
+        r[7] = (uint8_t)remember(r[6], r[7], x);
+    } else {
+        struct rule c = rules[r[4]];
+        if (c.kinds && (r[6] == 0 || c.form == TEXT_VALUE)
+            && !(kinds_of[edition][x] & c.kinds))
+            return refused(r, 5, place, r[10], 1);
+        r[7] = 0;
     }
+    if (++r[6] == r[5]) {
+        store(r, HEADER | ((r[1] + x) & 0xff) << 8
+                     | (uint64_t)(place + 1) << 16);
+    } else {
+        spot(r, CONTENT, r[1] + x, place + 1);
+    }
+    return word(0, 0, 0, 1) | named(edition);
+}
+
+static uint64_t at_header(uint8_t *r, unsigned place, unsigned edition,
+                          const uint8_t *o, size_t count)
+{
+    unsigned x, class;
+    if (!header_known(r, place))
+        return word(17, 0, 0, 0);
+    if (count != 1)
+        return run_on(r, o, count);
+    x = *o;
+    if (r[8] == 0) {
+        if ((r[1] + x) & 0xff)
+            return refused(r, 6, place, 0, 1);
+        record(r, MESSAGE | (uint64_t)(place + 1) << 16, edition << 24);
+        return word(0, 0, place + 1, 1) | named(edition);
+    }
+    class = class_of[edition][x];
+    if (!possible(rules[class], r[8]))
+        return refused(r, 3, place, r[10] + 1u, 1);
+    spot(r, LENGTH, r[1] + x, place + 1);
+    r[4] = (uint8_t) class;
+    r[10]++;
+    return word(0, 0, 0, 1) | named(edition);
+}
+
+static uint64_t at_length(uint8_t *r, unsigned place, unsigned edition,
+                          const uint8_t *o, size_t count)
+{
+    unsigned x;
+    if (!length_known(r, place, edition))
+        return word(17, 0, 0, 0);
+    if (count != 1)
+        return run_on(r, o, count);
+    x = *o;
+    if (!length_fits(rules[r[4]], r[8], x))
+        return refused(r, 4, place, r[10], 1);
+    spot(r, CONTENT, r[1] + x, place + 1);
+    r[5] = (uint8_t)x;
+    r[8] = (uint8_t)(r[8] - 2 - x);
+    return word(0, 0, 0, 1) | named(edition);
+}
+
+static uint64_t at_start(uint8_t *r, unsigned place, unsigned edition,
+                         const uint8_t *o, size_t count)
+{
+    (void)place;
+    (void)edition;
+    if (!start_known(r))
+        return word(17, 0, 0, 0);
+    return run_on(r, o, count);
+}
+
+/* A message, or a refusal: no octet is taken. */
+static uint64_t at_end(uint8_t *r, unsigned place, unsigned edition,
+                       const uint8_t *o, size_t count)
+{
+    (void)o;
+    (void)count;
+    if (r[0] == MESSAGE && message_known(r, place))
+        return word(0, 0, place, 0) | named(edition);
+    if (r[0] == REFUSED && refusal_known(r, place))
+        return fault(r[9], place, r[10], 0) | named(edition);
     return word(17, 0, 0, 0);
 }
 
-/* The verdict on a whole message, 0 or 1 to 8 with place and parameter as a
- * word; `texts` gets the text octets of an accepted one. */
-static uint64_t judge(const uint8_t *o, size_t n, unsigned *texts)
+/* The edition is not known: 17 where the record is out of range, else 16. */
+static uint64_t at_none(uint8_t *r, unsigned place, unsigned edition,
+                        const uint8_t *o, size_t count)
 {
+    (void)edition;
+    (void)o;
+    (void)count;
+    return word(in_range(r, place) ? 16 : 17, 0, 0, 0);
+}
+
+uint64_t tuned_listen(uint8_t *r, size_t size, const uint8_t *o, size_t count)
+{
+    static uint64_t (*const at[])(uint8_t *, unsigned, unsigned,
+                                  const uint8_t *, size_t) = {
+        at_start, at_start, at_header, at_length,
+        at_content, at_end, at_end, at_none};
+    unsigned stage, edition;
+    if (size != 16 || r[0] > REFUSED)
+        return word(17, 0, 0, 0);
+    edition = r[11];
+    stage = edition < EDITIONS ? r[0] : REFUSED + 1;
+    return at[stage](r, r[2] | (unsigned)r[3] << 8, edition, o, count);
+}
+
+/* The verdict on a whole message, 0 or 1 to 8 with place and parameter as a
+ * word that names no edition; `texts` gets the text octets of an accepted
+ * one. */
+static uint64_t judge(unsigned edition, const uint8_t *o, size_t n,
+                      unsigned *texts)
+{
+    const uint8_t *classes = class_of[edition], *kinds = kinds_of[edition];
     const uint8_t *p = o + 2, *end = o + n, *stop;
     unsigned room, text = 0, number, parameter = 0;
     if (n == 0)
@@ -504,7 +655,7 @@ static uint64_t judge(const uint8_t *o, size_t n, unsigned *texts)
         unsigned length;
         if (p == end)
             return word(8, (unsigned)n, 0, 0);
-        c = rules[class_of[*p]];
+        c = rules[classes[*p]];
         parameter++;
         if (p + 1 == end || !length_fits(c, room, p[1])) {
             number = 3;
@@ -521,13 +672,13 @@ static uint64_t judge(const uint8_t *o, size_t n, unsigned *texts)
         number = 5;
         if ((size_t)(end - p) < length) {
             if (p < end)
-                p = fine(c, p, end, 0, 0);
+                p = fine(c, kinds, p, end, 0, 0);
             if (p < end)
                 goto refuse;
             return word(8, (unsigned)n, 0, 0);
         }
         stop = p + length;
-        p = fine(c, p, stop, 0, 0);
+        p = fine(c, kinds, p, stop, 0, 0);
         if (p < stop)
             goto refuse;
         if (c.form >= TEXT_VALUE)
@@ -551,8 +702,9 @@ static unsigned digits(const uint8_t *p)
     return 10u * (p[0] & 15u) + (p[1] & 15u);
 }
 
-uint64_t tuned_read(const uint8_t *o, size_t n, uint8_t *draft,
-                    size_t draft_size, uint8_t *texts, size_t texts_size)
+uint64_t tuned_read(uint8_t edition, const uint8_t *o, size_t n,
+                    uint8_t *draft, size_t draft_size, uint8_t *texts,
+                    size_t texts_size)
 {
     const uint8_t *p, *end;
     uint8_t *cell = draft + 8, *to = texts;
@@ -560,13 +712,16 @@ uint64_t tuned_read(const uint8_t *o, size_t n, uint8_t *draft,
     uint64_t answer;
     if (draft_size != 688)
         return word(17, 0, 0, 0);
-    answer = judge(o, n, &text);
+    if (edition >= EDITIONS)
+        return word(16, 0, 0, 0);
+    answer = judge(edition, o, n, &text);
     if (answer)
-        return answer;
+        return answer | named(edition);
     if (texts_size < text)
-        return word(9, text, 0, 0);
+        return word(9, text, 0, 0) | named(edition);
     for (p = o + 2, end = o + n - 1; p < end; cell += 8) {
-        unsigned type = p[0], length = p[1], form = rules[class_of[type]].form;
+        unsigned type = p[0], length = p[1];
+        unsigned form = rules[class_of[edition][type]].form;
         uint64_t value;
         p += 2;
         switch (form) {
@@ -588,9 +743,10 @@ uint64_t tuned_read(const uint8_t *o, size_t n, uint8_t *draft,
         store(cell, type | form << 8 | value << 16);
         p += length;
     }
-    store(draft, o[0] | (uint64_t)(cell - draft - 8) / 8 << 8);
+    store(draft, o[0] | (uint64_t)(cell - draft - 8) / 8 << 8
+                     | (uint64_t)edition << 16);
     memset(cell, 0, (size_t)(draft + 688 - cell));
-    return word(0, 0, text, 0);
+    return word(0, 0, text, 0) | named(edition);
 }
 
 uint64_t tuned_new_desk(uint8_t *desk, size_t size)
@@ -643,16 +799,20 @@ static unsigned find(const uint8_t *desk, uint32_t place)
     return i;
 }
 
-uint64_t tuned_settle(uint8_t *desk, size_t size, const uint8_t *o, size_t n)
+/* A notice of the old edition says the lamp alone. */
+uint64_t tuned_settle(uint8_t edition, uint8_t *desk, size_t size,
+                      const uint8_t *o, size_t n)
 {
     const uint8_t *waiting = NULL, *lamp = NULL, *state = NULL;
     unsigned text, at;
     uint64_t answer;
     if (size != 52 || !is_desk(desk))
         return word(17, 0, 0, 0);
-    answer = judge(o, n, &text);
+    if (edition >= EDITIONS)
+        return word(16, 0, 0, 0);
+    answer = judge(edition, o, n, &text);
     if (answer || o[0] != 0x82)
-        return answer;
+        return answer | named(edition);
     for (const uint8_t *p = o + 2; p < o + n - 1; p += 2 + p[1]) {
         if (p[0] == 0x13 && !waiting)
             waiting = p + 2;
@@ -661,6 +821,8 @@ uint64_t tuned_settle(uint8_t *desk, size_t size, const uint8_t *o, size_t n)
         if (p[0] == 0x0D && !state)
             state = p + 2;
     }
+    if (edition == OLD)
+        waiting = state = NULL;
     if (state && state[0] != 0x55) {
         uint32_t place = 1 + (state[1] * 256u + state[2]);
         at = find(desk, place);
@@ -670,7 +832,7 @@ uint64_t tuned_settle(uint8_t *desk, size_t size, const uint8_t *o, size_t n)
         } else if (at == 16) {
             at = find(desk, 0);
             if (at == 16)
-                return word(21, 0, 0, 0);
+                return word(21, 0, 0, 0) | named(edition);
             put(desk, at, place);
         }
     }
@@ -678,5 +840,5 @@ uint64_t tuned_settle(uint8_t *desk, size_t size, const uint8_t *o, size_t n)
         desk[0] = 1, desk[1] = *waiting;
     if (lamp)
         desk[2] = *lamp ? 2 : 1;
-    return 0;
+    return named(edition);
 }

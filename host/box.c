@@ -1,7 +1,12 @@
 /* A box's program, to copy from. It hears octets from standard input as the
  * modem gives them, shows who calls, the lamp, how many messages wait and
- * which are open, and settles notices on a desk. A file named as its argument
- * is the directory: lines of caller=text.
+ * which are open, and settles notices on a desk. Its first argument is the
+ * edition that the line's exchange speaks, 0 the present one, 1 the old; it is
+ * 0 where none is named, as in the boxes in service. A file named as its second
+ * argument is the directory: lines of caller=text.
+ *
+ * A box has one edition: it is told at every reset of the listener, and to
+ * every other call.
  *
  * How a box listens. Before a message the line carries a channel seizure,
  * which a modem hears as some thirty octets 55H: while no message has begun
@@ -27,6 +32,7 @@ enum { DIRECTORY = 4096 };
 /* The listener keeps no octets: the message is those heard since the reset,
  * and they are held here. */
 struct box {
+    uint8_t edition;
     uint8_t listener[ANTHERCUP_LISTENER_OCTETS];
     uint8_t desk[ANTHERCUP_DESK_OCTETS];
     uint8_t held[ANTHERCUP_MESSAGE_OCTETS];
@@ -36,19 +42,21 @@ struct box {
     size_t directory_len;
 };
 
-/* Number, place, and which parameter of the message is at fault, 0 for none. */
+/* Number, place, which parameter of the message is at fault, 0 for none, and
+ * the edition by which it is. */
 static void show_refusal(uint64_t answer)
 {
     unsigned number = anthercup_number(answer);
 
-    printf("refused: %u at %u in %u, %s\n", number, anthercup_place(answer),
-           anthercup_parameter(answer), anthercup_text(number));
+    printf("refused: %u at %u in %u, %s (edition %u)\n", number,
+           anthercup_place(answer), anthercup_parameter(answer),
+           anthercup_text(number), anthercup_edition(answer));
 }
 
 /* Why a call has no caller, where the message says it. */
 static const char *absence(const struct box *b)
 {
-    uint64_t answer = anthercup_counted(b->held, b->count,
+    uint64_t answer = anthercup_counted(b->edition, b->held, b->count,
                                         ANTHERCUP_PARAMETER_CALLER_ABSENT);
 
     if (!anthercup_counts(answer))
@@ -62,8 +70,9 @@ static const char *absence(const struct box *b)
 static void show_call(const struct box *b)
 {
     uint8_t part[ANTHERCUP_PART_OCTETS];
-    uint64_t answer = anthercup_caption(b->held, b->count, b->directory,
-                                        b->directory_len, part, sizeof part);
+    uint64_t answer =
+        anthercup_caption(b->edition, b->held, b->count, b->directory,
+                          b->directory_len, part, sizeof part);
 
     if (anthercup_number(answer))
         show_refusal(answer);
@@ -98,7 +107,8 @@ static void show_message(struct box *b)
         show_call(b);
         return;
     }
-    answer = anthercup_settle(b->desk, sizeof b->desk, b->held, b->count);
+    answer = anthercup_settle(b->edition, b->desk, sizeof b->desk, b->held,
+                              b->count);
     if (anthercup_number(answer))
         show_refusal(answer);
     show_desk(b->desk);
@@ -107,7 +117,7 @@ static void show_message(struct box *b)
 /* The line pauses: whatever was heard of a message is over. */
 static void line_paused(struct box *b)
 {
-    anthercup_reset(b->listener, sizeof b->listener);
+    anthercup_reset(b->edition, b->listener, sizeof b->listener);
     b->count = 0;
     b->answered = 0;
 }
@@ -139,6 +149,16 @@ static void hear(struct box *b, const uint8_t *run, size_t n)
     }
 }
 
+/* The edition as it is told, 0 or 1 and nothing else: any other number would be
+ * refused at every call (16). */
+static int edition_told(struct box *b, const char *text)
+{
+    if (strcmp(text, "0") != 0 && strcmp(text, "1") != 0)
+        return 0;
+    b->edition = text[0] == '1' ? ANTHERCUP_OLD : ANTHERCUP_PRESENT;
+    return 1;
+}
+
 /* The directory from a file. */
 static int directory_read(struct box *b, const char *name)
 {
@@ -160,13 +180,18 @@ int main(int argc, char **argv)
     uint8_t run[64];
     ssize_t got = 1;
 
-    if (argc > 2) {
-        fprintf(stderr, "usage: box [DIRECTORY]\n");
+    if (argc > 3) {
+        fprintf(stderr, "usage: box [EDITION [DIRECTORY]]\n");
         return 2;
     }
-    if (argc > 1 && !directory_read(&b, argv[1])) {
+    if (argc > 1 && !edition_told(&b, argv[1])) {
+        fprintf(stderr, "box: %s is no edition: 0 is the present one, 1 the "
+                "old\n", argv[1]);
+        return 2;
+    }
+    if (argc > 2 && !directory_read(&b, argv[2])) {
         fprintf(stderr, "box: %s cannot be read, or has more than %d octets\n",
-                argv[1], DIRECTORY);
+                argv[2], DIRECTORY);
         return 2;
     }
     anthercup_new_desk(b.desk, sizeof b.desk);

@@ -1,12 +1,14 @@
-/* Traffic through the archive and the second reader in one process: each message is heard whole, octet by octet and
- * in runs of random cuts, and every answer, place, parameter, size and count of octets taken is held to what the
- * second reader says of the octets offered so far. Records are handed back after every call, the parameters begun in
- * them held to the second reader too; records with another parameter's number, and records of random octets, are
- * refused with 17 as they were, or are stepped. Each message is read whole, with areas on both sides of what its
- * texts need and records of other sizes: every entry, every text and all that must stay. Where what counts stands is
- * asked for some types, and the caption with directories of many kinds. Each is settled on a desk, twice, and so is a
- * history of messages about a few references, of which the last word on each is kept here too. Messages with dates at
- * the limits of their months follow. Says how many answers it compared; a difference ends it with status 1. */
+/* Traffic through the archive and the second reader in one process, of both editions (document 02, Q-5), now and then
+ * of one and judged by the other: each message is heard whole, octet by octet and in runs of random cuts, and every
+ * answer, place, parameter, size, edition and count of octets taken is held to what the second reader says of the
+ * octets offered so far. Records are handed back after every call, the parameters begun in them held to the second
+ * reader too, and their edition to that of the reset; records with another parameter's number or another edition, and
+ * records of random octets, are refused with 17 or 16 as they were, or are stepped, as the header says of them. Each
+ * message is read whole, with areas on both sides of what its texts need and records of other sizes: every entry, every
+ * text and all that must stay. Where what counts stands is asked for some types, and the caption with directories of
+ * many kinds. Each is settled on a desk, twice, and so is a history of messages about a few references, of which the
+ * last word on each is kept here too. Editions that there are not are named at every export. Messages with dates at the
+ * limits of their months follow. Says how many answers it compared; a difference ends it with status 1. */
 #include <stdio.h>
 #include <stdlib.h>
 #include <string.h>
@@ -19,6 +21,12 @@ static unsigned long compared, by_line;
 
 /* refusals of the first parameter, of a later one, of the last that a message can hold */
 static unsigned long in_first, in_later, in_last;
+
+/* records that octets did not lead to: heard, refused with 16, refused with 17 */
+static unsigned long records[3];
+
+/* messages judged by each edition, and those of them that are messages */
+static unsigned long judged[2], messages_of[2];
 
 static void differ(const char *what, const uint8_t *o, size_t n, unsigned long got, unsigned long wanted) {
     printf("traffic: %s: got %lu, wanted %lu, after", what, got, wanted);
@@ -35,7 +43,7 @@ static void same(const char *what, const uint8_t *o, size_t n, unsigned long got
 /* what the second reader says of the first n octets, given what it says of all: the answer where it has come by then,
  * else that it waits */
 static struct second_answer at_cut(struct second_answer whole, size_t n) {
-    struct second_answer waits = {SECOND_WAITS, 0, 0, 0, 0, n};
+    struct second_answer waits = {SECOND_WAITS, 0, 0, 0, 0, n, whole.edition};
     return whole.answer != SECOND_WAITS && whole.taken <= n ? whole : waits;
 }
 
@@ -47,12 +55,24 @@ static void as_second(const uint8_t *o, size_t n, struct second_answer s, uint64
     same("taken", o, n, taken, s.taken);
     same("waits", o, n, (unsigned long)anthercup_listen_waits(answer), s.answer == SECOND_WAITS);
     same("parameter", o, n, anthercup_parameter(answer), s.parameter);
-    same("the edition's bit", o, n, (unsigned long)(answer >> 63), 0);
+    same("edition", o, n, anthercup_edition(answer), s.edition);
 }
 
 /* the word of a verdict that declines, or of one that has nothing more to say */
-static unsigned long word_of(unsigned number, size_t place, size_t parameter) {
-    return (unsigned long)(number | (uint64_t)place << 8 | (uint64_t)parameter << 56);
+static unsigned long word_of(unsigned number, size_t place, size_t parameter, unsigned edition) {
+    return (unsigned long)(number | (uint64_t)place << 8 | (uint64_t)parameter << 56 | (uint64_t)edition << 63);
+}
+
+/* 17, which names no edition, in the place of what the second reader says of a record that is none */
+static struct second_verdict no_record(void) {
+    struct second_verdict v = {ANTHERCUP_REFUSED_RECORD, 0, 0, 0};
+    return v;
+}
+
+/* an edition, each as often as the other; one that there is not */
+static uint8_t either_edition(struct traffic *t) { return (uint8_t)traffic_number(t, 2); }
+static uint8_t unknown_edition(struct traffic *t) {
+    return (uint8_t)(traffic_number(t, 2) ? 2 + traffic_number(t, 2) : 2 + traffic_number(t, 254));
 }
 
 /* by the header, of a record that is in range but perhaps for its parameter's number */
@@ -62,9 +82,68 @@ static int parameter_in_range(const uint8_t *l) {
     case 2: return thrice + 2 <= place;
     case 3: return l[10] >= 1 && thrice <= place;
     case 4: return l[10] >= 1 && thrice + 1 + l[6] <= place;
-    case 6: return l[9] >= 3 && l[9] <= 5 ? l[10] >= 1 && l[10] <= 85 : l[10] == 0;
+    case 6: return (l[9] >= 3 && l[9] <= 5) || l[9] == 10 ? l[10] >= 1 && l[10] <= 85 : l[10] == 0;
     default: return l[10] == 0;
     }
+}
+
+/* by the header, the classes of contents that a record of this edition may have */
+static int class_in_range(uint8_t edition, uint8_t class) {
+    if (edition == ANTHERCUP_PRESENT) return class <= 10;
+    if (edition == ANTHERCUP_OLD && class <= 10) return class == 0 || class == 1 || class == 3 || class == 5;
+    return class <= 14;
+}
+
+/* by the header, the numbers that a refusal in a record of this edition may have */
+static int number_in_range(uint8_t edition, uint8_t number) {
+    return (number >= 1 && number <= 6) || (number == 10 && edition > ANTHERCUP_OLD);
+}
+
+static int among(unsigned low, unsigned high, unsigned x) { return low <= x && x <= high; }
+
+/* by the header, a whole record, whatever its edition */
+static int in_range(const uint8_t *l) {
+    unsigned octets = l[2] + 256u * l[3], room = l[8];
+    int inner = l[4] || l[5] || l[6] || l[7], kept = l[12] || l[13] || l[14] || l[15];
+    if (kept || !parameter_in_range(l)) return 0;
+    switch (l[0]) {
+    case 0:
+    case 1: return !inner && octets == l[0] && !l[8] && !l[9];
+    case 2: return !inner && !l[9] && among(5, 257, octets + room);
+    case 3:
+        return !l[5] && !l[6] && !l[7] && !l[9] && class_in_range(l[11], l[4]) && room >= 1
+            && among(6, 258, octets + room);
+    case 4:
+        return !l[9] && class_in_range(l[11], l[4]) && l[6] < l[5]
+            && among(5u + l[6], 257u + l[6], octets + l[5] + room);
+    case 5: return !inner && !l[1] && !l[8] && !l[9] && among(6, 258, octets);
+    case 6: return !inner && !l[1] && !l[8] && number_in_range(l[11], l[9]) && octets <= 257;
+    default: return 0;
+    }
+}
+
+/* what a record gets at once: 17, 16, or 0 where it is heard */
+static unsigned refused_record(const uint8_t *l) {
+    if (!in_range(l)) return ANTHERCUP_REFUSED_RECORD;
+    return l[11] > ANTHERCUP_OLD ? ANTHERCUP_REFUSED_EDITION : 0;
+}
+
+/* a record gets 17 or 16 alone, and stays; or it is heard by its edition, and stays of it and in range */
+static void heard_or_refused(const uint8_t *o, size_t n, uint8_t *l, const uint8_t *octets, size_t run) {
+    uint8_t before[ANTHERCUP_LISTENER_OCTETS];
+    unsigned number = refused_record(l);
+    records[number ? number - 15 : 0]++;
+    memcpy(before, l, sizeof before);
+    uint64_t answer = anthercup_listen(l, sizeof before, octets, run);
+    if (number) {
+        same("a record that is refused", o, n, (unsigned long)answer, number);
+        same("a record that is refused: stays", o, n, (unsigned long)memcmp(l, before, sizeof before), 0);
+        return;
+    }
+    same("a record that is heard", o, n, anthercup_number(answer) <= 6, 1);
+    same("a record that is heard: named", o, n, anthercup_edition(answer), before[11]);
+    same("a record that is heard: its edition", o, n, l[11], before[11]);
+    same("a record that is heard: in range", o, n, refused_record(l), 0);
 }
 
 /* a record after o[0..n) with another parameter's number, often near the most that the octets can hold: 17, or stepped
@@ -78,6 +157,7 @@ static void another_parameter(struct traffic *t, const uint8_t *o, size_t n, con
     uint64_t answer = anthercup_listen(l, sizeof l, &octet, 1);
     number = anthercup_number(answer);
     same("another parameter", o, n, number != ANTHERCUP_REFUSED_RECORD, (unsigned long)parameter_in_range(before));
+    same("another parameter: known", o, n, number != ANTHERCUP_REFUSED_RECORD, (unsigned long)in_range(before));
     if (number == ANTHERCUP_REFUSED_RECORD) {
         same("another parameter: stays", o, n, (unsigned long)memcmp(l, before, sizeof l), 0);
         return;
@@ -89,41 +169,59 @@ static void another_parameter(struct traffic *t, const uint8_t *o, size_t n, con
     same("another parameter: in range", o, n, (unsigned long)parameter_in_range(l), 1);
 }
 
-static void in_runs(struct traffic *t, const uint8_t *o, size_t n, struct second_answer whole, uint32_t most) {
+/* a record after o[0..n) with another edition, the other one or an unknown one */
+static void another_edition(struct traffic *t, const uint8_t *o, size_t n, const uint8_t *record) {
+    uint8_t l[ANTHERCUP_LISTENER_OCTETS], octets[4];
+    memcpy(l, record, sizeof l);
+    l[11] = traffic_number(t, 2) ? (uint8_t)(1 - l[11]) : unknown_edition(t);
+    for (size_t i = 0; i < sizeof octets; i++) octets[i] = (uint8_t)traffic_number(t, 256);
+    heard_or_refused(o, n, l, octets, traffic_number(t, sizeof octets + 1));
+}
+
+static void in_runs(struct traffic *t, uint8_t edition, const uint8_t *o, size_t n, struct second_answer whole,
+                    uint32_t most) {
     uint8_t l[ANTHERCUP_LISTENER_OCTETS];
     size_t at = 0, taken = 0;
-    same("reset", o, 0, (unsigned long)anthercup_reset(l, sizeof l), 0);
+    memset(l, 0x5A, sizeof l);
+    same("reset", o, 0, (unsigned long)anthercup_reset(edition, l, sizeof l), word_of(0, 0, 0, whole.edition));
     for (;;) {
         size_t run = most ? traffic_number(t, most + 1) : n;
         if (run > n - at) run = n - at;
         uint64_t answer = anthercup_listen(l, sizeof l, o + at, run);
         at += run;
         taken += anthercup_taken(answer);
-        struct second_answer s = traffic_number(t, 32) ? at_cut(whole, at) : second_listen(o, at);
+        struct second_answer s = traffic_number(t, 32) ? at_cut(whole, at) : second_listen(edition, o, at);
         as_second(o, at, s, answer, taken);
-        same("record: parameter", o, at, l[10], s.answer == SECOND_WAITS ? second_begun(o, at) : s.parameter);
+        same("record: parameter", o, at, l[10], s.answer == SECOND_WAITS ? second_begun(edition, o, at) : s.parameter);
+        same("record: edition", o, at, l[11], edition);
+        same("record: kept", o, at, (unsigned long)(l[12] | l[13] | l[14] | l[15]), 0);
         if (traffic_number(t, 8) == 0) another_parameter(t, o, at, l);
+        if (traffic_number(t, 8) == 0) another_edition(t, o, at, l);
         if (at == n) return;
     }
 }
 
+/* random octets; as many of them in range as there are where the stage's unused octets are often 0 */
 static void any_record(struct traffic *t) {
     uint8_t l[40], before[40], octet = (uint8_t)traffic_number(t, 256);
     size_t size = traffic_number(t, 4) ? ANTHERCUP_LISTENER_OCTETS : traffic_number(t, sizeof l);
     for (size_t i = 0; i < size; i++) {
-        uint32_t x = traffic_number(t, 16) ? traffic_number(t, 12) : traffic_number(t, 256);
+        uint32_t x = traffic_number(t, 16) ? traffic_number(t, 16) : traffic_number(t, 256);
         l[i] = (uint8_t)(traffic_number(t, 3) ? 0 : x);
     }
-    memcpy(before, l, size);
-    uint64_t answer = anthercup_listen(l, size, &octet, 1);
-    if (anthercup_number(answer) == ANTHERCUP_REFUSED_RECORD) {
-        same("17 alone", before, size, (unsigned long)answer, ANTHERCUP_REFUSED_RECORD);
-        same("a record on 17", before, size, (unsigned long)memcmp(l, before, size), 0);
-    } else {
-        same("a record that is heard", before, size, size, ANTHERCUP_LISTENER_OCTETS);
-        answer = anthercup_listen(l, size, &octet, 0);
-        same("and heard again", before, size, anthercup_number(answer) == ANTHERCUP_REFUSED_RECORD, 0);
+    if (size > 11 && traffic_number(t, 2)) {
+        l[0] = (uint8_t)(2 + traffic_number(t, 5)), l[11] = (uint8_t)traffic_number(t, 3);
+        memset(l + 12, 0, size - 12);
+        if (l[0] < 5) l[9] = 0;
     }
+    if (size == ANTHERCUP_LISTENER_OCTETS) {
+        memcpy(before, l, size);
+        heard_or_refused(before, size, l, &octet, 1);
+        return;
+    }
+    memcpy(before, l, size);
+    same("17 alone", before, size, (unsigned long)anthercup_listen(l, size, &octet, 1), ANTHERCUP_REFUSED_RECORD);
+    same("a record on 17", before, size, (unsigned long)memcmp(l, before, size), 0);
 }
 
 /* an entry through the header's readers */
@@ -152,25 +250,23 @@ static void entry_is(const uint8_t *o, size_t n, const uint8_t *draft, unsigned 
 
 /* a whole read into a record and an area that hold noise: what is not written must stay, all that is written must be
  * as the second reader has it */
-static void read_as_second(struct traffic *t, const uint8_t *o, size_t n, size_t draft_len, size_t area) {
+static void read_as_second(struct traffic *t, uint8_t edition, const uint8_t *o, size_t n, size_t draft_len,
+                           size_t area) {
     uint8_t draft[ANTHERCUP_DRAFT_OCTETS + 8], texts[300], draft_before[sizeof draft], texts_before[sizeof texts];
     struct second_draft s;
     memset(draft, (int)traffic_number(t, 256), sizeof draft);
     memset(texts, (int)traffic_number(t, 256), sizeof texts);
     memcpy(draft_before, draft, sizeof draft);
     memcpy(texts_before, texts, sizeof texts);
-    uint64_t answer = anthercup_read(o, n, draft, draft_len, texts, area);
-    struct second_verdict v = second_read(o, n, area, &s);
+    uint64_t answer = anthercup_read(edition, o, n, draft, draft_len, texts, area);
+    struct second_verdict v = second_read(edition, o, n, area, &s);
     size_t laid = 0;
-    if (draft_len != ANTHERCUP_DRAFT_OCTETS) {
-        v.number = ANTHERCUP_REFUSED_RECORD;
-        v.place = v.parameter = 0;
-    }
+    if (draft_len != ANTHERCUP_DRAFT_OCTETS) v = no_record();
     same("read: number", o, n, anthercup_number(answer), v.number);
     same("read: place", o, n, anthercup_place(answer), v.place);
     same("read: parameter", o, n, anthercup_parameter(answer), v.parameter);
     same("read: octets taken", o, n, anthercup_taken(answer), 0);
-    same("read: the edition's bit", o, n, (unsigned long)(answer >> 63), 0);
+    same("read: edition", o, n, anthercup_edition(answer), v.edition);
     if (v.number) {
         same("read: size of a refusal", o, n, anthercup_size(answer), 0);
         same("read: record of a refusal", o, n, (unsigned long)memcmp(draft, draft_before, sizeof draft), 0);
@@ -180,7 +276,8 @@ static void read_as_second(struct traffic *t, const uint8_t *o, size_t n, size_t
         same("read: texts", o, n, (unsigned long)memcmp(texts, s.texts, laid), 0);
         same("read: message type", o, n, anthercup_message_type(draft), s.message_type);
         same("read: entries", o, n, anthercup_entries(draft), s.entries);
-        for (size_t i = 2; i < 8; i++) same("read: header", o, n, draft[i], 0);
+        same("read: edition of the draft", o, n, anthercup_draft_edition(draft), s.edition);
+        for (size_t i = 3; i < 8; i++) same("read: header", o, n, draft[i], 0);
         for (unsigned i = 0; i < ANTHERCUP_MOST_ENTRIES; i++) entry_is(o, n, draft, i, &s.entry[i]);
         for (size_t i = ANTHERCUP_DRAFT_OCTETS; i < sizeof draft; i++)
             same("read: behind the record", o, n, draft[i], draft_before[i]);
@@ -190,16 +287,16 @@ static void read_as_second(struct traffic *t, const uint8_t *o, size_t n, size_t
 }
 
 /* with room; some with every area near the limit; and with records of other sizes */
-static void reads(struct traffic *t, const uint8_t *o, size_t n) {
+static void reads(struct traffic *t, uint8_t edition, const uint8_t *o, size_t n) {
     struct second_draft s;
-    read_as_second(t, o, n, ANTHERCUP_DRAFT_OCTETS, ANTHERCUP_TEXTS_OCTETS);
-    if (traffic_number(t, 8) == 0 && second_read(o, n, ANTHERCUP_TEXTS_OCTETS, &s).number == 0)
+    read_as_second(t, edition, o, n, ANTHERCUP_DRAFT_OCTETS, ANTHERCUP_TEXTS_OCTETS);
+    if (traffic_number(t, 8) == 0 && second_read(edition, o, n, ANTHERCUP_TEXTS_OCTETS, &s).number == 0)
         for (size_t area = s.text_octets < 2 ? 0 : s.text_octets - 2u; area <= s.text_octets + 1u; area++)
-            read_as_second(t, o, n, ANTHERCUP_DRAFT_OCTETS, area);
+            read_as_second(t, edition, o, n, ANTHERCUP_DRAFT_OCTETS, area);
     if (traffic_number(t, 4) == 0) {
         size_t size = ANTHERCUP_DRAFT_OCTETS - 2 + traffic_number(t, 5);
         if (traffic_number(t, 2)) size = traffic_number(t, ANTHERCUP_DRAFT_OCTETS);
-        read_as_second(t, o, n, size, traffic_number(t, 260));
+        read_as_second(t, edition, o, n, size, traffic_number(t, 260));
     }
 }
 
@@ -217,37 +314,37 @@ static int same_desk(struct second_desk a, struct second_desk b) {
 }
 
 /* the same desk through both, and settled twice */
-static uint64_t settles(const uint8_t *o, size_t n, uint8_t *desk) {
+static uint64_t settles(uint8_t edition, const uint8_t *o, size_t n, uint8_t *desk) {
     struct second_desk s = desk_of(desk), before = s;
     uint8_t once[ANTHERCUP_DESK_OCTETS];
-    struct second_verdict v = second_settle(&s, o, n);
-    uint64_t answer = anthercup_settle(desk, ANTHERCUP_DESK_OCTETS, o, n);
+    struct second_verdict v = second_settle(edition, &s, o, n);
+    uint64_t answer = anthercup_settle(edition, desk, ANTHERCUP_DESK_OCTETS, o, n);
     same("settle: number", o, n, anthercup_number(answer), v.number);
     same("settle: place", o, n, anthercup_place(answer), v.place);
     same("settle: parameter", o, n, anthercup_parameter(answer), v.parameter);
-    same("settle: other fields", o, n, (unsigned long)answer, word_of(v.number, v.place, v.parameter));
+    same("settle: other fields", o, n, (unsigned long)answer, word_of(v.number, v.place, v.parameter, v.edition));
     same("settle: desk", o, n, (unsigned long)same_desk(desk_of(desk), s), 1);
     if (v.number) same("settle: desk of a refusal", o, n, (unsigned long)same_desk(s, before), 1);
     memcpy(once, desk, sizeof once);
-    same("settle: twice", o, n, anthercup_settle(desk, ANTHERCUP_DESK_OCTETS, o, n) != answer, 0);
+    same("settle: twice", o, n, anthercup_settle(edition, desk, ANTHERCUP_DESK_OCTETS, o, n) != answer, 0);
     same("settle: desk of twice", o, n, (unsigned long)memcmp(once, desk, sizeof once), 0);
     return answer;
 }
 
 /* of some types what counts, and number, place and parameter of the whole read where the octets are no message */
-static void counts(struct traffic *t, const uint8_t *o, size_t n, struct second_verdict v) {
+static void counts(struct traffic *t, uint8_t edition, const uint8_t *o, size_t n, struct second_verdict v) {
     for (unsigned i = 0; i < 3; i++) {
         uint32_t type = traffic_number(t, i ? 32 : 256);
         size_t start = 0, length = 0;
-        int one = second_counted(o, n, (uint8_t)type, &start, &length);
-        uint64_t answer = anthercup_counted(o, n, (uint8_t)type);
+        int one = second_counted(edition, o, n, (uint8_t)type, &start, &length);
+        uint64_t answer = anthercup_counted(edition, o, n, (uint8_t)type);
         same("counted: number", o, n, anthercup_number(answer), v.number);
         same("counted: place", o, n, anthercup_place(answer), v.place);
         same("counted: whether", o, n, (unsigned long)anthercup_counts(answer), (unsigned long)one);
         same("counted: start", o, n, anthercup_counted_start(answer), start);
         same("counted: length", o, n, anthercup_counted_length(answer), length);
         same("counted: parameter", o, n, anthercup_parameter(answer), v.parameter);
-        same("counted: the edition's bit", o, n, (unsigned long)(answer >> 63), 0);
+        same("counted: edition", o, n, anthercup_edition(answer), v.edition);
     }
 }
 
@@ -268,21 +365,21 @@ static size_t line(struct traffic *t, uint8_t *d, const uint8_t *caller, size_t 
 }
 
 /* the caption, with a directory about the caller that counts, or about 7 */
-static void caption(struct traffic *t, const uint8_t *o, size_t n) {
+static void caption(struct traffic *t, uint8_t edition, const uint8_t *o, size_t n) {
     uint8_t d[6 * 64], part[ANTHERCUP_PART_OCTETS + 4], was[sizeof part];
     size_t size = traffic_number(t, 16) ? ANTHERCUP_PART_OCTETS : traffic_number(t, sizeof part);
     size_t octets = 0, start = 0, length = 0;
     const uint8_t *caller = (const uint8_t *)"7";
-    if (second_counted(o, n, 0x02, &start, &length)) caller = o + start;
+    if (second_counted(edition, o, n, 0x02, &start, &length)) caller = o + start;
     else length = 1;
     for (uint32_t k = traffic_number(t, 6); k > 0; k--) octets += line(t, d + octets, caller, length);
     if (octets && traffic_number(t, 2)) octets--;
-    struct second_part s = second_caption(o, n, d, octets);
-    if (size != ANTHERCUP_PART_OCTETS) s.number = ANTHERCUP_REFUSED_RECORD, s.place = s.parameter = 0;
+    struct second_part s = second_caption(edition, o, n, d, octets);
+    if (size != ANTHERCUP_PART_OCTETS) s.number = ANTHERCUP_REFUSED_RECORD, s.place = s.parameter = 0, s.edition = 0;
     memset(part, 0x5A, sizeof part);
     memcpy(was, part, sizeof was);
-    uint64_t answer = anthercup_caption(o, n, d, octets, part, size);
-    same("caption: word", o, n, (unsigned long)answer, word_of(s.number, s.place, s.parameter));
+    uint64_t answer = anthercup_caption(edition, o, n, d, octets, part, size);
+    same("caption: word", o, n, (unsigned long)answer, word_of(s.number, s.place, s.parameter, s.edition));
     if (s.number) {
         same("caption: stays", o, n, (unsigned long)memcmp(part, was, sizeof part), 0);
         return;
@@ -296,7 +393,7 @@ static void caption(struct traffic *t, const uint8_t *o, size_t n) {
 }
 
 /* any record at all: 17 exactly where size, codes, places or a reference twice make it none */
-static void any_desk(struct traffic *t, const uint8_t *o, size_t n) {
+static void any_desk(struct traffic *t, uint8_t edition, const uint8_t *o, size_t n) {
     static const uint32_t ends[] = {1, 2, 3, 65535, 65536, 65537, 16777215};
     uint8_t any[ANTHERCUP_DESK_OCTETS + 4] = {0}, was[sizeof any];
     size_t size = traffic_number(t, 4) ? ANTHERCUP_DESK_OCTETS : traffic_number(t, sizeof any);
@@ -312,32 +409,37 @@ static void any_desk(struct traffic *t, const uint8_t *o, size_t n) {
     struct second_desk s = desk_of(any);
     if (any[0] > 1 || (any[0] == 0 && any[1] != 0) || any[3] != 0) s.waiting = SECOND_UNKNOWN - 1;
     if (any[2] > 2) s.lamp = 2;
-    struct second_verdict v = second_settle(&s, o, n);
-    if (size != ANTHERCUP_DESK_OCTETS) v.number = ANTHERCUP_REFUSED_RECORD, v.place = v.parameter = 0;
-    uint64_t answer = anthercup_settle(any, size, o, n);
+    struct second_verdict v = second_settle(edition, &s, o, n);
+    if (size != ANTHERCUP_DESK_OCTETS) v = no_record();
+    uint64_t answer = anthercup_settle(edition, any, size, o, n);
     same("any desk: number", was, size, anthercup_number(answer), v.number);
     same("any desk: place", was, size, anthercup_place(answer), v.place);
     same("any desk: parameter", was, size, anthercup_parameter(answer), v.parameter);
+    same("any desk: edition", was, size, anthercup_edition(answer), v.edition);
     if (v.number) same("any desk: stays", was, size, (unsigned long)memcmp(any, was, sizeof any), 0);
     else same("any desk: settled", was, size, (unsigned long)same_desk(desk_of(any), s), 1);
     answer = anthercup_new_desk(any, size);
     same("new desk", was, size, (unsigned long)answer, size == ANTHERCUP_DESK_OCTETS ? 0 : ANTHERCUP_REFUSED_RECORD);
 }
 
-/* messages about a few references on one desk, cleared now and then: after each, a reference is open exactly as the
- * last notice said that was done and added or removed it */
+/* messages about a few references on one desk, cleared now and then, most of the present edition, some of the old one,
+ * which says nothing of references, and of unknown ones: after each, a reference is open exactly as the last notice
+ * said that was done and added or removed it */
 static void history(struct traffic *t, long messages) {
     static uint8_t last[65536];
     uint8_t o[TRAFFIC_OCTETS], desk[ANTHERCUP_DESK_OCTETS];
-    unsigned long full = 0;
+    unsigned long full = 0, old = 0;
     unsigned open = 0;
     anthercup_new_desk(desk, sizeof desk);
     for (long i = 0; i < messages; i++) {
+        uint8_t edition = traffic_number(t, 4) ? ANTHERCUP_PRESENT : ANTHERCUP_OLD;
+        if (traffic_number(t, 64) == 0) edition = unknown_edition(t);
         size_t n = traffic_about(t, o), start, length;
-        uint64_t answer = settles(o, n, desk);
+        uint64_t answer = settles(edition, o, n, desk);
         full += anthercup_number(answer) == ANTHERCUP_REFUSED_NO_PLACE;
+        old += edition == ANTHERCUP_OLD;
         int done = anthercup_number(answer) == 0 && o[0] == 0x82;
-        if (done && second_counted(o, n, 0x0D, &start, &length) && o[start] != 0x55) {
+        if (done && second_counted(edition, o, n, 0x0D, &start, &length) && o[start] != 0x55) {
             uint8_t *word = &last[o[start + 1] * 256 + o[start + 2]];
             open = open - *word + (o[start] == 0xFF);
             *word = o[start] == 0xFF;
@@ -355,26 +457,47 @@ static void history(struct traffic *t, long messages) {
             }
         same("history: open is held", o, n, held, open);
     }
-    if (full == 0) differ("history: no message without a place", o, 0, 0, 1);
-    printf("history: %ld messages about references, %lu of them without a place\n", messages, full);
+    if (full == 0 || old == 0) differ("history: no message without a place, or of the old edition", o, 0, 0, 1);
+    printf("history: %ld messages about references, %lu of the old edition, %lu without a place\n", messages, old,
+           full);
 }
 
-/* one message through everything; every eighth octet by octet too */
-static void one_message(struct traffic *t, const uint8_t *o, size_t n, uint8_t *desk, long i) {
-    struct second_answer whole = second_listen(o, n);
+/* an edition that there is not, told to every export: 16 alone, behind 17, and all that is lent stays */
+static void nowhere(struct traffic *t, const uint8_t *o, size_t n, uint8_t *desk) {
+    uint8_t edition = unknown_edition(t), l[ANTHERCUP_LISTENER_OCTETS], before[sizeof l];
+    struct second_answer s = second_listen(edition, o, n);
+    struct second_draft d;
+    for (size_t i = 0; i < sizeof l; i++) l[i] = (uint8_t)traffic_number(t, 256);
+    memcpy(before, l, sizeof l);
+    same("reset, unknown", o, n, (unsigned long)anthercup_reset(edition, l, sizeof l), s.number);
+    same("reset, unknown: stays", o, n, (unsigned long)memcmp(l, before, sizeof l), 0);
+    reads(t, edition, o, n);
+    counts(t, edition, o, n, second_read(edition, o, n, ANTHERCUP_TEXTS_OCTETS, &d));
+    caption(t, edition, o, n);
+    settles(edition, o, n, desk);
+    any_desk(t, edition, o, n);
+}
+
+/* one message through everything, by one edition; every eighth octet by octet too, and by an edition that there is
+ * not */
+static void one_message(struct traffic *t, uint8_t edition, const uint8_t *o, size_t n, uint8_t *desk, long i) {
+    struct second_answer whole = second_listen(edition, o, n);
     struct second_draft s;
     in_first += whole.parameter == 1;
     in_later += whole.parameter > 1;
     in_last += whole.parameter == 85;
-    in_runs(t, o, n, whole, 0);
-    in_runs(t, o, n, whole, 40);
-    if (i % 8 == 0) in_runs(t, o, n, whole, 1);
+    judged[edition]++;
+    messages_of[edition] += whole.answer == SECOND_MESSAGE;
+    in_runs(t, edition, o, n, whole, 0);
+    in_runs(t, edition, o, n, whole, 40);
+    if (i % 8 == 0) in_runs(t, edition, o, n, whole, 1);
     any_record(t);
-    reads(t, o, n);
-    counts(t, o, n, second_read(o, n, ANTHERCUP_TEXTS_OCTETS, &s));
-    caption(t, o, n);
-    settles(o, n, desk);
-    any_desk(t, o, n);
+    reads(t, edition, o, n);
+    counts(t, edition, o, n, second_read(edition, o, n, ANTHERCUP_TEXTS_OCTETS, &s));
+    caption(t, edition, o, n);
+    settles(edition, o, n, desk);
+    any_desk(t, edition, o, n);
+    if (i % 8 == 0) nowhere(t, o, n, desk);
     if (i % 64 == 0) anthercup_new_desk(desk, ANTHERCUP_DESK_OCTETS);
 }
 
@@ -385,9 +508,10 @@ static void dated(struct traffic *t, long messages) {
     unsigned long taken = 0, spoilt[2] = {0, 0};
     anthercup_new_desk(desk, sizeof desk);
     for (long i = 0; i < messages; i++) {
+        uint8_t edition = either_edition(t);
         size_t n = traffic_dated(t, o), date = 0;
-        struct second_answer s = second_listen(o, n);
-        one_message(t, o, n, desk, i);
+        struct second_answer s = second_listen(edition, o, n);
+        one_message(t, edition, o, n, desk, i);
         if (s.answer == SECOND_MESSAGE) taken++;
         if (s.number != 5) continue;
         for (size_t place = 2; place < s.place; place += 2u + o[place + 1]) date = place;
@@ -398,22 +522,29 @@ static void dated(struct traffic *t, long messages) {
            taken, spoilt[0], spoilt[1]);
 }
 
+/* built by either edition, and judged by it, or now and then by the other */
 int main(int argc, char **argv) {
     struct traffic t;
     uint8_t o[TRAFFIC_OCTETS], desk[ANTHERCUP_DESK_OCTETS];
-    long messages = argc > 1 ? atol(argv[1]) : 200000;
+    long messages = argc > 1 ? atol(argv[1]) : 250000;
     traffic_start(&t, 1);
     anthercup_new_desk(desk, sizeof desk);
     for (long i = 0; i < messages; i++) {
+        t.edition = either_edition(&t);
         size_t n = traffic_next(&t, o);
-        one_message(&t, o, n, desk, i);
+        one_message(&t, traffic_number(&t, 8) ? t.edition : (uint8_t)(1 - t.edition), o, n, desk, i);
     }
     if (by_line == 0) differ("caption: no line of a directory", o, 0, 0, 1);
     history(&t, messages / 4);
     dated(&t, messages / 8);
     if (!in_first || !in_later || !in_last) differ("no fault in the first, a later or the last parameter", o, 0, 0, 1);
+    if (!messages_of[0] || !messages_of[1]) differ("no message of an edition", o, 0, 0, 1);
     printf("parameters: %lu messages with a fault in the first, %lu in a later one, %lu of them in the 85th\n",
            in_first, in_later, in_last);
+    printf("editions: %lu judged by the present one, %lu of them messages; %lu by the old one, %lu of them messages\n",
+           judged[0], messages_of[0], judged[1], messages_of[1]);
+    if (!records[0] || !records[1] || !records[2]) differ("no other record of a kind", o, 0, 0, 1);
+    printf("records: %lu that no octets led to heard, %lu with 16, %lu with 17\n", records[0], records[1], records[2]);
     printf("traffic: %ld messages, %lu answers as the second reader has them\n", messages, compared);
     return 0;
 }

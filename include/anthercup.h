@@ -1,7 +1,7 @@
 /*
  * Anthercup for the boxes' firmware: the listener, the reader, what counts, the
  * caption and the desk (document 01, Listening, Drafts, What counts, The caption
- * and The desk; document 02, Q-2, Q-3 and Q-6).
+ * and The desk; document 02, Q-2, Q-3, Q-5 and Q-6).
  *
  * Link with the archive: cc app.c -lanthercup (tools/install puts header,
  * archive and a pkg-config file in place). The archive is for x86-64 alone,
@@ -20,8 +20,46 @@
  * ANTHERCUP_MOST_PLACES.
  *
  * Anything else may be handed in: a record of another size, or one that holds a
- * code or number out of range, gets number 17 and stays as it was. No function
- * keeps a pointer, allocates, or fails to return.
+ * code or number out of range, gets number 17 and stays as it was; an edition
+ * that is unknown gets 16, and nothing lent changes. No function keeps a
+ * pointer, allocates, or fails to return.
+ *
+ * Two editions. ANTHERCUP_PRESENT (0) is what the exchanges of today send;
+ * ANTHERCUP_OLD (1) is the old sheet, to which some exchanges were built. Ask
+ * which one the line's exchange speaks: neither edition contains the other, and
+ * a message does not say its own. What may stand in a parameter of a type, by
+ * edition (n is the length of its contents):
+ *
+ *   type  present                           old
+ *   01H   n 8: month 01-12, a day that the month has (February 29), hour
+ *         00-23, minute 00-59, as digits    the same
+ *   02H   n 1-20: 0-9 * # space - ( )       n 1-18: 0-9
+ *   03H   as 02H                            carried
+ *   04H   n 1: O or P                       the same
+ *   07H   n 1-50: 20H-7EH                   n 1-20: 20H-7EH
+ *   08H   n 1: O or P                       carried
+ *   0BH   n 1: 00H or FFH                   the same
+ *   0DH   n 3: 00H, 55H or FFH, and a reference of two octets, high octet
+ *         first                             carried
+ *   0EH   as 02H                            carried
+ *   11H   n 1: 01H-07H, 10H, 11H, 50H, 51H, 81H-FFH
+ *                                           carried
+ *   12H   as 02H                            n 1-18: 0-9
+ *   13H   n 1: 0-255                        carried
+ *   15H   n 1: 00H-06H, 80H-FFH             n 1: 00H-06H
+ *   16H   n 1: 00H-0FH                      n 1: 00H, 03H-05H, 0AH-0DH, 0FH
+ *   all others                              carried in both
+ *
+ * Carried contents are 1 to 253 octets of any value; they never count. Message
+ * types, lengths, rooms, checksum, places and parameters' numbers are the same
+ * in both. In the present edition 02H and 04H are rivals, and 07H and 08H; in
+ * the old one 02H and 04H alone: there 08H silences no name. A notice of the
+ * old edition changes a desk's lamp and nothing else.
+ *
+ * read, counted, caption and settle are told the edition at each call; a
+ * listener is told it at its reset, and its record keeps it. Any number but 0
+ * and 1 is unknown, as an argument and in a listener's record: that is 16,
+ * place 0, behind 17 and before all other numbers.
  *
  * How a box listens. A channel seizure before the message is heard as octets
  * 55H: while no message has begun (1 at 0) reset and hunt on, and say nothing.
@@ -36,15 +74,19 @@
  *                     waits; read gives the text octets laid down; counted
  *                     gives the length of what counts; 0 in every refusal
  *   octets 5 and 6    listen gives the octets that this call took, the
- *                     spoiling one included, 0 with 17; counted gives the
- *                     start of what counts; 0 in all other answers
+ *                     spoiling one included, 0 with 16 and 17; counted gives
+ *                     the start of what counts; 0 in all other answers
  *   octet 7           bits 0 to 6 the parameter's number: with 3, 4 and 5
  *                     which parameter of the message is at fault, from 1 to
  *                     85, carried and repeated ones counted; a type that is
  *                     refused (3) has the number that its parameter would
  *                     have; 0 in all other answers, message type, length and
- *                     checksum (1, 2 and 6) being no parameter's. Bit 7 is 0,
- *                     kept for the edition
+ *                     checksum (1, 2 and 6) being no parameter's. Bit 7 is
+ *                     the edition by which the answer was given, refusals
+ *                     too; 0 with 16 and 17, and 0 from new_desk, which is
+ *                     told none
+ * So a word of the old edition is not 0 where nothing is refused: ask for its
+ * number, never for the word.
  */
 #ifndef ANTHERCUP_H
 #define ANTHERCUP_H
@@ -60,7 +102,7 @@ extern "C" {
 
 /* Which layout of records and words this header describes. A record that an
  * archive of another layout wrote is reset, not handed on. */
-#define ANTHERCUP_LAYOUT 2
+#define ANTHERCUP_LAYOUT 3
 
 #define ANTHERCUP_MESSAGE_OCTETS 258 /* the longest message */
 #define ANTHERCUP_LISTENER_OCTETS 16
@@ -71,11 +113,17 @@ extern "C" {
 #define ANTHERCUP_MOST_ENTRIES 85
 #define ANTHERCUP_MOST_PLACES 16
 
+/* ---- Editions ---- */
+
+enum anthercup_editions { ANTHERCUP_PRESENT = 0, ANTHERCUP_OLD = 1 };
+
 /* ---- What messages hold ---- */
 
 enum anthercup_messages { ANTHERCUP_CALL = 0x80, ANTHERCUP_NOTICE = 0x82 };
 
-/* The parameter types that have a row; all others are carried. */
+/* The parameter types that have a row; all others are carried. The old edition
+ * has TIME, CALLER, CALLER_ABSENT, NAME, LAMP, FIRST_CALLED, FORWARDED and USER
+ * alone. */
 enum anthercup_parameters {
     ANTHERCUP_PARAMETER_TIME = 0x01,
     ANTHERCUP_PARAMETER_CALLER = 0x02,
@@ -112,6 +160,7 @@ enum anthercup_refusals {
     ANTHERCUP_REFUSED_FOLLOWED = 7, /* place: the first octet that follows */
     ANTHERCUP_REFUSED_EARLY = 8,    /* place: the number of octets */
     ANTHERCUP_REFUSED_AREA = 9,     /* place: the text octets needed */
+    ANTHERCUP_REFUSED_EDITION = 16,
     ANTHERCUP_REFUSED_RECORD = 17,
     ANTHERCUP_REFUSED_NO_PLACE = 21
 };
@@ -140,6 +189,8 @@ static inline const char *anthercup_text(unsigned number)
         return "the message ends early, nothing wrong yet";
     case ANTHERCUP_REFUSED_AREA:
         return "the text area is too short";
+    case ANTHERCUP_REFUSED_EDITION:
+        return "the edition is unknown";
     case ANTHERCUP_REFUSED_RECORD:
         return "the record has a wrong size, or a code or number out of range";
     case ANTHERCUP_REFUSED_NO_PLACE:
@@ -177,6 +228,12 @@ static inline unsigned anthercup_parameter(uint64_t answer)
     return (unsigned)(answer >> 56 & 0x7f);
 }
 
+/* The edition that the answer names; 0 with 16 and 17, which name none. */
+static inline unsigned anthercup_edition(uint64_t answer)
+{
+    return (unsigned)(answer >> 63);
+}
+
 /* Of listen's answer alone: neither a message nor a refusal yet. */
 static inline int anthercup_listen_waits(uint64_t answer)
 {
@@ -194,7 +251,8 @@ static inline int anthercup_listen_waits(uint64_t answer)
  *            refusal's place; low octet first
  *    4       with 3 and 4 the class of contents: 0 carried, 1 date, 2 number,
  *            3 absent, 4 name, 5 lamp, 6 identity, 7 call type, 8 waiting, 9
- *            forwarded, 10 calling user
+ *            forwarded, 10 calling user; of the old edition alone 11 number,
+ *            12 name, 13 forwarded, 14 calling user
  *    5, 6    with 4 the length of the contents, and the index of the octet to
  *            come
  *    7       with 4 what is remembered of the contents: of a date the tens of
@@ -206,11 +264,13 @@ static inline int anthercup_listen_waits(uint64_t answer)
  *    9       with 6 the refusal's number
  *   10       the parameter's number: with 2, 3 and 4 how many parameters have
  *            begun, those counted whose type has come; with 6 the refusal's
- *   11 to 15 0, kept for the edition and the way
+ *   11       the edition, as the reset was told it; no call changes it
+ *   12 to 15 0, kept
  *
- * A record is 17 where octet 0 is above 6 or a class above 10, an octet that
- * its stage does not use is not 0, or a number is out of range: with 0 and 1
- * the octets so far are 0 and 1; with 2 octets and room add up to 5 to 257;
+ * A record is 17 where octet 0 is above 6, a class is none of its edition's
+ * (the present one has 0 to 10, the old one 0, 1, 3, 5 and 11 to 14), an octet
+ * that its stage does not use is not 0, or a number is out of range: with 0 and
+ * 1 the octets so far are 0 and 1; with 2 octets and room add up to 5 to 257;
  * with 3 the room is at least 1 and they add up to 6 to 258; with 4 the index
  * is below the length, and octets, length and room add up to 5 to 257 and the
  * index; a size is 6 to 258; a refusal has a number of 1 to 6 and a place up to
@@ -220,17 +280,25 @@ static inline int anthercup_listen_waits(uint64_t answer)
  * 1, and three times it, 1 and the index are together at most the octets so
  * far; a refusal's is 1 to 85 with 3, 4 and 5, and 0 with 1, 2 and 6. Sum and
  * memory are not judged: a record in range whose sum, memory or parameter's
- * number no octets lead to is stepped by the same rule. */
+ * number no octets lead to is stepped by the same rule.
+ *
+ * A record whose octet 11 is neither 0 nor 1 is 16 where all else is in range,
+ * and 17 where it is not; a class may then be 0 to 14, and a refusal's number
+ * also 10, with a parameter of 1 to 85. */
 
-/* Makes the record that of a new listener, whatever it holds. Number 0, or 17
- * where listener_len is not ANTHERCUP_LISTENER_OCTETS. */
-uint64_t anthercup_reset(uint8_t *listener, size_t listener_len);
+/* Makes the record that of a new listener of this edition, whatever it holds.
+ * Number 0; or 17 where listener_len is not ANTHERCUP_LISTENER_OCTETS, then 16,
+ * and the record stays as it was. */
+uint64_t anthercup_reset(uint8_t edition, uint8_t *listener,
+                         size_t listener_len);
 
 /* Takes a run of octets of any length, 0 included, and says what all octets
- * since the reset come to: it waits (number and size 0), has a message of a
- * size, or refuses with a number from 1 to 6, a place counted from the reset
- * and the parameter's number, also where earlier calls heard its parameters.
- * After an answer it takes none and says the same again, until it is reset. */
+ * since the reset come to, by the edition of the reset: it waits (number and
+ * size 0), has a message of a size, or refuses with a number from 1 to 6, a
+ * place counted from the reset and the parameter's number, also where earlier
+ * calls heard its parameters. After an answer it takes none and says the same
+ * again, until it is reset. Ahead of all that 17, then 16: no octet is taken,
+ * and the record stays as it was. */
 uint64_t anthercup_listen(uint8_t *listener, size_t listener_len,
                           const uint8_t *octets, size_t octets_len);
 
@@ -239,7 +307,8 @@ uint64_t anthercup_listen(uint8_t *listener, size_t listener_len,
  * A draft's record, in octets:
  *    0       the message type: 80H a call message, 82H a notice
  *    1       the number of entries, 1 to 85
- *    2 to 7  0, kept
+ *    2       the edition by which it was read
+ *    3 to 7  0, kept
  *    then 85 entries of eight octets, one for each parameter in message order:
  *    0       the parameter type
  *    1       the kind of value: 0 a code, 1 a date, 2 a state with a
@@ -265,11 +334,12 @@ enum anthercup_values {
 /* Reads one whole message into a draft's record and a text area, in which all
  * texts are packed from octet 0 on in message order; later octets of the area
  * stay. The record is only written: whatever it holds, only its size is judged.
- * Numbers 1 to 9, or 17 where draft_len is not ANTHERCUP_DRAFT_OCTETS; record
- * and area then hold what they held. */
-uint64_t anthercup_read(const uint8_t *octets, size_t octets_len,
-                        uint8_t *draft, size_t draft_len, uint8_t *texts,
-                        size_t texts_len);
+ * Number 0; or, in this order, 17 where draft_len is not
+ * ANTHERCUP_DRAFT_OCTETS, 16, 1 to 6, 8, 7, 9; record and area then hold what
+ * they held. */
+uint64_t anthercup_read(uint8_t edition, const uint8_t *octets,
+                        size_t octets_len, uint8_t *draft, size_t draft_len,
+                        uint8_t *texts, size_t texts_len);
 
 static inline unsigned anthercup_message_type(const uint8_t *draft)
 {
@@ -279,6 +349,12 @@ static inline unsigned anthercup_message_type(const uint8_t *draft)
 static inline unsigned anthercup_entries(const uint8_t *draft)
 {
     return draft[1];
+}
+
+/* The edition by which the draft was read. */
+static inline unsigned anthercup_draft_edition(const uint8_t *draft)
+{
+    return draft[2];
 }
 
 /* Entries are numbered from 0, below anthercup_entries(). Ask of an entry what
@@ -357,10 +433,11 @@ anthercup_entry_text(const uint8_t *draft, unsigned i, const uint8_t *texts)
 
 /* Of one whole message, where the contents of a parameter type stand that
  * count: those of the first parameter of the type, unless its rival stands
- * before it (02H and 04H are rivals, and 07H and 08H). Carried types never
- * count. Number 0, or 1 to 8. Any type may be asked for. */
-uint64_t anthercup_counted(const uint8_t *octets, size_t octets_len,
-                           uint8_t type);
+ * before it (02H and 04H are rivals, and in the present edition 07H and 08H).
+ * Carried types never count. Number 0; or 16, then 1 to 8. Any type may be
+ * asked for. */
+uint64_t anthercup_counted(uint8_t edition, const uint8_t *octets,
+                           size_t octets_len, uint8_t type);
 
 /* Of counted's answer alone: whether the type counts in that message; then its
  * contents are the length octets of the message from start on, start and length
@@ -392,11 +469,13 @@ static inline unsigned anthercup_counted_length(uint64_t answer)
  *    1 to 7  0, kept
  *    8 to 15 where the part starts in it, low octet first
  *   16 to 23 how long it is, low octet first
- * Number 0; or 17 where part_len is not ANTHERCUP_PART_OCTETS, then 1 to 8, and
- * the record holds what it held: ask of a part only after number 0. */
-uint64_t anthercup_caption(const uint8_t *octets, size_t octets_len,
-                           const uint8_t *directory, size_t directory_len,
-                           uint8_t *part, size_t part_len);
+ * Number 0; or 17 where part_len is not ANTHERCUP_PART_OCTETS, then 16, then 1
+ * to 8, and the record holds what it held: ask of a part only after number 0.
+ */
+uint64_t anthercup_caption(uint8_t edition, const uint8_t *octets,
+                           size_t octets_len, const uint8_t *directory,
+                           size_t directory_len, uint8_t *part,
+                           size_t part_len);
 
 static inline int anthercup_part_in_directory(const uint8_t *part)
 {
@@ -449,18 +528,19 @@ enum anthercup_lamps {
 };
 
 /* Clears a desk: makes the record that of a new one, whatever it holds: number
- * and lamp unknown, all places free. Number 0, or 17 where desk_len is not
- * ANTHERCUP_DESK_OCTETS. */
+ * and lamp unknown, all places free. A desk is of no edition. Number 0, or 17
+ * where desk_len is not ANTHERCUP_DESK_OCTETS. */
 uint64_t anthercup_new_desk(uint8_t *desk, size_t desk_len);
 
 /* Settles one whole message on a desk: a notice sets the waiting number and the
  * lamp where it says them, to what it says; where it says a message's state, on
  * adds its reference to the lowest free place, unless it is there, off takes it
- * out, unset does nothing. A call message changes nothing. Number 0; or 17 for
- * a record that is no desk's, then 1 to 8, then 21: nothing at all is settled
- * then, and the record stays as it was. The same message settled twice running
- * leaves what once left. */
-uint64_t anthercup_settle(uint8_t *desk, size_t desk_len,
+ * out, unset does nothing. A call message changes nothing. In the old edition a
+ * notice says the lamp alone: 13H and 0DH are carried there. Number 0; or 17
+ * for a record that is no desk's, then 16, then 1 to 8, then 21: nothing at all
+ * is settled then, and the record stays as it was. The same message settled
+ * twice running by one edition leaves what once left. */
+uint64_t anthercup_settle(uint8_t edition, uint8_t *desk, size_t desk_len,
                           const uint8_t *octets, size_t octets_len);
 
 /* The waiting number, or -1 where it is not known. */

@@ -1,9 +1,10 @@
 /*
  * Writes what the program `parts` reads and what it must print: rows for 01's
- * "Drafts" and "The caption", whose outcomes stand here by hand, then seeded
- * traffic with what the second reader says. Each case is a message and a
- * directory, each behind its length in two octets, and the size of a text area
- * in two octets. Usage: parts CASES LINES
+ * "Drafts" and "The caption" in both editions (02, Q-5) and in unknown ones,
+ * whose outcomes stand here by hand, then seeded traffic of both with what the
+ * second reader says. Each case is an edition, a way (always 1: types without a
+ * row are carried), a message and a directory, each behind its length in two
+ * octets, and the size of a text area in two octets. Usage: parts CASES LINES
  */
 #include <stdio.h>
 #include <string.h>
@@ -12,10 +13,12 @@
 #include "traffic.h"
 
 /* Short ones, and a long one now and then, so that the files stay small. */
-#define MESSAGES 420
-#define CALLERS 140
-#define LONGEST 4
-#define DATED 60
+static const struct counts {
+    unsigned messages, callers, longest, dated;
+} counts[SECOND_EDITIONS] = {{420, 140, 4, 60}, {280, 100, 2, 20}};
+
+/* built by one edition and read by the other, for each of the two */
+#define CROSSED 40
 #define SHORT 48
 #define LONG_EVERY 16
 #define DIRECTORY 200
@@ -49,38 +52,45 @@ static void say_entry(const struct second_draft *d,
 }
 
 /* What is read and written again is the message, and read again the draft,
- * until an octet of a text is another; no draft is one with no entries. */
+ * until an octet of a text is another; no draft is one with no entries, one of
+ * the other edition, or one of an unknown edition, be it itself. */
 static void say_written(size_t n, const struct second_draft *d)
 {
-    SAY("write %zu same\nagain same\n", n);
+    SAY("write %zu edition %u same\nagain same\n", n, d->edition);
     SAY("spoilt %s\nempty other\n", d->text_octets ? "other" : "same");
+    SAY("edition other\nunknown other\n");
 }
 
-/* Written from the texts as they are packed, and from another place. */
+/* Of the read's answer the edition, and that of the draft; the empty draft of a
+ * refused read has it too. Written from the texts as they are packed, and from
+ * another place. */
 static void say_read(size_t n, struct second_verdict v,
                      const struct second_draft *d)
 {
     if (v.number) {
-        SAY("read %u at %zu in %zu\n", v.number, v.place, v.parameter);
+        SAY("read %u at %zu in %zu edition %u %u\n", v.number, v.place,
+            v.parameter, v.edition, v.edition);
         return;
     }
-    SAY("read %02x %u %u\n", d->message_type, d->entries, d->text_octets);
+    SAY("read %02x %u %u edition %u %u\n", d->message_type, d->entries,
+        d->text_octets, v.edition, d->edition);
     for (size_t i = 0; i < d->entries; i++)
         say_entry(d, &d->entry[i]);
     say_written(n, d);
     say_written(n, d);
 }
 
-static void say_room(const uint8_t *o, size_t n, size_t room)
+static void say_room(uint8_t edition, const uint8_t *o, size_t n, size_t room)
 {
     struct second_draft d;
-    struct second_verdict v = second_read(o, n, room, &d);
+    struct second_verdict v = second_read(edition, o, n, room, &d);
 
     if (v.number)
-        SAY("room %zu: %u at %zu in %zu\n", room, v.number, v.place,
-            v.parameter);
+        SAY("room %zu: %u at %zu in %zu edition %u\n", room, v.number, v.place,
+            v.parameter, v.edition);
     else
-        SAY("room %zu: texts %u\n", room, d.text_octets);
+        SAY("room %zu: texts %u edition %u\n", room, d.text_octets,
+            v.edition);
 }
 
 /* A parameter is a type, a length and so many octets; the parameters fill L. */
@@ -89,30 +99,35 @@ static void say_steps(const uint8_t *o, struct second_verdict v,
 {
     if (v.number) {
         for (int i = 0; i < 2; i++)
-            SAY("step %u at %zu in %zu\n", v.number, v.place, v.parameter);
+            SAY("step %u at %zu in %zu edition %u\n", v.number, v.place,
+                v.parameter, v.edition);
         SAY("begins 0\n");
         return;
     }
     for (size_t place = 2; place < o[1] + 2u; place += 2u + o[place + 1])
-        SAY("step %02x %zu %u\n", o[place], place + 2, o[place + 1]);
-    SAY("step none\nstep none\nbegins %u\n", d->entries);
+        SAY("step %02x %zu %u edition %u\n", o[place], place + 2, o[place + 1],
+            v.edition);
+    for (int i = 0; i < 2; i++)
+        SAY("step none edition %u\n", v.edition);
+    SAY("begins %u\n", d->entries);
 }
 
 /* The code that the program lends stays with a refusal; else 0 is the message
  * and 1 the directory. */
 #define LENT_CODE 7
 
-static void say_caption(const uint8_t *o, size_t n, const uint8_t *directory,
-                        size_t octets)
+static void say_caption(uint8_t edition, const uint8_t *o, size_t n,
+                        const uint8_t *directory, size_t octets)
 {
-    struct second_part p = second_caption(o, n, directory, octets);
+    struct second_part p = second_caption(edition, o, n, directory, octets);
     int inside = p.slice == SECOND_IN_MESSAGE;
 
     if (p.number)
-        SAY("find %u at %zu in %zu\n", p.number, p.place, p.parameter);
+        SAY("find %u at %zu in %zu edition %u\n", p.number, p.place,
+            p.parameter, p.edition);
     else
-        SAY("find %s %zu %zu\n", inside ? "message" : "directory", p.start,
-            p.length);
+        SAY("find %s %zu %zu edition %u\n", inside ? "message" : "directory",
+            p.start, p.length, p.edition);
     SAY("caption %d=", p.number ? LENT_CODE : !inside);
     say_octets((inside ? o : directory) + p.start, p.length);
 }
@@ -125,20 +140,23 @@ static void put_behind_length(const uint8_t *o, size_t n)
         fwrite(o, 1, n, cases);
 }
 
-static void put_case(const uint8_t *o, size_t n, const uint8_t *directory,
-                     size_t octets, size_t room, const char *by_hand)
+static void put_case(uint8_t edition, const uint8_t *o, size_t n,
+                     const uint8_t *directory, size_t octets, size_t room,
+                     const char *by_hand)
 {
     struct second_draft d;
-    struct second_verdict v = second_read(o, n, SECOND_TEXTS, &d);
+    struct second_verdict v = second_read(edition, o, n, SECOND_TEXTS, &d);
+    uint8_t told[2] = {edition, 1};
 
+    fwrite(told, 1, 2, cases);
     put_behind_length(o, n);
     put_behind_length(directory, octets);
     put_behind_length(NULL, room);
     end = 0;
     say_read(n, v, &d);
-    say_room(o, n, room);
+    say_room(edition, o, n, room);
     say_steps(o, v, &d);
-    say_caption(o, n, directory, octets);
+    say_caption(edition, o, n, directory, octets);
     fputs(by_hand ? by_hand : said, lines);
     if (by_hand && strcmp(by_hand, said)) {
         printf("parts: by hand\n%sthe second reader\n%s", by_hand, said);
@@ -146,10 +164,41 @@ static void put_case(const uint8_t *o, size_t n, const uint8_t *directory,
     }
 }
 
-/* ---- By hand: 01's "Drafts" and "The caption" ---- */
+/* ---- By hand: 01's "Drafts" and "The caption" ----
+ *
+ * The edition that every answer of a case names stands once, with the case, and
+ * is put into each line that says it. */
+
+static char named[sizeof said];
+
+static const char *naming(const char *by_hand, unsigned edition)
+{
+    size_t at = 0;
+
+    for (const char *next; *by_hand != '\0'; by_hand = next) {
+        int n = (int)strcspn(by_hand, "\n");
+
+        next = by_hand + n + 1;
+        if (strncmp(by_hand, "write ", 6) == 0)
+            at += (size_t)sprintf(named + at, "%.*s edition %u same\n",
+                                  n - (int)strlen(" same"), by_hand, edition);
+        else if (strncmp(by_hand, "read ", 5) == 0)
+            at += (size_t)sprintf(named + at, "%.*s edition %u %u\n", n,
+                                  by_hand, edition, edition);
+        else if (strncmp(by_hand, "room ", 5) == 0
+                 || strncmp(by_hand, "step ", 5) == 0
+                 || strncmp(by_hand, "find ", 5) == 0)
+            at += (size_t)sprintf(named + at, "%.*s edition %u\n", n, by_hand,
+                                  edition);
+        else
+            at += (size_t)sprintf(named + at, "%.*s\n", n, by_hand);
+    }
+    return named;
+}
 
 #define WRITTEN(size, spoilt)                                                 \
-    "write " size " same\nagain same\nspoilt " spoilt "\nempty other\n"
+    "write " size " same\nagain same\nspoilt " spoilt "\nempty other\n"       \
+    "edition other\nunknown other\n"
 #define TWICE(line) line line
 
 /* caller 40912, and what is said of it ahead of its caption */
@@ -163,11 +212,13 @@ static void put_case(const uint8_t *o, size_t n, const uint8_t *directory,
     "read " refusal "\nroom " room ": " refusal "\n"                          \
     TWICE("step " refusal "\n") "begins 0\nfind " refusal "\ncaption 7=\n"
 
-static const struct {
+struct row {
     const char *hex, *directory;
     size_t room;
     const char *lines;
-} rows[] = {
+};
+
+static const struct row rows[] = {
     /* the text after the first = on the first line for the caller */
     {CALLER, "40912=Odile\n", 5,
      CALLER_IS "find directory 6 5\ncaption 1=4f64696c65\n"},
@@ -183,7 +234,8 @@ static const struct {
      CALLER_IS "find directory 16 1\ncaption 1=78\n"},
     /* no line is for the caller: the caller itself */
     {CALLER, "", 5, CALLER_IS "find message 4 5\ncaption 0=3430393132\n"},
-    {CALLER, "40912\n", 5, CALLER_IS "find message 4 5\ncaption 0=3430393132\n"},
+    {CALLER, "40912\n", 5,
+     CALLER_IS "find message 4 5\ncaption 0=3430393132\n"},
     {CALLER, "409123=x\n4091=y\n=40912\n 40912=z\n", 5,
      CALLER_IS "find message 4 5\ncaption 0=3430393132\n"},
     /* the name that counts goes before the directory */
@@ -258,6 +310,103 @@ static const struct {
      "begins 2\nfind directory 2 1\ncaption 1=78\n"},
 };
 
+/* Source 001's edition (02, Q-5). */
+static const struct row old_rows[] = {
+    /* 08H is carried, of any length, and silences no name */
+    {"80 06 08 01 4F 07 01 41 D9", "", 2,
+     "read 80 2 2\n08 4 4f\n07 3 41\n" TWICE(WRITTEN("9", "other"))
+     "room 2: texts 2\nstep 08 4 1\nstep 07 7 1\nstep none\nstep none\n"
+     "begins 2\nfind message 7 1\ncaption 0=41\n"},
+    {"80 0D 08 05 00 01 02 03 04 07 01 41 02 01 37 D9", "7=x\n", 6,
+     "read 80 3 7\n08 4 0001020304\n07 3 41\n02 3 37\n"
+     TWICE(WRITTEN("16", "other"))
+     "room 6: 9 at 7 in 0\nstep 08 4 5\nstep 07 11 1\nstep 02 14 1\n"
+     "step none\nstep none\nbegins 3\nfind message 11 1\ncaption 0=41\n"},
+    /* a caller of 18 digits, its line in the directory; 19, and no digit */
+    {"80 14 02 12 31 31 31 31 31 31 31 31 31 31 31 31 31 31 31 31 "
+     "31 31 E6",
+     "11111111111111111=y\n111111111111111111=x\n", 18,
+     "read 80 1 18\n02 3 313131313131313131313131313131313131\n"
+     TWICE(WRITTEN("23", "other"))
+     "room 18: texts 18\nstep 02 4 18\nstep none\nstep none\nbegins 1\n"
+     "find directory 39 1\ncaption 1=78\n"},
+    {"80 15 02 13 31 31 31 31 31 31 31 31 31 31 31 31 31 31 31 31 "
+     "31 31 31 B3",
+     "", 253, REFUSED("253", "4 at 3 in 1")},
+    {"80 04 02 02 37 2A 17", "7*=x\n", 2, REFUSED("2", "5 at 5 in 1")},
+    {"80 04 02 02 37 23 1E", "7#=x\n", 2, REFUSED("2", "5 at 5 in 1")},
+    {"80 03 02 01 41 39", "", 1, REFUSED("1", "5 at 4 in 1")},
+    /* the pair 02H and 04H in both orders */
+    {"80 06 04 01 50 02 01 37 EB", "7=x\n", 0,
+     "read 80 2 1\n04 0 80 0 0 0\n02 3 37\n" TWICE(WRITTEN("9", "other"))
+     "room 0: 9 at 1 in 0\nstep 04 4 1\nstep 02 7 1\nstep none\nstep none\n"
+     "begins 2\nfind message 0 0\ncaption 0=\n"},
+    {"80 06 02 01 37 04 01 50 EB", "7=x\n", 1,
+     "read 80 2 1\n02 3 37\n04 0 80 0 0 0\n" TWICE(WRITTEN("9", "other"))
+     "room 1: texts 1\nstep 02 4 1\nstep 04 7 1\nstep none\nstep none\n"
+     "begins 2\nfind directory 2 1\ncaption 1=78\n"},
+    /* 13H, 0DH, 03H, 0EH and 11H are carried, with any contents */
+    {"82 03 13 01 02 65", "", 1,
+     "read 82 1 1\n13 4 02\n" TWICE(WRITTEN("6", "other"))
+     "room 1: texts 1\nstep 13 4 1\nstep none\nstep none\nbegins 1\n"
+     "find message 0 0\ncaption 0=\n"},
+    {"82 0F 0D 03 FF 01 02 05 02 00 FF 13 01 02 03 01 31 0C", "", 6,
+     "read 82 4 7\n0d 4 ff0102\n05 4 00ff\n13 4 02\n03 4 31\n"
+     TWICE(WRITTEN("18", "other"))
+     "room 6: 9 at 7 in 0\nstep 0d 4 3\nstep 05 9 2\nstep 13 13 1\n"
+     "step 03 16 1\nstep none\nstep none\nbegins 4\nfind message 0 0\n"
+     "caption 0=\n"},
+    {"80 0D 0D 01 41 0E 01 FF 11 01 00 13 02 01 02 EC", "=x\n", 5,
+     "read 80 4 5\n0d 4 41\n0e 4 ff\n11 4 00\n13 4 0102\n"
+     TWICE(WRITTEN("16", "other"))
+     "room 5: texts 5\nstep 0d 4 1\nstep 0e 7 1\nstep 11 10 1\n"
+     "step 13 13 2\nstep none\nstep none\nbegins 4\nfind message 0 0\n"
+     "caption 0=\n"},
+    /* date, first called, lamp, forwarding and user, on both sides */
+    {"82 16 01 08 30 32 32 39 32 33 35 39 12 01 39 0B 01 00 15 01 06 16 01 0F "
+     "25",
+     "", 1,
+     "read 82 5 1\n01 1 2 29 23 59\n12 3 39\n0b 0 0 0 0 0\n15 0 6 0 0 0\n"
+     "16 0 15 0 0 0\n" TWICE(WRITTEN("25", "other"))
+     "room 1: texts 1\nstep 01 4 8\nstep 12 14 1\nstep 0b 17 1\n"
+     "step 15 20 1\nstep 16 23 1\nstep none\nstep none\nbegins 5\n"
+     "find message 0 0\ncaption 0=\n"},
+    {"80 0A 01 08 30 32 33 30 30 30 30 30 E8", "", 0,
+     REFUSED("0", "5 at 6 in 1")},
+    {"80 06 05 01 00 15 01 80 DE", "", 0, REFUSED("0", "5 at 7 in 2")},
+    {"80 03 15 01 07 60", "", 0, REFUSED("0", "5 at 4 in 1")},
+    {"80 03 16 01 01 65", "", 0, REFUSED("0", "5 at 4 in 1")},
+    /* a name of 20 characters, and one of 21 behind something carried */
+    {"82 16 07 14 41 41 41 41 41 41 41 41 41 41 41 41 41 41 41 41 "
+     "41 41 41 41 39",
+     "", 20,
+     "read 82 1 20\n07 3 4141414141414141414141414141414141414141\n"
+     TWICE(WRITTEN("25", "other"))
+     "room 20: texts 20\nstep 07 4 20\nstep none\nstep none\nbegins 1\n"
+     "find message 4 20\n"
+     "caption 0=4141414141414141414141414141414141414141\n"},
+    {"82 1A 05 01 00 07 15 41 41 41 41 41 41 41 41 41 41 41 41 41 "
+     "41 41 41 41 41 41 41 41 ED",
+     "", 21, REFUSED("21", "4 at 6 in 2")},
+    /* what no edition bears on */
+    {"", "40912=x\n", 0, REFUSED("0", "8 at 0 in 0")},
+    {"81", "7=x\n", 0, REFUSED("0", "1 at 0 in 0")},
+    {"82 03 0B 01 FF 71", "=x\n", 0, REFUSED("0", "6 at 5 in 0")},
+    {"82 03 0B 01 FF 70 00", "", 253, REFUSED("253", "7 at 6 in 0")},
+};
+
+/* Editions that there are not: 16 to everything, whatever the octets, and no
+ * edition is named. */
+static const uint8_t unknown[] = {2, 3, 128, 255};
+
+static const struct row unknown_rows[] = {
+    {CALLER, "40912=Odile\n", 5, REFUSED("5", "16 at 0 in 0")},
+    {"82 03 0B 01 FF 70", "", 253, REFUSED("253", "16 at 0 in 0")},
+    {"82 03 0B 01 FF 71", "", 0, REFUSED("0", "16 at 0 in 0")},
+    {"81", "7=x\n", 0, REFUSED("0", "16 at 0 in 0")},
+    {"", "", 0, REFUSED("0", "16 at 0 in 0")},
+};
+
 /* the octets of "80 0B 01" */
 static size_t octets_of(const char *hex, uint8_t *o)
 {
@@ -272,14 +421,79 @@ static size_t octets_of(const char *hex, uint8_t *o)
     return n;
 }
 
-static void put_rows(void)
+/* Told this edition, the case's answers name that one. */
+static void put_row(uint8_t edition, unsigned names, const struct row *row)
 {
     uint8_t o[TRAFFIC_OCTETS];
 
+    put_case(edition, o, octets_of(row->hex, o),
+             (const uint8_t *)row->directory, strlen(row->directory), row->room,
+             naming(row->lines, names));
+}
+
+static void put_rows(void)
+{
     for (size_t i = 0; i < sizeof rows / sizeof *rows; i++)
-        put_case(o, octets_of(rows[i].hex, o),
-                 (const uint8_t *)rows[i].directory, strlen(rows[i].directory),
-                 rows[i].room, rows[i].lines);
+        put_row(SECOND_PRESENT, 0, &rows[i]);
+    for (size_t i = 0; i < sizeof old_rows / sizeof *old_rows; i++)
+        put_row(SECOND_OLD, 1, &old_rows[i]);
+    for (size_t k = 0; k < sizeof unknown; k++)
+        for (size_t i = 0; i < sizeof unknown_rows / sizeof *unknown_rows; i++)
+            put_row(unknown[k], 0, &unknown_rows[i]);
+}
+
+/* ---- Both sides of the old edition's limits, read by each edition ---- */
+
+/* A call: n octets x of a type, and behind them the caller 7. */
+static void put_limit(uint8_t type, uint8_t n, uint8_t x)
+{
+    static const char directory[] = "111111111111111111=y\n7=x\n";
+    uint8_t o[TRAFFIC_OCTETS] = {0x80, (uint8_t)(n + 5), type, n}, sum = 0;
+    size_t size = 4u + n;
+
+    memset(o + 4, x, n);
+    memcpy(o + size, "\x02\x01\x37", 3);
+    size += 3;
+    for (size_t i = 0; i < size; i++)
+        sum = (uint8_t)(sum + o[i]);
+    o[size++] = (uint8_t)(0 - sum);
+    for (uint8_t edition = 0; edition < SECOND_EDITIONS; edition++)
+        put_case(edition, o, size, (const uint8_t *)directory,
+                 strlen(directory), n, NULL);
+}
+
+static void put_limits(void)
+{
+    static const struct {
+        uint8_t type, low, high, x;
+    } lengths[] = {
+        {0x02, 17, 21, '1'}, {0x12, 17, 21, '1'}, {0x07, 19, 22, 'A'},
+        {0x08, 1, 5, 'O'},   {0x03, 20, 21, '1'}, {0x0D, 2, 4, 0xFF},
+        {0x13, 1, 2, 0x02},
+    };
+    static const struct {
+        uint8_t type, low, high;
+    } octets[] = {
+        {0x02, 0x28, 0x3A}, {0x12, 0x2F, 0x3A}, {0x15, 0x00, 0x07},
+        {0x15, 0x7F, 0x80}, {0x16, 0x00, 0x10}, {0x11, 0x00, 0x01},
+    };
+
+    for (size_t i = 0; i < sizeof lengths / sizeof *lengths; i++)
+        for (uint8_t n = lengths[i].low; n <= lengths[i].high; n++)
+            put_limit(lengths[i].type, n, lengths[i].x);
+    for (size_t i = 0; i < sizeof octets / sizeof *octets; i++)
+        for (uint8_t x = octets[i].low; x <= octets[i].high; x++)
+            put_limit(octets[i].type, 1, x);
+}
+
+/* A message that both editions take, by editions that there are not. */
+static void put_unknown(void)
+{
+    static const uint8_t o[] = {0x80, 0x03, 0x02, 0x01, 0x37, 0x43};
+    static const uint8_t editions[] = {2, 4, 8, 16, 32, 64, 128, 129, 254};
+
+    for (size_t i = 0; i < sizeof editions; i++)
+        put_case(editions[i], o, sizeof o, (const uint8_t *)"7=x", 3, 1, NULL);
 }
 
 /* ---- Traffic, with directories ---- */
@@ -334,14 +548,14 @@ static void add_line(struct traffic *t, struct directory *d,
 }
 
 /* Lines around the caller that counts in the message, or around any. */
-static void make_directory(struct traffic *t, const uint8_t *o, size_t n,
-                           struct directory *d)
+static void make_directory(struct traffic *t, uint8_t edition,
+                           const uint8_t *o, size_t n, struct directory *d)
 {
     const uint8_t *caller = (const uint8_t *)"40912";
     size_t start = 0, length = 5, count = traffic_number(t, 6);
 
     d->n = 0;
-    if (second_counted(o, n, 0x02, &start, &length))
+    if (second_counted(edition, o, n, 0x02, &start, &length))
         caller = o + start;
     for (size_t i = 0; i < count; i++) {
         add_line(t, d, caller, length);
@@ -351,10 +565,11 @@ static void make_directory(struct traffic *t, const uint8_t *o, size_t n,
 }
 
 /* Often the texts' own size, or one less. */
-static size_t choose_room(struct traffic *t, const uint8_t *o, size_t n)
+static size_t choose_room(struct traffic *t, uint8_t edition,
+                          const uint8_t *o, size_t n)
 {
     struct second_draft d;
-    struct second_verdict v = second_read(o, n, SECOND_TEXTS, &d);
+    struct second_verdict v = second_read(edition, o, n, SECOND_TEXTS, &d);
     size_t way = traffic_number(t, 4);
 
     if (v.number || way == 0)
@@ -363,54 +578,63 @@ static size_t choose_room(struct traffic *t, const uint8_t *o, size_t n)
                                           : d.text_octets - 1u;
 }
 
-static void put_traffic(struct traffic *t, const uint8_t *o, size_t n)
+static void put_traffic(struct traffic *t, uint8_t edition, const uint8_t *o,
+                        size_t n)
 {
     struct directory d;
 
-    make_directory(t, o, n, &d);
-    put_case(o, n, d.octets, d.n, choose_room(t, o, n), NULL);
+    make_directory(t, edition, o, n, &d);
+    put_case(edition, o, n, d.octets, d.n, choose_room(t, edition, o, n), NULL);
 }
 
 /* A short message in which a caller counts and no name does. */
-static int goes_by_caller(const uint8_t *o, size_t n)
+static int goes_by_caller(uint8_t edition, const uint8_t *o, size_t n)
 {
     size_t start, length;
 
-    return n <= SHORT && second_counted(o, n, 0x02, &start, &length)
-        && !second_counted(o, n, 0x07, &start, &length);
+    return n <= SHORT && second_counted(edition, o, n, 0x02, &start, &length)
+        && !second_counted(edition, o, n, 0x07, &start, &length);
 }
 
-static void put_messages(void)
+static void put_messages(uint8_t edition)
 {
     struct traffic t;
     uint8_t o[TRAFFIC_OCTETS];
     unsigned kept = 0, passed = 0;
 
-    traffic_start(&t, 3);
-    while (kept < MESSAGES) {
+    traffic_start(&t, 3u + edition);
+    t.edition = edition;
+    while (kept < counts[edition].messages) {
         size_t n = traffic_next(&t, o);
         if (n > SHORT && ++passed % LONG_EVERY)
             continue;
         kept++;
-        put_traffic(&t, o, n);
+        put_traffic(&t, edition, o, n);
     }
-    for (kept = 0; kept < CALLERS;) {
+    for (kept = 0; kept < counts[edition].callers;) {
         size_t n = traffic_next(&t, o);
-        if (!goes_by_caller(o, n))
+        if (!goes_by_caller(edition, o, n))
             continue;
         kept++;
-        put_traffic(&t, o, n);
+        put_traffic(&t, edition, o, n);
     }
-    for (kept = 0; kept < LONGEST;) {
+    for (kept = 0; kept < counts[edition].longest;) {
         size_t n = traffic_next(&t, o);
-        if (n != 258 || !second_is_message(o, n))
+        if (n != 258 || !second_is_message(edition, o, n))
             continue;
         kept++;
-        put_traffic(&t, o, n);
+        put_traffic(&t, edition, o, n);
     }
-    for (kept = 0; kept < DATED; kept++) {
+    for (kept = 0; kept < counts[edition].dated; kept++) {
         size_t n = traffic_dated(&t, o);
-        put_traffic(&t, o, n);
+        put_traffic(&t, edition, o, n);
+    }
+    for (kept = 0; kept < CROSSED;) {
+        size_t n = traffic_next(&t, o);
+        if (n > SHORT || !second_is_message(edition, o, n))
+            continue;
+        kept++;
+        put_traffic(&t, edition == SECOND_PRESENT, o, n);
     }
 }
 
@@ -423,7 +647,10 @@ int main(int argc, char **argv)
     if (!cases || !lines)
         return 2;
     put_rows();
-    put_messages();
+    put_limits();
+    put_unknown();
+    put_messages(SECOND_PRESENT);
+    put_messages(SECOND_OLD);
     wrong |= ferror(cases) | ferror(lines);
     wrong |= fclose(cases) | fclose(lines);
     return wrong ? 1 : 0;

@@ -3,6 +3,7 @@
  * traffic, then some accepted messages with one wrong octet at every place,
  * then both again with dates at the limits of their months; each message
  * behind its length in two octets, and the second reader's listing of each.
+ * All of it is of the present edition, as listings are.
  * Usage: replay MESSAGES LISTINGS
  */
 #include <stdio.h>
@@ -65,7 +66,7 @@ int main(int argc, char **argv)
     }
     for (kept = 0; kept < SPOILT;) {
         size_t n = traffic_next(&t, o);
-        if (n > SHORT || !second_is_message(o, n))
+        if (n > SHORT || !second_is_message(SECOND_PRESENT, o, n))
             continue;
         kept++;
         put_spoilt(o, n);
@@ -76,7 +77,7 @@ int main(int argc, char **argv)
     }
     for (kept = 0; kept < DATED_SPOILT;) {
         size_t n = traffic_dated(&t, o);
-        if (n != DATE_ALONE || !second_is_message(o, n))
+        if (n != DATE_ALONE || !second_is_message(SECOND_PRESENT, o, n))
             continue;
         kept++;
         put_spoilt(o, n);

@@ -1,10 +1,12 @@
 /*
  * Writes what the program `rows` reads and what it must print: the rows of
  * 01's table, of 02's calendar (Q-2) and parameters at fault (Q-3) and of the
- * other books, whose outcomes stand here by hand, and both sides of every
- * limit, with what the second reader says; of the limits of 02 the refusals
- * stand here too. Each case is octets behind their length in two octets, whose
- * two upper bits are the book. Usage: rows CASES LINES
+ * other editions and ways, whose outcomes stand here by hand, and both sides
+ * of every limit of both editions, with what the second reader says; of the
+ * limits of 02 the refusals stand here too. Each case is an edition (0 the
+ * present one, 1 the old, Q-5), a way (0 types without a row refused, 1
+ * carried), the octets' number in two octets, and the octets. Usage: rows CASES
+ * LINES
  */
 #include <stdio.h>
 #include <string.h>
@@ -16,17 +18,35 @@ static int wrong;
 
 /* ---- One case ---- */
 
+static void put(unsigned edition, unsigned way, const uint8_t *o, size_t n,
+                const char *line)
+{
+    uint8_t head[4] = {(uint8_t)edition, (uint8_t)way, (uint8_t)(n >> 8),
+                       (uint8_t)n};
+
+    fwrite(head, 1, 4, cases);
+    fwrite(o, 1, n, cases);
+    for (size_t i = 0; i < n; i++)
+        fprintf(lines, "%02x ", o[i]);
+    fprintf(lines, "| %s\n", line);
+}
+
+/* The edition of the cases made from here on that name none. */
+static uint8_t edition = SECOND_PRESENT;
+
+/* The lenient way: what the second reader says. A listing stands ahead of it in
+ * the present edition. */
 static void put_case(const uint8_t *o, size_t n, const char *by_hand)
 {
-    struct second_answer heard = second_listen(o, n);
+    struct second_answer heard = second_listen(edition, o, n);
     struct second_draft draft;
-    struct second_verdict read = second_read(o, n, SECOND_TEXTS, &draft);
+    struct second_verdict read =
+        second_read(edition, o, n, SECOND_TEXTS, &draft);
     char text[SECOND_LISTING], said[2 * SECOND_LISTING];
     size_t listed = second_listing(o, n, text), at = 0;
-    uint8_t size[2] = {(uint8_t)(n >> 8), (uint8_t)n};
 
-    fwrite(size, 1, 2, cases);
-    fwrite(o, 1, n, cases);
+    if (edition != SECOND_PRESENT)
+        listed = (size_t)sprintf(text, "edition %u way 1 ", edition);
     for (size_t i = 0; i < listed; i++)
         said[at++] = text[i] == '\n' ? ' ' : text[i];
     if (heard.answer == SECOND_WAITS)
@@ -36,16 +56,17 @@ static void put_case(const uint8_t *o, size_t n, const char *by_hand)
     else
         at += (size_t)sprintf(said + at, "| L %u at %zu in %zu", heard.number,
                               heard.place, heard.parameter);
-    at += (size_t)sprintf(said + at, ", took %zu", heard.taken);
-    if (read.number)
+    at += (size_t)sprintf(said + at, ", took %zu, edition %u", heard.taken,
+                          heard.edition);
+    if (edition >= SECOND_EDITIONS)
+        said[at] = '\0';
+    else if (read.number)
         sprintf(said + at, " | read %u at %zu in %zu", read.number, read.place,
                 read.parameter);
     else
         sprintf(said + at, " | read size %zu", n);
 
-    for (size_t i = 0; i < n; i++)
-        fprintf(lines, "%02x ", o[i]);
-    fprintf(lines, "| %s\n", by_hand ? by_hand : said);
+    put(edition, 1, o, n, by_hand ? by_hand : said);
     if (by_hand && strcmp(by_hand, said)) {
         printf("rows: by hand %s\n      the second reader %s\n", by_hand, said);
         wrong = 1;
@@ -76,7 +97,7 @@ static void hex_case(const char *hex, const char *by_hand)
 static void spoilt_case(const uint8_t *o, size_t n, unsigned number,
                         size_t place, size_t parameter)
 {
-    struct second_answer heard = second_listen(o, n);
+    struct second_answer heard = second_listen(edition, o, n);
 
     put_case(o, n, NULL);
     if (heard.number != number || heard.place != place
@@ -88,14 +109,19 @@ static void spoilt_case(const uint8_t *o, size_t n, unsigned number,
     }
 }
 
-/* By hand: a refusal with number, place, parameter and octets taken; octets
- * that end early; an accepted message. */
+/* By hand, in the present edition: a refusal with number, place, parameter and
+ * octets taken; octets that end early; an accepted message. */
 #define SPOILT(k, p, q, taken)                                             \
     "refused=" k " at=" p " in=" q " | L " k " at " p " in " q ", took "   \
-    taken " | read " k " at " p " in " q
+    taken ", edition 0 | read " k " at " p " in " q
 #define EARLY(n)                                                           \
-    "refused=8 at=" n " in=0 | L waits, took " n " | read 8 at " n " in 0"
-#define ACCEPTED(n) " | L size " n ", took " n " | read size " n
+    "refused=8 at=" n " in=0 | L waits, took " n                           \
+    ", edition 0 | read 8 at " n " in 0"
+#define ACCEPTED(n)                                                        \
+    " | L size " n ", took " n ", edition 0 | read size " n
+#define FOLLOWED(n)                                                        \
+    "refused=7 at=" n " in=0 | L size " n ", took " n                      \
+    ", edition 0 | read 7 at " n " in 0"
 
 /* ---- 01's table ---- */
 
@@ -118,8 +144,7 @@ static const char *const table[][2] = {
     {"82 03 0B 01 FF 70",
      "kind=notice lamp=on carried=0" ACCEPTED("6")},
     {"82 03 0B 01 FF 71", SPOILT("6", "5", "0", "6")},
-    {"82 03 0B 01 FF 70 00",
-     "refused=7 at=6 in=0 | L size 6, took 6 | read 7 at 6 in 0"},
+    {"82 03 0B 01 FF 70 00", FOLLOWED("6")},
     {"82 03 13 01 02 65",
      "kind=notice waiting=2 carried=0" ACCEPTED("6")},
     {"82 06 13 01 02 13 01 05 49",
@@ -178,8 +203,7 @@ static const char *const parameter_table[][2] = {
     {"80 08 02 02 31 32 02 02 33 34 A7", SPOILT("6", "10", "0", "11")},
     {"80 08 02 02 31 32 02 02 33 34 A6",
      "kind=call caller=12 carried=0" ACCEPTED("11")},
-    {"80 08 02 02 31 32 02 02 33 34 A6 00",
-     "refused=7 at=11 in=0 | L size 11, took 11 | read 7 at 11 in 0"},
+    {"80 08 02 02 31 32 02 02 33 34 A6 00", FOLLOWED("11")},
     {"80 08 02 02 31 32 02 02 33", EARLY("9")},
     /* carried ones count, each of them */
     {"80 06 05 01 00 04 01 51", SPOILT("5", "7", "2", "8")},
@@ -200,204 +224,279 @@ static const char *const parameter_table[][2] = {
     {"82 06 13 01 02 13 01 05 4A", SPOILT("6", "8", "0", "9")},
 };
 
-/* ---- The other books: 1 the present edition with unlisted types refused, 2
- * the old edition (source 001), 3 the old one with unlisted types refused. The
- * second reader does not know them: number, place and parameter stand here by
- * hand, 0 where a listener waits, SIZE where the octets are a message. ---- */
+/* ---- The other editions and ways, by hand: number, place and parameter, 0
+ * where a listener waits, SIZE where the octets are a message. The second
+ * reader knows the lenient way alone, and must say the same there. ---- */
 
 #define SIZE 255
 
 static const struct {
-    uint8_t book;
+    uint8_t edition, way;
     const char *hex;
     unsigned number, place, parameter;
-} by_book[] = {
+} by_hand[] = {
     /* an unlisted type, in any room and ahead of 3; listed ones as ever */
-    {1, "80 03 05", 10, 2, 1},
-    {1, "80 04 05", 10, 2, 1},
-    {1, "80 FF 05", 10, 2, 1},
-    {1, "80 03 00", 10, 2, 1},
-    {1, "80 03 17", 10, 2, 1},
-    {1, "80 03 FF", 10, 2, 1},
-    {1, "82 06 13 01 02 05", 10, 5, 2},
-    {1, "80 04 04", 3, 2, 1},
-    {1, "80 06 0D", 3, 2, 1},
-    {1, "80 05 0D", 0, 0, 0},
-    {1, "80 03 02", 0, 0, 0},
-    {1, "80 16 02 14", 0, 0, 0},
-    {1, "80 17 02 15", 4, 3, 1},
-    {1, "80 03 16 01 01", 0, 0, 0},
-    {1, "82 03 13 01 02 65", SIZE, 0, 0},
-    {1, "82 03 13 01 02 66", 6, 5, 0},
-    /* dates by the calendar (02, Q-2) in every book */
-    {1, "80 0A 01 08 30 32 32 39", 0, 0, 0},
-    {1, "80 0A 01 08 30 32 33", 5, 6, 1},
-    {1, "80 0A 01 08 30 34 33 30", 0, 0, 0},
-    {1, "80 0A 01 08 30 34 33 31", 5, 7, 1},
-    {1, "80 0A 01 08 31 32 33 31", 0, 0, 0},
-    {1, "80 0A 01 08 31 32 33 32", 5, 7, 1},
-    {1, "80 0A 01 08 30 32 30 30", 5, 7, 1},
-    {1, "80 0A 01 08 30 32 32 39 30 30 30 30 E0", SIZE, 0, 0},
-    {2, "80 0A 01 08 30 32 32 39", 0, 0, 0},
-    {2, "80 0A 01 08 30 32 33", 5, 6, 1},
-    {2, "80 0A 01 08 30 34 33 30", 0, 0, 0},
-    {2, "80 0A 01 08 30 34 33 31", 5, 7, 1},
-    {2, "80 0A 01 08 31 32 33 31", 0, 0, 0},
-    {2, "80 0A 01 08 31 32 33 32", 5, 7, 1},
-    {2, "80 0A 01 08 30 32 30 30", 5, 7, 1},
-    {2, "80 0A 01 08 30 32 32 39 30 30 30 30 E0", SIZE, 0, 0},
-    {3, "80 0A 01 08 30 32 32 39", 0, 0, 0},
-    {3, "80 0A 01 08 30 32 33", 5, 6, 1},
-    {3, "80 0A 01 08 30 34 33 30", 0, 0, 0},
-    {3, "80 0A 01 08 30 34 33 31", 5, 7, 1},
-    {3, "80 0A 01 08 31 32 33 31", 0, 0, 0},
-    {3, "80 0A 01 08 31 32 33 32", 5, 7, 1},
-    {3, "80 0A 01 08 30 32 30 30", 5, 7, 1},
-    {3, "80 0A 01 08 30 32 32 39 30 30 30 30 E0", SIZE, 0, 0},
+    {0, 0, "80 03 05", 10, 2, 1},
+    {0, 0, "80 04 05", 10, 2, 1},
+    {0, 0, "80 FF 05", 10, 2, 1},
+    {0, 0, "80 03 00", 10, 2, 1},
+    {0, 0, "80 03 17", 10, 2, 1},
+    {0, 0, "80 03 FF", 10, 2, 1},
+    {0, 0, "82 06 13 01 02 05", 10, 5, 2},
+    {0, 0, "80 04 04", 3, 2, 1},
+    {0, 0, "80 06 0D", 3, 2, 1},
+    {0, 0, "80 05 0D", 0, 0, 0},
+    {0, 0, "80 03 02", 0, 0, 0},
+    {0, 0, "80 16 02 14", 0, 0, 0},
+    {0, 0, "80 17 02 15", 4, 3, 1},
+    {0, 0, "80 03 16 01 01", 0, 0, 0},
+    {0, 0, "82 03 13 01 02 65", SIZE, 0, 0},
+    {0, 0, "82 03 13 01 02 66", 6, 5, 0},
+    /* dates by the calendar (02, Q-2) in both editions */
+    {0, 0, "80 0A 01 08 30 32 32 39", 0, 0, 0},
+    {0, 0, "80 0A 01 08 30 32 33", 5, 6, 1},
+    {0, 0, "80 0A 01 08 30 34 33 30", 0, 0, 0},
+    {0, 0, "80 0A 01 08 30 34 33 31", 5, 7, 1},
+    {0, 0, "80 0A 01 08 31 32 33 31", 0, 0, 0},
+    {0, 0, "80 0A 01 08 31 32 33 32", 5, 7, 1},
+    {0, 0, "80 0A 01 08 30 32 30 30", 5, 7, 1},
+    {0, 0, "80 0A 01 08 30 32 32 39 30 30 30 30 E0", SIZE, 0, 0},
+    {1, 1, "80 0A 01 08 30 32 32 39", 0, 0, 0},
+    {1, 1, "80 0A 01 08 30 32 33", 5, 6, 1},
+    {1, 1, "80 0A 01 08 30 34 33 30", 0, 0, 0},
+    {1, 1, "80 0A 01 08 30 34 33 31", 5, 7, 1},
+    {1, 1, "80 0A 01 08 31 32 33 31", 0, 0, 0},
+    {1, 1, "80 0A 01 08 31 32 33 32", 5, 7, 1},
+    {1, 1, "80 0A 01 08 30 32 30 30", 5, 7, 1},
+    {1, 1, "80 0A 01 08 30 32 32 39 30 30 30 30 E0", SIZE, 0, 0},
+    {1, 0, "80 0A 01 08 30 32 32 39", 0, 0, 0},
+    {1, 0, "80 0A 01 08 30 32 33", 5, 6, 1},
+    {1, 0, "80 0A 01 08 30 34 33 30", 0, 0, 0},
+    {1, 0, "80 0A 01 08 30 34 33 31", 5, 7, 1},
+    {1, 0, "80 0A 01 08 31 32 33 31", 0, 0, 0},
+    {1, 0, "80 0A 01 08 31 32 33 32", 5, 7, 1},
+    {1, 0, "80 0A 01 08 30 32 30 30", 5, 7, 1},
+    {1, 0, "80 0A 01 08 30 32 32 39 30 30 30 30 E0", SIZE, 0, 0},
     /* numbers of 1 to 18 digits */
-    {2, "80 03 02 00", 4, 3, 1},
-    {2, "80 14 02 12", 0, 0, 0},
-    {2, "80 15 02 13", 4, 3, 1},
-    {2, "80 14 12 12", 0, 0, 0},
-    {2, "80 15 12 13", 4, 3, 1},
-    {2, "80 03 02 01 2F", 5, 4, 1},
-    {2, "80 03 02 01 30", 0, 0, 0},
-    {2, "80 03 02 01 39", 0, 0, 0},
-    {2, "80 03 02 01 3A", 5, 4, 1},
-    {2, "80 03 02 01 2A", 5, 4, 1},
-    {2, "80 03 02 01 23", 5, 4, 1},
-    {2, "80 03 02 01 20", 5, 4, 1},
-    {2, "80 03 02 01 2D", 5, 4, 1},
-    {2, "80 03 02 01 28", 5, 4, 1},
-    {2, "80 03 12 01 2A", 5, 4, 1},
-    {2, "80 03 12 01 30", 0, 0, 0},
+    {1, 1, "80 03 02 00", 4, 3, 1},
+    {1, 1, "80 14 02 12", 0, 0, 0},
+    {1, 1, "80 15 02 13", 4, 3, 1},
+    {1, 1, "80 14 12 12", 0, 0, 0},
+    {1, 1, "80 15 12 13", 4, 3, 1},
+    {1, 1, "80 03 02 01 2F", 5, 4, 1},
+    {1, 1, "80 03 02 01 30", 0, 0, 0},
+    {1, 1, "80 03 02 01 39", 0, 0, 0},
+    {1, 1, "80 03 02 01 3A", 5, 4, 1},
+    {1, 1, "80 03 02 01 2A", 5, 4, 1},
+    {1, 1, "80 03 02 01 23", 5, 4, 1},
+    {1, 1, "80 03 02 01 20", 5, 4, 1},
+    {1, 1, "80 03 02 01 2D", 5, 4, 1},
+    {1, 1, "80 03 02 01 28", 5, 4, 1},
+    {1, 1, "80 03 12 01 2A", 5, 4, 1},
+    {1, 1, "80 03 12 01 30", 0, 0, 0},
     /* names of 1 to 20 characters */
-    {2, "80 16 07 14", 0, 0, 0},
-    {2, "80 17 07 15", 4, 3, 1},
-    {2, "80 03 07 01 1F", 5, 4, 1},
-    {2, "80 03 07 01 20", 0, 0, 0},
-    {2, "80 03 07 01 7E", 0, 0, 0},
-    {2, "80 03 07 01 7F", 5, 4, 1},
+    {1, 1, "80 16 07 14", 0, 0, 0},
+    {1, 1, "80 17 07 15", 4, 3, 1},
+    {1, 1, "80 03 07 01 1F", 5, 4, 1},
+    {1, 1, "80 03 07 01 20", 0, 0, 0},
+    {1, 1, "80 03 07 01 7E", 0, 0, 0},
+    {1, 1, "80 03 07 01 7F", 5, 4, 1},
     /* dates, the letters, the lamp */
-    {2, "80 0A 01", 0, 0, 0},
-    {2, "80 0B 01", 3, 2, 1},
-    {2, "80 0A 01 08 31 33", 5, 5, 1},
-    {2, "80 03 04 01 4E", 5, 4, 1},
-    {2, "80 03 04 01 4F", 0, 0, 0},
-    {2, "80 03 04 01 50", 0, 0, 0},
-    {2, "80 03 04 01 51", 5, 4, 1},
-    {2, "82 03 0B 01 00", 0, 0, 0},
-    {2, "82 03 0B 01 01", 5, 4, 1},
-    {2, "82 03 0B 01 FE", 5, 4, 1},
-    {2, "82 03 0B 01 FF 70", SIZE, 0, 0},
+    {1, 1, "80 0A 01", 0, 0, 0},
+    {1, 1, "80 0B 01", 3, 2, 1},
+    {1, 1, "80 0A 01 08 31 33", 5, 5, 1},
+    {1, 1, "80 03 04 01 4E", 5, 4, 1},
+    {1, 1, "80 03 04 01 4F", 0, 0, 0},
+    {1, 1, "80 03 04 01 50", 0, 0, 0},
+    {1, 1, "80 03 04 01 51", 5, 4, 1},
+    {1, 1, "82 03 0B 01 00", 0, 0, 0},
+    {1, 1, "82 03 0B 01 01", 5, 4, 1},
+    {1, 1, "82 03 0B 01 FE", 5, 4, 1},
+    {1, 1, "82 03 0B 01 FF 70", SIZE, 0, 0},
     /* forwarding 00H to 06H */
-    {2, "80 03 15 01 00", 0, 0, 0},
-    {2, "80 03 15 01 06", 0, 0, 0},
-    {2, "80 03 15 01 07", 5, 4, 1},
-    {2, "80 03 15 01 80", 5, 4, 1},
-    {2, "80 03 15 01 FF", 5, 4, 1},
+    {1, 1, "80 03 15 01 00", 0, 0, 0},
+    {1, 1, "80 03 15 01 06", 0, 0, 0},
+    {1, 1, "80 03 15 01 07", 5, 4, 1},
+    {1, 1, "80 03 15 01 80", 5, 4, 1},
+    {1, 1, "80 03 15 01 FF", 5, 4, 1},
     /* the sheet's nine values for the calling user, and those between them */
-    {2, "80 03 16 01 00", 0, 0, 0},
-    {2, "80 03 16 01 01", 5, 4, 1},
-    {2, "80 03 16 01 02", 5, 4, 1},
-    {2, "80 03 16 01 03", 0, 0, 0},
-    {2, "80 03 16 01 04", 0, 0, 0},
-    {2, "80 03 16 01 05", 0, 0, 0},
-    {2, "80 03 16 01 06", 5, 4, 1},
-    {2, "80 03 16 01 07", 5, 4, 1},
-    {2, "80 03 16 01 08", 5, 4, 1},
-    {2, "80 03 16 01 09", 5, 4, 1},
-    {2, "80 03 16 01 0A", 0, 0, 0},
-    {2, "80 03 16 01 0B", 0, 0, 0},
-    {2, "80 03 16 01 0C", 0, 0, 0},
-    {2, "80 03 16 01 0D", 0, 0, 0},
-    {2, "80 03 16 01 0E", 5, 4, 1},
-    {2, "80 03 16 01 0F", 0, 0, 0},
-    {2, "80 03 16 01 10", 5, 4, 1},
+    {1, 1, "80 03 16 01 00", 0, 0, 0},
+    {1, 1, "80 03 16 01 01", 5, 4, 1},
+    {1, 1, "80 03 16 01 02", 5, 4, 1},
+    {1, 1, "80 03 16 01 03", 0, 0, 0},
+    {1, 1, "80 03 16 01 04", 0, 0, 0},
+    {1, 1, "80 03 16 01 05", 0, 0, 0},
+    {1, 1, "80 03 16 01 06", 5, 4, 1},
+    {1, 1, "80 03 16 01 07", 5, 4, 1},
+    {1, 1, "80 03 16 01 08", 5, 4, 1},
+    {1, 1, "80 03 16 01 09", 5, 4, 1},
+    {1, 1, "80 03 16 01 0A", 0, 0, 0},
+    {1, 1, "80 03 16 01 0B", 0, 0, 0},
+    {1, 1, "80 03 16 01 0C", 0, 0, 0},
+    {1, 1, "80 03 16 01 0D", 0, 0, 0},
+    {1, 1, "80 03 16 01 0E", 5, 4, 1},
+    {1, 1, "80 03 16 01 0F", 0, 0, 0},
+    {1, 1, "80 03 16 01 10", 5, 4, 1},
     /* all other types are carried: 03H with any octet, 08H of 5 octets */
-    {2, "80 03 03 01 00", 0, 0, 0},
-    {2, "80 07 08 05", 0, 0, 0},
-    {2, "80 03 0D", 0, 0, 0},
-    {2, "80 04 13", 0, 0, 0},
-    {2, "80 FF 0D FD", 0, 0, 0},
-    {2, "80 FF 0D FC", 4, 3, 1},
-    {2, "80 06 02 01 37 04 01 50 EB", SIZE, 0, 0},
+    {1, 1, "80 03 03 01 00", 0, 0, 0},
+    {1, 1, "80 07 08 05", 0, 0, 0},
+    {1, 1, "80 03 0D", 0, 0, 0},
+    {1, 1, "80 04 13", 0, 0, 0},
+    {1, 1, "80 FF 0D FD", 0, 0, 0},
+    {1, 1, "80 FF 0D FC", 4, 3, 1},
+    {1, 1, "80 06 02 01 37 04 01 50 EB", SIZE, 0, 0},
     /* and in the strict way refused */
-    {3, "80 03 05", 10, 2, 1},
-    {3, "80 03 03", 10, 2, 1},
-    {3, "80 04 08", 10, 2, 1},
-    {3, "80 05 0D", 10, 2, 1},
-    {3, "80 03 0E", 10, 2, 1},
-    {3, "80 03 11", 10, 2, 1},
-    {3, "80 03 13", 10, 2, 1},
-    {3, "80 03 14", 10, 2, 1},
-    {3, "82 06 0B 01 FF 13", 10, 5, 2},
-    {3, "80 0A 01", 0, 0, 0},
-    {3, "80 0B 01", 3, 2, 1},
-    {3, "80 03 02", 0, 0, 0},
-    {3, "80 03 04", 0, 0, 0},
-    {3, "80 04 04", 3, 2, 1},
-    {3, "80 03 07", 0, 0, 0},
-    {3, "80 03 0B", 0, 0, 0},
-    {3, "80 03 12", 0, 0, 0},
-    {3, "80 03 15", 0, 0, 0},
-    {3, "80 03 16", 0, 0, 0},
-    {3, "80 14 02 12", 0, 0, 0},
-    {3, "80 15 02 13", 4, 3, 1},
-    {3, "80 03 16 01 01", 5, 4, 1},
-    {3, "80 03 16 01 0F", 0, 0, 0},
-    {3, "80 06 02 01 37 04 01 50 EB", SIZE, 0, 0},
+    {1, 0, "80 03 05", 10, 2, 1},
+    {1, 0, "80 03 03", 10, 2, 1},
+    {1, 0, "80 04 08", 10, 2, 1},
+    {1, 0, "80 05 0D", 10, 2, 1},
+    {1, 0, "80 03 0E", 10, 2, 1},
+    {1, 0, "80 03 11", 10, 2, 1},
+    {1, 0, "80 03 13", 10, 2, 1},
+    {1, 0, "80 03 14", 10, 2, 1},
+    {1, 0, "82 06 0B 01 FF 13", 10, 5, 2},
+    {1, 0, "80 0A 01", 0, 0, 0},
+    {1, 0, "80 0B 01", 3, 2, 1},
+    {1, 0, "80 03 02", 0, 0, 0},
+    {1, 0, "80 03 04", 0, 0, 0},
+    {1, 0, "80 04 04", 3, 2, 1},
+    {1, 0, "80 03 07", 0, 0, 0},
+    {1, 0, "80 03 0B", 0, 0, 0},
+    {1, 0, "80 03 12", 0, 0, 0},
+    {1, 0, "80 03 15", 0, 0, 0},
+    {1, 0, "80 03 16", 0, 0, 0},
+    {1, 0, "80 14 02 12", 0, 0, 0},
+    {1, 0, "80 15 02 13", 4, 3, 1},
+    {1, 0, "80 03 16 01 01", 5, 4, 1},
+    {1, 0, "80 03 16 01 0F", 0, 0, 0},
+    {1, 0, "80 06 02 01 37 04 01 50 EB", SIZE, 0, 0},
     /* the parameter's number (02, Q-3), in the first, the second, the third;
      * repeats count, and so do carried ones */
-    {1, "80 09 05", 10, 2, 1},
-    {1, "80 09 04 01 50 05", 10, 5, 2},
-    {1, "80 09 04 01 50 04 01 50 05", 10, 8, 3},
-    {1, "80 0A 04 01 50 04 01 50 04", 3, 8, 3},
-    {1, "80 09 04 01 50 04 01 50 04 02", 4, 9, 3},
-    {1, "80 09 04 01 50 04 01 50 04 01 51", 5, 10, 3},
-    {1, "80 09 04 01 50 04 01 50 04 01 50 78", SIZE, 0, 0},
-    {1, "80 09 04 01 50 04 01 50 04 01 50 79", 6, 11, 0},
-    {2, "80 06 03 01 00 02 01 2A", 5, 7, 2},
-    {2, "80 09 13 01 02 13 01 05 02 01 2A", 5, 10, 3},
-    {2, "80 0E 08 01 00 01", 3, 5, 2},
-    {2, "80 07 0D 01 00 02 01", 4, 6, 2},
-    {2, "80 06 03 01 00 03 01 00 6F", 6, 8, 0},
-    {3, "80 09 03", 10, 2, 1},
-    {3, "80 09 04 01 50 03", 10, 5, 2},
-    {3, "80 09 04 01 50 04 01 50 03", 10, 8, 3},
-    {3, "80 0A 04 01 50 04 01 50 04", 3, 8, 3},
-    {3, "80 09 04 01 50 04 01 50 02 02", 4, 9, 3},
-    {3, "80 09 04 01 50 04 01 50 02 01 2A", 5, 10, 3},
-    {3, "80 09 04 01 50 04 01 50 04 01 50 79", 6, 11, 0},
+    {0, 0, "80 09 05", 10, 2, 1},
+    {0, 0, "80 09 04 01 50 05", 10, 5, 2},
+    {0, 0, "80 09 04 01 50 04 01 50 05", 10, 8, 3},
+    {0, 0, "80 0A 04 01 50 04 01 50 04", 3, 8, 3},
+    {0, 0, "80 09 04 01 50 04 01 50 04 02", 4, 9, 3},
+    {0, 0, "80 09 04 01 50 04 01 50 04 01 51", 5, 10, 3},
+    {0, 0, "80 09 04 01 50 04 01 50 04 01 50 78", SIZE, 0, 0},
+    {0, 0, "80 09 04 01 50 04 01 50 04 01 50 79", 6, 11, 0},
+    {1, 1, "80 06 03 01 00 02 01 2A", 5, 7, 2},
+    {1, 1, "80 09 13 01 02 13 01 05 02 01 2A", 5, 10, 3},
+    {1, 1, "80 0E 08 01 00 01", 3, 5, 2},
+    {1, 1, "80 07 0D 01 00 02 01", 4, 6, 2},
+    {1, 1, "80 06 03 01 00 03 01 00 6F", 6, 8, 0},
+    {1, 0, "80 09 03", 10, 2, 1},
+    {1, 0, "80 09 04 01 50 03", 10, 5, 2},
+    {1, 0, "80 09 04 01 50 04 01 50 03", 10, 8, 3},
+    {1, 0, "80 0A 04 01 50 04 01 50 04", 3, 8, 3},
+    {1, 0, "80 09 04 01 50 04 01 50 02 02", 4, 9, 3},
+    {1, 0, "80 09 04 01 50 04 01 50 02 01 2A", 5, 10, 3},
+    {1, 0, "80 09 04 01 50 04 01 50 04 01 50 79", 6, 11, 0},
+    /* whole messages of the old edition: 18 digits, 20 characters, and one more
+     * of each; 08H of 1 and of 5 octets; what it carries, with any contents */
+    {1, 1, "80 14 02 12 31 31 31 31 31 31 31 31 31 31 31 31 31 31 31 "
+     "31 31 31 E6", SIZE, 0, 0},
+    {1, 1, "80 15 02 13 31 31 31 31 31 31 31 31 31 31 31 31 31 31 31 "
+     "31 31 31 31 B3", 4, 3, 1},
+    {1, 1, "80 14 12 12 31 31 31 31 31 31 31 31 31 31 31 31 31 31 31 "
+     "31 31 31 D6", SIZE, 0, 0},
+    {1, 1, "80 14 02 12 31 31 31 31 31 31 31 31 31 31 31 31 31 31 31 "
+     "31 31 23 F4", 5, 21, 1},
+    {1, 1, "82 16 07 14 41 41 41 41 41 41 41 41 41 41 41 41 41 41 41 "
+     "41 41 41 41 41 39", SIZE, 0, 0},
+    {1, 1, "82 17 07 15 41 41 41 41 41 41 41 41 41 41 41 41 41 41 41 "
+     "41 41 41 41 41 41 F6", 4, 3, 1},
+    {1, 1, "80 06 08 01 51 07 01 41 D7", SIZE, 0, 0},
+    {1, 1, "80 0A 08 05 00 01 02 03 04 07 01 41 16", SIZE, 0, 0},
+    {1, 1, "80 06 03 01 41 0E 01 FF 27", SIZE, 0, 0},
+    {1, 1, "82 0A 13 02 01 02 0D 01 42 11 01 00 FA", SIZE, 0, 0},
+    {1, 1, "82 06 0B 01 FF 15 01 80 D7", 5, 7, 2},
+    {1, 1, "82 06 0B 01 FF 16 01 0E 48", 5, 7, 2},
+    {1, 1, "80 06 02 01 37 04 01 50 EC", 6, 8, 0},
+    {1, 1, "80 06 04 01 50 02 01 37 EB", SIZE, 0, 0},
 };
 
-static void book_case(unsigned book, const uint8_t *o, size_t n,
-                      unsigned number, unsigned place, unsigned parameter)
+static void told_case(unsigned of_edition, unsigned way, const uint8_t *o,
+                      size_t n, unsigned number, unsigned place,
+                      unsigned parameter)
 {
-    uint8_t size[2] = {(uint8_t)(book << 6 | n >> 8), (uint8_t)n};
+    char line[200];
+    size_t at = (size_t)sprintf(line, "edition %u way %u ", of_edition, way);
 
-    fwrite(size, 1, 2, cases);
-    fwrite(o, 1, n, cases);
-    for (size_t k = 0; k < n; k++)
-        fprintf(lines, "%02x ", o[k]);
-    fprintf(lines, "| book %u ", book);
     if (number == 0)
-        fprintf(lines, "| L waits, took %zu | read 8 at %zu in 0\n", n, n);
+        sprintf(line + at,
+                "| L waits, took %zu, edition %u | read 8 at %zu in 0", n,
+                of_edition, n);
     else if (number == SIZE)
-        fprintf(lines, "| L size %zu, took %zu | read size %zu\n", n, n, n);
+        sprintf(line + at, "| L size %zu, took %zu, edition %u | read size %zu",
+                n, n, of_edition, n);
     else
-        fprintf(lines,
-                "| L %u at %u in %u, took %u | read %u at %u in %u\n", number,
-                place, parameter, place + 1, number, place, parameter);
+        sprintf(line + at,
+                "| L %u at %u in %u, took %u, edition %u | read %u at %u in %u",
+                number, place, parameter, place + 1, of_edition, number, place,
+                parameter);
+    if (way == 0) {
+        put(of_edition, way, o, n, line);
+        return;
+    }
+    edition = (uint8_t)of_edition;
+    put_case(o, n, line);
+    edition = SECOND_PRESENT;
 }
 
-static void books(void)
+static void told(void)
 {
     uint8_t o[300];
 
-    for (size_t i = 0; i < sizeof by_book / sizeof *by_book; i++)
-        book_case(by_book[i].book, o, octets_of(by_book[i].hex, o),
-                  by_book[i].number, by_book[i].place, by_book[i].parameter);
+    for (size_t i = 0; i < sizeof by_hand / sizeof *by_hand; i++)
+        told_case(by_hand[i].edition, by_hand[i].way, o,
+                  octets_of(by_hand[i].hex, o), by_hand[i].number,
+                  by_hand[i].place, by_hand[i].parameter);
+}
+
+/* ---- Unknown editions and ways: 16, whatever the octets; no edition is
+ * named, and none of the octets is taken ---- */
+
+static const struct {
+    uint8_t edition, way;
+    const char *line;
+} unknown[] = {
+    {2, 1, "edition 2 way 1 | L 16 at 0 in 0, took 0, edition 0"},
+    {3, 1, "edition 3 way 1 | L 16 at 0 in 0, took 0, edition 0"},
+    {128, 1, "edition 128 way 1 | L 16 at 0 in 0, took 0, edition 0"},
+    {255, 1, "edition 255 way 1 | L 16 at 0 in 0, took 0, edition 0"},
+    {2, 0, "edition 2 way 0 | L 16 at 0 in 0, took 0, edition 0"},
+    {255, 0, "edition 255 way 0 | L 16 at 0 in 0, took 0, edition 0"},
+    {0, 2, "edition 0 way 2 | L 16 at 0 in 0, took 0, edition 0"},
+    {1, 2, "edition 1 way 2 | L 16 at 0 in 0, took 0, edition 0"},
+    {0, 255, "edition 0 way 255 | L 16 at 0 in 0, took 0, edition 0"},
+    {1, 255, "edition 1 way 255 | L 16 at 0 in 0, took 0, edition 0"},
+    {2, 2, "edition 2 way 2 | L 16 at 0 in 0, took 0, edition 0"},
+    {255, 255, "edition 255 way 255 | L 16 at 0 in 0, took 0, edition 0"},
+};
+
+static void unknown_ones(void)
+{
+    /* nothing; not refused yet; refused with 1; a message; more behind it */
+    static const char *const octets[] = {"", "80 03", "81",
+                                         "82 03 0B 01 FF 70",
+                                         "82 03 0B 01 FF 70 00"};
+    uint8_t o[300];
+
+    for (size_t i = 0; i < sizeof unknown / sizeof *unknown; i++)
+        for (size_t k = 0; k < sizeof octets / sizeof *octets; k++) {
+            size_t n = octets_of(octets[k], o);
+
+            edition = unknown[i].edition;
+            if (unknown[i].way == 1)
+                put_case(o, n, unknown[i].line);
+            else
+                put(edition, unknown[i].way, o, n, unknown[i].line);
+        }
+    /* a message that both editions take, by every edition that there is not */
+    for (edition = SECOND_EDITIONS; edition != 0; edition++)
+        hex_case("80 03 02 01 37 43", NULL);
+    edition = SECOND_PRESENT;
 }
 
 /* ---- Both sides of every limit ---- */
@@ -407,15 +506,21 @@ static const uint8_t types[] = {0x00, 0x01, 0x02, 0x03, 0x04, 0x05, 0x07,
                                 0x08, 0x0B, 0x0D, 0x0E, 0x11, 0x12, 0x13,
                                 0x15, 0x16, 0x17, 0xFF};
 
-/* lengths on both sides of 1, 3, 8, 20, 50 and 253 */
-static const unsigned lengths[] = {0,  1,  2,  3,  4,  7,   8,   9,  19,
-                                   20, 21, 49, 50, 51, 252, 253, 254};
+/* lengths on both sides of 1, 3, 8, 20, 50 and 253; in the old edition of 1, 8,
+ * 18, 20 and 253 */
+#define LENGTHS 17
+static const unsigned lengths[SECOND_EDITIONS][LENGTHS] = {
+    {0, 1, 2, 3, 4, 7, 8, 9, 19, 20, 21, 49, 50, 51, 252, 253, 254},
+    {0, 1, 2, 3, 5, 7, 8, 9, 17, 18, 19, 20, 21, 22, 252, 253, 254},
+};
 
 /* octets on both sides of each range of contents */
-static const struct {
+struct contents {
     uint8_t type, n;
     const char *octets;
-} contents[] = {
+};
+
+static const struct contents contents[] = {
     {0x02, 1, "1F 20 21 22 23 24 27 28 29 2A 2B 2C 2D 2E 2F 30 39 3A FF"},
     {0x03, 1, "1F 20 21 2F 30 39 3A"},
     {0x0E, 1, "1F 20 21 2F 30 39 3A"},
@@ -430,7 +535,28 @@ static const struct {
     {0x15, 1, "00 06 07 7F 80 FF"},
     {0x16, 1, "00 0F 10 FF"},
     {0x05, 1, "00 FF"},
+    {0, 0, NULL},
 };
+
+/* those of the old edition, which carries six more types; of four, and of the
+ * caller, every octet is tried besides */
+static const struct contents old_contents[] = {
+    {0x12, 1, "00 1F 20 23 28 29 2A 2D 2F 30 31 38 39 3A 41 61 80 B0 B9 FF"},
+    {0x07, 1, "00 1F 20 21 7D 7E 7F 80 A0 FE FF"},
+    {0x03, 1, "00 2A 2F 30 39 3A 41 FF"},
+    {0x08, 1, "00 4E 4F 50 51 FF"},
+    {0x08, 5, "00 4E 4F 50 51 FF"},
+    {0x0D, 1, "00 01 55 FF"},
+    {0x0D, 3, "00 01 55 FF"},
+    {0x0E, 1, "00 2A 2F 30 39 3A 41 FF"},
+    {0x11, 1, "00 01 08 12 80 FF"},
+    {0x13, 1, "00 01 FF"},
+    {0x13, 2, "00 01 FF"},
+    {0x05, 1, "00 FF"},
+    {0, 0, NULL},
+};
+
+static const uint8_t all_octets_of[] = {0x02, 0x04, 0x0B, 0x15, 0x16};
 
 /* dates up to an octet on a side of a limit */
 static const char *const dates[] = {
@@ -443,7 +569,30 @@ static const char *const dates[] = {
     "01010059", "0101005:", "12312359", "02300000", "04310000",
 };
 
-static void limits(void)
+/* A notice with one parameter of n octets, the first of them x and the others
+ * FFH; then the same with a wrong sum, where that is asked for. */
+static void octet_case(uint8_t type, uint8_t n, uint8_t x, int wrong_sum)
+{
+    uint8_t o[300];
+    unsigned sum = 0;
+    size_t size = 4u + n;
+
+    memset(o, 0xFF, sizeof o);
+    o[0] = 0x82;
+    o[1] = (uint8_t)(2 + n);
+    o[2] = type;
+    o[3] = n;
+    o[4] = x;
+    for (size_t k = 0; k < size; k++)
+        sum += o[k];
+    o[size] = (uint8_t)(256 - sum % 256);
+    put_case(o, size + 1, NULL);
+    o[size]++;
+    if (wrong_sum)
+        put_case(o, size + 1, NULL);
+}
+
+static void limits(const struct contents *of_types)
 {
     uint8_t o[300] = {0x80, 3};
 
@@ -466,37 +615,23 @@ static void limits(void)
 
     /* each length, with nothing, 1, 2 and 3 octets left after it */
     for (size_t t = 0; t < sizeof types; t++)
-        for (size_t i = 0; i < sizeof lengths / sizeof *lengths; i++)
+        for (size_t i = 0; i < LENGTHS; i++)
             for (unsigned left = 0; left <= 3; left++) {
-                unsigned room = 2 + lengths[i] + left;
+                unsigned room = 2 + lengths[edition][i] + left;
                 if (room < 3 || room > 255)
                     continue;
                 o[1] = (uint8_t)room;
                 o[2] = types[t];
-                o[3] = (uint8_t)lengths[i];
+                o[3] = (uint8_t)lengths[edition][i];
                 put_case(o, 4, NULL);
             }
 
     /* each octet of contents, alone and as the message's last parameter */
-    for (size_t c = 0; c < sizeof contents / sizeof *contents; c++) {
+    for (; of_types->n != 0; of_types++) {
         uint8_t x[32];
-        size_t n = octets_of(contents[c].octets, x);
-        for (size_t i = 0; i < n; i++) {
-            unsigned sum = 0;
-            size_t size = 4u + contents[c].n;
-            memset(o, 0xFF, sizeof o);
-            o[0] = 0x82;
-            o[1] = (uint8_t)(2 + contents[c].n);
-            o[2] = contents[c].type;
-            o[3] = contents[c].n;
-            o[4] = x[i];
-            for (size_t k = 0; k < size; k++)
-                sum += o[k];
-            o[size] = (uint8_t)(256 - sum % 256);
-            put_case(o, size + 1, NULL);
-            o[size]++;
-            put_case(o, size + 1, NULL);
-        }
+        size_t n = octets_of(of_types->octets, x);
+        for (size_t i = 0; i < n; i++)
+            octet_case(of_types->type, of_types->n, x[i], 1);
     }
 
     for (size_t i = 0; i < sizeof dates / sizeof *dates; i++) {
@@ -505,6 +640,13 @@ static void limits(void)
         memcpy(d + 4, dates[i], n);
         put_case(d, 4 + n, NULL);
     }
+}
+
+static void all_octets(void)
+{
+    for (size_t t = 0; t < sizeof all_octets_of; t++)
+        for (unsigned x = 0; x < 256; x++)
+            octet_case(all_octets_of[t], 1, (uint8_t)x, 0);
 }
 
 /* ---- 02, Q-2: every month's days ---- */
@@ -645,6 +787,30 @@ static void whole(void)
     end();
 }
 
+/* ---- 02, Q-5: whole messages at the old edition's limits ---- */
+
+/* Digits and characters, as many as it takes and one more; behind them another
+ * parameter, so that the length is refused for itself. */
+static void old_whole(void)
+{
+    for (uint8_t n = 17; n <= 19; n++) {
+        begin(0x80), add(0x02, n, '0'), add(0x12, 18, '9'), end();
+        begin(0x80), add(0x12, n, '9'), add(0x0B, 1, 0x00), end();
+    }
+    for (uint8_t n = 19; n <= 21; n++)
+        begin(0x82), add(0x07, n, 'A'), add(0x02, 1, '7'), end();
+    /* what only the present edition lists, with contents that it refuses */
+    begin(0x80), add(0x08, 5, 'O'), add(0x07, 1, 'A'), end();
+    begin(0x82), add(0x0D, 1, 0xFF), add(0x13, 2, 9), add(0x0B, 1, 0xFF), end();
+    begin(0x80), add(0x03, 21, 'x'), add(0x0E, 60, 0x00), end();
+    begin(0x80), add(0x11, 1, 0x00), add(0x15, 1, 0x06), add(0x16, 1, 0x0F),
+        end();
+    /* a 19th digit and a 21st character cut off at every place before */
+    begin(0x80), add(0x02, 18, '1'), add(0x07, 20, ' ');
+    for (size_t n = 0; n < 2u + built[1]; n++)
+        put_case(built, n, NULL);
+}
+
 /* ---- 02, Q-3: the first parameters and the last that there can be ---- */
 
 /* What stands before the parameter at fault: three octets each. */
@@ -675,7 +841,7 @@ static void faults_in(size_t sort, size_t k)
     built[at] = k < 85 ? 0x04 : 0x01;
     spoilt_case(built, at + 1, 3, at, k);
     at = before_the(sort, k, 3);
-    built[at] = 0x0D;
+    built[at] = edition == SECOND_OLD ? 0x01 : 0x0D;
     spoilt_case(built, at + 1, 3, at, k);
     memcpy(built + at, "\x02\x02", 2);
     spoilt_case(built, at + 2, 4, at + 1, k);
@@ -689,16 +855,16 @@ static void faults_in(size_t sort, size_t k)
     spoilt_case(built, at + 4, 0, 0, 0);
 }
 
-/* By the strict books an unlisted type as the k-th; the old one lists no
+/* In the strict way an unlisted type as the k-th; the old edition lists no
  * 13H. */
 static void unlisted_as(size_t k)
 {
     size_t at = before_the(1, k, 3);
 
     built[at] = 0x05;
-    book_case(1, built, at + 1, 10, (unsigned)at, (unsigned)k);
+    told_case(0, 0, built, at + 1, 10, (unsigned)at, (unsigned)k);
     built[at] = 0x13;
-    book_case(3, built, at + 1, 10, (unsigned)at, (unsigned)k);
+    told_case(1, 0, built, at + 1, 10, (unsigned)at, (unsigned)k);
 }
 
 static void parameters(void)
@@ -709,7 +875,8 @@ static void parameters(void)
         for (size_t sort = 0; sort < sizeof before / sizeof *before; sort++)
             if (sort == 0 || at_fault[i] > 1)
                 faults_in(sort, at_fault[i]);
-        unlisted_as(at_fault[i]);
+        if (edition == SECOND_PRESENT)
+            unlisted_as(at_fault[i]);
     }
     /* as late in the message, and only the second */
     begin(0x80), add(0x05, 250, 0x04), add(0x04, 1, 'Q');
@@ -731,10 +898,18 @@ int main(int argc, char **argv)
     for (size_t i = 0; i < sizeof parameter_table / sizeof *parameter_table;
          i++)
         hex_case(parameter_table[i][0], parameter_table[i][1]);
-    books();
-    limits();
+    told();
+    unknown_ones();
+    limits(contents);
     calendar();
     whole();
+    parameters();
+    edition = SECOND_OLD;
+    limits(old_contents);
+    all_octets();
+    calendar();
+    whole();
+    old_whole();
     parameters();
     wrong |= ferror(cases) | ferror(lines);
     wrong |= fclose(cases) | fclose(lines);

@@ -3,11 +3,14 @@
  * below and second_is_message; "Listening" asks of each prefix whether it is
  * a message or can still become one; the read, the desk, the caption and the
  * listing look only at octets that are known to be a message. No state is
- * handed from octet to octet. -DSECOND_WRONG=N makes it wrong on
+ * handed from octet to octet. Each edition has a table of its own: source
+ * 001's is the old one's (02, Q-5). -DSECOND_WRONG=N makes it wrong on
  * purpose: 1 in a limit, 2 in the line for a caller, 3 in what counts, 4 in
  * the days of February, 5 in where a 30th of February is refused; in the
  * parameter's number 6, which counts from 0, and 7, which passes over carried
- * ones.
+ * ones; in the old edition 8, which takes 19 digits, 9, which has the present
+ * pairs, and 10, which has the present calling users; 11 names no edition, and
+ * 12 takes unknown editions for the present one.
  */
 #include "second.h"
 
@@ -22,6 +25,24 @@
 #define NUMBER_LIMIT 20
 #endif
 
+#if SECOND_WRONG == 8
+#define OLD_NUMBER_LIMIT 19 /* likewise */
+#else
+#define OLD_NUMBER_LIMIT 18
+#endif
+
+#if SECOND_WRONG == 9
+#define OLD_NAME_RIVAL 0x08 /* likewise */
+#else
+#define OLD_NAME_RIVAL 0x07 /* the old sheet has no 08H: the name itself */
+#endif
+
+#if SECOND_WRONG == 10
+#define OLD_USERS USER /* likewise */
+#else
+#define OLD_USERS OLD_USER
+#endif
+
 #if SECOND_WRONG == 4
 #define FEBRUARY 28 /* likewise */
 #else
@@ -30,11 +51,11 @@
 
 #define SHOWMSG_LOOKS_AT 259
 
-/* ---- The table of types ---- */
+/* ---- The tables of types ---- */
 
 enum octet_set {
     ANY, DIGIT, IN_NUMBER, IN_NAME, REASON, LAMP, STATE, CALL_TYPE, FORWARDED,
-    USER
+    USER, OLD_FORWARDED, OLD_USER
 };
 
 struct range {
@@ -57,6 +78,9 @@ static const struct {
                        {0x81, 0xFF}}},
     [FORWARDED] = {2, {{0x00, 0x06}, {0x80, 0xFF}}},
     [USER] = {1, {{0x00, 0x0F}}},
+    [OLD_FORWARDED] = {1, {{0x00, 0x06}}},
+    [OLD_USER] = {4, {{0x00, 0x00}, {0x03, 0x05}, {0x0A, 0x0D},
+                      {0x0F, 0x0F}}},
 };
 
 /* How a value is printed after its key. */
@@ -64,15 +88,16 @@ enum look { AS_IT_IS, MONTH_TO_MINUTE, OFF_OR_ON, WITH_REFERENCE, HEX,
             DECIMAL };
 
 struct rule {
-    char key[14];      /* showmsg's; none for a carried type */
-    uint8_t low, high; /* of n */
+    char key[14];      /* showmsg's, of the present edition */
+    uint8_t low, high; /* of n; 0 for a type without a row */
     uint8_t kind;      /* of value, in a draft */
     uint8_t set;       /* of contents; a state's first octet */
     uint8_t look;
     uint8_t rival;     /* the other type of the pair, or the type itself */
 };
 
-static const struct rule rules[256] = {
+/* 01's table. */
+static const struct rule present[256] = {
     [0x01] = {"time", 8, 8, SECOND_DATE, DIGIT, MONTH_TO_MINUTE, 0x01},
     [0x02] = {"caller", 1, NUMBER_LIMIT, SECOND_TEXT, IN_NUMBER, AS_IT_IS,
               0x04},
@@ -93,18 +118,53 @@ static const struct rule rules[256] = {
     [0x16] = {"user", 1, 1, SECOND_CODE, USER, HEX, 0x16},
 };
 
+/* Source 001's eight types: numbers are digits, and only the caller and the
+ * reason for its absence shut each other out. */
+static const struct rule old[256] = {
+    [0x01] = {"", 8, 8, SECOND_DATE, DIGIT, AS_IT_IS, 0x01},
+    [0x02] = {"", 1, OLD_NUMBER_LIMIT, SECOND_TEXT, DIGIT, AS_IT_IS, 0x04},
+    [0x04] = {"", 1, 1, SECOND_CODE, REASON, AS_IT_IS, 0x02},
+    [0x07] = {"", 1, 20, SECOND_TEXT, IN_NAME, AS_IT_IS, OLD_NAME_RIVAL},
+    [0x0B] = {"", 1, 1, SECOND_CODE, LAMP, AS_IT_IS, 0x0B},
+    [0x12] = {"", 1, OLD_NUMBER_LIMIT, SECOND_TEXT, DIGIT, AS_IT_IS, 0x12},
+    [0x15] = {"", 1, 1, SECOND_CODE, OLD_FORWARDED, AS_IT_IS, 0x15},
+    [0x16] = {"", 1, 1, SECOND_CODE, OLD_USERS, AS_IT_IS, 0x16},
+};
+
+static const struct rule *const tables[SECOND_EDITIONS] = {
+    [SECOND_PRESENT] = present, [SECOND_OLD] = old
+};
+
 static const struct rule carried = {
     "", 1, SECOND_TEXTS, SECOND_CARRIED, ANY, AS_IT_IS, 0
 };
 
-static int is_listed(uint8_t type)
+static int is_known(uint8_t edition)
 {
-    return rules[type].key[0] != '\0';
+    return edition < SECOND_EDITIONS || SECOND_WRONG == 12;
 }
 
-static const struct rule *rule_of(uint8_t type)
+static const struct rule *table_of(uint8_t edition)
 {
-    return is_listed(type) ? &rules[type] : &carried;
+    return tables[edition < SECOND_EDITIONS ? edition : SECOND_PRESENT];
+}
+
+/* What an answer by this known edition names. */
+static uint8_t named(uint8_t edition)
+{
+    if (SECOND_WRONG == 11 || edition >= SECOND_EDITIONS)
+        return 0;
+    return edition;
+}
+
+static int is_listed(uint8_t edition, uint8_t type)
+{
+    return table_of(edition)[type].high != 0;
+}
+
+static const struct rule *rule_of(uint8_t edition, uint8_t type)
+{
+    return is_listed(edition, type) ? &table_of(edition)[type] : &carried;
 }
 
 /* ---- Whole contents ---- */
@@ -150,9 +210,10 @@ static int legal_date(const uint8_t *c)
     return two_digits(day) <= last_day(two_digits(month));
 }
 
-static int legal_contents(uint8_t type, const uint8_t *c, size_t n)
+static int legal_contents(uint8_t edition, uint8_t type, const uint8_t *c,
+                          size_t n)
 {
-    const struct rule *rule = rule_of(type);
+    const struct rule *rule = rule_of(edition, type);
 
     if (n < rule->low || n > rule->high)
         return 0;
@@ -176,12 +237,12 @@ static int legal_contents(uint8_t type, const uint8_t *c, size_t n)
  * whole before end. Gives the place after the last of them, or 0 if one of
  * them is not legal.
  */
-static size_t split(const uint8_t *o, size_t end)
+static size_t split(uint8_t edition, const uint8_t *o, size_t end)
 {
     size_t place = 2;
 
     while (place + 2 <= end && place + 2 + o[place + 1] <= end) {
-        if (!legal_contents(o[place], o + place + 2, o[place + 1]))
+        if (!legal_contents(edition, o[place], o + place + 2, o[place + 1]))
             return 0;
         place += 2u + o[place + 1];
     }
@@ -202,42 +263,46 @@ static unsigned sum_of(const uint8_t *o, size_t n)
     return sum % 256u;
 }
 
-int second_is_message(const uint8_t *o, size_t n)
+int second_is_message(uint8_t edition, const uint8_t *o, size_t n)
 {
-    return n >= 6 && is_message_type(o[0]) && o[1] >= 3 && n == o[1] + 3u
-        && split(o, n - 1) == n - 1 && sum_of(o, n) == 0;
+    return is_known(edition) && n >= 6 && is_message_type(o[0]) && o[1] >= 3
+        && n == o[1] + 3u && split(edition, o, n - 1) == n - 1
+        && sum_of(o, n) == 0;
 }
 
 /* ---- What can still become a whole message ---- */
 
 /* Some parameters fill the room: none if it is 0, one carried parameter of
- * room - 2 octets if it is at least 3; 1 and 2 are too small for any. */
+ * room - 2 octets if it is at least 3; 1 and 2 are too small for any. So in
+ * every edition, each carrying some types. */
 static int can_be_filled(size_t room)
 {
     return room == 0 || room >= 3;
 }
 
-static int length_allowed(uint8_t type, size_t n, size_t room)
+static int length_allowed(uint8_t edition, uint8_t type, size_t n, size_t room)
 {
-    const struct rule *rule = rule_of(type);
+    const struct rule *rule = rule_of(edition, type);
 
     return n >= rule->low && n <= rule->high && 2 + n <= room
         && can_be_filled(room - 2 - n);
 }
 
-static int some_length_allowed(uint8_t type, size_t room)
+static int some_length_allowed(uint8_t edition, uint8_t type, size_t room)
 {
-    for (size_t n = rule_of(type)->low; n <= rule_of(type)->high; n++) {
-        if (length_allowed(type, n, room))
+    const struct rule *rule = rule_of(edition, type);
+
+    for (size_t n = rule->low; n <= rule->high; n++) {
+        if (length_allowed(edition, type, n, room))
             return 1;
     }
     return 0;
 }
 
 /* One legal contents of the type, n octets long. */
-static void sample(uint8_t type, uint8_t *c, size_t n)
+static void sample(uint8_t edition, uint8_t type, uint8_t *c, size_t n)
 {
-    const struct rule *rule = rule_of(type);
+    const struct rule *rule = rule_of(edition, type);
 
     if (rule->kind == SECOND_DATE)
         memcpy(c, "01010000", n);
@@ -251,19 +316,19 @@ static void sample(uint8_t type, uint8_t *c, size_t n)
  * on those before it, so every digit is tried in the next place too; that is
  * enough, since every month has the sample's day 01, and every day its hour.
  */
-static int begins_contents(uint8_t type, const uint8_t *c, size_t heard,
-                           size_t n)
+static int begins_contents(uint8_t edition, uint8_t type, const uint8_t *c,
+                           size_t heard, size_t n)
 {
     uint8_t whole[SECOND_TEXTS];
 
-    sample(type, whole, n);
+    sample(edition, type, whole, n);
     memcpy(whole, c, heard);
-    if (legal_contents(type, whole, n)
+    if (legal_contents(edition, type, whole, n)
         || (SECOND_WRONG == 5 && heard == 3 && c[2] == '3'))
         return 1;
     for (uint8_t digit = '0'; digit <= '9'; digit++) {
         whole[heard] = digit;
-        if (legal_contents(type, whole, n))
+        if (legal_contents(edition, type, whole, n))
             return 1;
     }
     return 0;
@@ -271,20 +336,23 @@ static int begins_contents(uint8_t type, const uint8_t *c, size_t heard,
 
 /* q[0..heard) is less than one parameter, in a room of its own and of all
  * that follow it. */
-static int begins_parameters(const uint8_t *q, size_t heard, size_t room)
+static int begins_parameters(uint8_t edition, const uint8_t *q, size_t heard,
+                             size_t room)
 {
     if (heard == 0)
         return can_be_filled(room);
     if (heard == 1)
-        return some_length_allowed(q[0], room);
-    return length_allowed(q[0], q[1], room)
-        && begins_contents(q[0], q + 2, heard - 2, q[1]);
+        return some_length_allowed(edition, q[0], room);
+    return length_allowed(edition, q[0], q[1], room)
+        && begins_contents(edition, q[0], q + 2, heard - 2, q[1]);
 }
 
-int second_can_go_on(const uint8_t *o, size_t n)
+int second_can_go_on(uint8_t edition, const uint8_t *o, size_t n)
 {
     size_t place;
 
+    if (!is_known(edition))
+        return 0;
     if (n == 0)
         return 1;
     if (!is_message_type(o[0]))
@@ -293,17 +361,18 @@ int second_can_go_on(const uint8_t *o, size_t n)
         return 1;
     if (o[1] < 3 || n >= o[1] + 3u)
         return 0;
-    place = split(o, n);
+    place = split(edition, o, n);
     return place != 0
-        && begins_parameters(o + place, n - place, o[1] + 2u - place);
+        && begins_parameters(edition, o + place, n - place,
+                             o[1] + 2u - place);
 }
 
-size_t second_begun(const uint8_t *o, size_t n)
+size_t second_begun(uint8_t edition, const uint8_t *o, size_t n)
 {
     size_t begin = 2, begun = 0;
 
     while (begin < n && begin < o[1] + 2u) {
-        begun += SECOND_WRONG != 7 || is_listed(o[begin]);
+        begun += SECOND_WRONG != 7 || is_listed(edition, o[begin]);
         begin = begin + 1 < n ? begin + 2 + o[begin + 1] : n;
     }
     return SECOND_WRONG == 6 && begun > 0 ? begun - 1 : begun;
@@ -329,28 +398,33 @@ static unsigned number_of_role(const uint8_t *o, size_t place)
 /* The parameter that the octet at place belongs to, likewise: the last that
  * begins there or before (02, Q-3). Message type, length and checksum belong
  * to none. */
-static size_t parameter_of_role(const uint8_t *o, size_t place)
+static size_t parameter_of_role(uint8_t edition, const uint8_t *o,
+                                size_t place)
 {
     if (place < 2 || place == o[1] + 2u)
         return 0;
-    return second_begun(o, place + 1);
+    return second_begun(edition, o, place + 1);
 }
 
-struct second_answer second_listen(const uint8_t *o, size_t n)
+struct second_answer second_listen(uint8_t edition, const uint8_t *o, size_t n)
 {
-    struct second_answer a = {SECOND_WAITS, 0, 0, 0, 0, n};
+    static const struct second_answer unknown = {SECOND_REFUSED, 16, 0, 0, 0,
+                                                 0, 0};
+    struct second_answer a = {SECOND_WAITS, 0, 0, 0, 0, n, named(edition)};
 
+    if (!is_known(edition))
+        return unknown;
     for (size_t k = 0; k <= n; k++) {
-        if (second_is_message(o, k)) {
+        if (second_is_message(edition, o, k)) {
             a.answer = SECOND_MESSAGE;
             a.size = a.taken = k;
             break;
         }
-        if (!second_can_go_on(o, k)) {
+        if (!second_can_go_on(edition, o, k)) {
             a.answer = SECOND_REFUSED;
             a.number = number_of_role(o, k - 1);
             a.place = k - 1;
-            a.parameter = parameter_of_role(o, k - 1);
+            a.parameter = parameter_of_role(edition, o, k - 1);
             a.taken = k;
             break;
         }
@@ -358,11 +432,11 @@ struct second_answer second_listen(const uint8_t *o, size_t n)
     return a;
 }
 
-/* The whole read without its text area: 1 to 6, then 8, then 7. */
-static struct second_verdict judge(const uint8_t *o, size_t n)
+/* The whole read without its text area: 16, 1 to 6, then 8, then 7. */
+static struct second_verdict judge(uint8_t edition, const uint8_t *o, size_t n)
 {
-    struct second_answer a = second_listen(o, n);
-    struct second_verdict v = {0, 0, 0};
+    struct second_answer a = second_listen(edition, o, n);
+    struct second_verdict v = {0, 0, 0, a.edition};
 
     if (a.answer == SECOND_REFUSED) {
         v.number = a.number;
@@ -398,26 +472,28 @@ static int next_parameter(const uint8_t *o, size_t *place, struct parameter *q)
 }
 
 /* "What counts": the first of a type and its rival, if it is of the type. */
-static int counts(const uint8_t *o, uint8_t type, struct parameter *q)
+static int counts(uint8_t edition, const uint8_t *o, uint8_t type,
+                  struct parameter *q)
 {
     size_t place = 2;
 
-    if (!is_listed(type))
+    if (!is_listed(edition, type))
         return 0;
     while (next_parameter(o, &place, q)) {
         if (q->type == type
-            || (SECOND_WRONG != 3 && q->type == rules[type].rival))
+            || (SECOND_WRONG != 3
+                && q->type == rule_of(edition, type)->rival))
             return q->type == type;
     }
     return 0;
 }
 
-int second_counted(const uint8_t *o, size_t n, uint8_t type, size_t *start,
-                   size_t *length)
+int second_counted(uint8_t edition, const uint8_t *o, size_t n, uint8_t type,
+                   size_t *start, size_t *length)
 {
     struct parameter q;
 
-    if (!second_is_message(o, n) || !counts(o, type, &q))
+    if (!second_is_message(edition, o, n) || !counts(edition, o, type, &q))
         return 0;
     *start = q.start;
     *length = q.length;
@@ -431,19 +507,19 @@ static unsigned reference_of(const uint8_t *c)
 
 /* ---- "Drafts" ---- */
 
-static int is_text(uint8_t type)
+static int is_text(uint8_t edition, uint8_t type)
 {
-    return rule_of(type)->kind == SECOND_TEXT
-        || rule_of(type)->kind == SECOND_CARRIED;
+    return rule_of(edition, type)->kind == SECOND_TEXT
+        || rule_of(edition, type)->kind == SECOND_CARRIED;
 }
 
-static size_t texts_needed(const uint8_t *o)
+static size_t texts_needed(uint8_t edition, const uint8_t *o)
 {
     struct parameter q;
     size_t place = 2, octets = 0;
 
     while (next_parameter(o, &place, &q)) {
-        if (is_text(q.type))
+        if (is_text(edition, q.type))
             octets += q.length;
     }
     return octets;
@@ -458,14 +534,14 @@ static void set_text(struct second_draft *draft, struct second_entry *entry,
     draft->text_octets = (uint16_t)(draft->text_octets + n);
 }
 
-static void set_entry(struct second_draft *draft, uint8_t type,
+static void set_entry(uint8_t edition, struct second_draft *draft, uint8_t type,
                       const uint8_t *c, size_t n)
 {
     struct second_entry *entry = &draft->entry[draft->entries++];
 
     entry->type = type;
-    entry->kind = rule_of(type)->kind;
-    if (is_text(type)) {
+    entry->kind = rule_of(edition, type)->kind;
+    if (is_text(edition, type)) {
         set_text(draft, entry, c, n);
     } else if (entry->kind == SECOND_DATE) {
         for (size_t i = 0; i < 4; i++)
@@ -477,24 +553,25 @@ static void set_entry(struct second_draft *draft, uint8_t type,
     }
 }
 
-struct second_verdict second_read(const uint8_t *o, size_t n, size_t area_len,
-                                  struct second_draft *draft)
+struct second_verdict second_read(uint8_t edition, const uint8_t *o, size_t n,
+                                  size_t area_len, struct second_draft *draft)
 {
-    struct second_verdict v = judge(o, n);
+    struct second_verdict v = judge(edition, o, n);
     struct parameter q;
     size_t place = 2;
 
     if (v.number != 0)
         return v;
-    if (texts_needed(o) > area_len) {
+    if (texts_needed(edition, o) > area_len) {
         v.number = 9;
-        v.place = texts_needed(o);
+        v.place = texts_needed(edition, o);
         return v;
     }
     memset(draft, 0, sizeof *draft);
     draft->message_type = o[0];
+    draft->edition = v.edition;
     while (next_parameter(o, &place, &q))
-        set_entry(draft, q.type, o + q.start, q.length);
+        set_entry(edition, draft, q.type, o + q.start, q.length);
     return v;
 }
 
@@ -544,18 +621,18 @@ static void replace(struct second_desk *desk, long from, long to)
         desk->open[i] = to;
 }
 
-struct second_verdict second_settle(struct second_desk *desk,
+struct second_verdict second_settle(uint8_t edition, struct second_desk *desk,
                                     const uint8_t *o, size_t n)
 {
-    struct second_verdict v = {17, 0, 0};
+    struct second_verdict v = {17, 0, 0, 0};
     struct parameter q;
 
     if (out_of_range(desk))
         return v;
-    v = judge(o, n);
+    v = judge(edition, o, n);
     if (v.number != 0 || o[0] != 0x82)
         return v;
-    if (counts(o, 0x0D, &q)) {
+    if (counts(edition, o, 0x0D, &q)) {
         long reference = o[q.start + 1] * 256L + o[q.start + 2];
         int there = places_with(desk, reference) == 1;
         if (o[q.start] == 0xFF && !there) {
@@ -568,9 +645,9 @@ struct second_verdict second_settle(struct second_desk *desk,
         if (o[q.start] == 0x00 && there)
             replace(desk, reference, SECOND_FREE);
     }
-    if (counts(o, 0x13, &q))
+    if (counts(edition, o, 0x13, &q))
         desk->waiting = o[q.start];
-    if (counts(o, 0x0B, &q))
+    if (counts(edition, o, 0x0B, &q))
         desk->lamp = o[q.start] == 0xFF;
     return v;
 }
@@ -669,7 +746,7 @@ static size_t carried_in(const uint8_t *o)
     size_t place = 2, number = 0;
 
     while (next_parameter(o, &place, &q))
-        number += is_listed(q.type) ? 0 : 1;
+        number += is_listed(SECOND_PRESENT, q.type) ? 0 : 1;
     return number;
 }
 
@@ -680,11 +757,11 @@ static void put_message(struct page *page, const uint8_t *o)
 
     put_words(page, o[0] == 0x80 ? "kind=call\n" : "kind=notice\n");
     for (unsigned type = 0; type < 256; type++) {
-        if (!counts(o, (uint8_t)type, &q))
+        if (!counts(SECOND_PRESENT, o, (uint8_t)type, &q))
             continue;
-        put_words(page, rules[type].key);
+        put_words(page, present[type].key);
         put(page, '=');
-        put_value(page, rules[type].look, o + q.start, q.length);
+        put_value(page, present[type].look, o + q.start, q.length);
         put(page, '\n');
     }
     put_number_line(page, "carried", carried_in(o));
@@ -697,7 +774,7 @@ size_t second_listing(const uint8_t *o, size_t n, char *out)
 
     if (n > SHOWMSG_LOOKS_AT)
         n = SHOWMSG_LOOKS_AT;
-    v = judge(o, n);
+    v = judge(SECOND_PRESENT, o, n);
     if (v.number == 0) {
         put_message(&page, o);
     } else {
@@ -741,21 +818,22 @@ static int look_up(const uint8_t *d, size_t octets, const uint8_t *caller,
     return 0;
 }
 
-struct second_part second_caption(const uint8_t *o, size_t n,
+struct second_part second_caption(uint8_t edition, const uint8_t *o, size_t n,
                                   const uint8_t *directory, size_t octets)
 {
-    struct second_verdict v = judge(o, n);
-    struct second_part part = {v.number, v.place, v.parameter,
+    struct second_verdict v = judge(edition, o, n);
+    struct second_part part = {v.number, v.place, v.parameter, v.edition,
                                SECOND_IN_MESSAGE, 0, 0};
     struct parameter q;
-    int named;
+    int by_name;
 
     if (v.number != 0)
         return part;
-    named = counts(o, 0x07, &q);
-    if (!named && !counts(o, 0x02, &q))
+    by_name = counts(edition, o, 0x07, &q);
+    if (!by_name && !counts(edition, o, 0x02, &q))
         return part;
-    if (named || !look_up(directory, octets, o + q.start, q.length, &part)) {
+    if (by_name
+        || !look_up(directory, octets, o + q.start, q.length, &part)) {
         part.start = q.start;
         part.length = q.length;
     }

@@ -1,7 +1,8 @@
 /*
  * Traffic after 01's "The message": a builder that fills a room L with legal
- * parameters, and the ways to damage what it built. Its table of types says
- * how contents are made, apart from any reader's table of how they are judged.
+ * parameters, and the ways to damage what it built. Its tables of types, one
+ * for each edition, say how contents are made, apart from any reader's tables
+ * of how they are judged.
  */
 #include "traffic.h"
 
@@ -13,6 +14,7 @@ void traffic_start(struct traffic *t, uint64_t seed)
 {
     t->seed = seed;
     t->sort = TRAFFIC_VALID;
+    t->edition = 0;
 }
 
 uint32_t traffic_number(struct traffic *t, uint32_t below)
@@ -48,7 +50,7 @@ static size_t near_limits(struct traffic *t, size_t low, size_t high)
     }
 }
 
-/* ---- The table of types ---- */
+/* ---- The tables of types ---- */
 
 enum way { RANGES, DATE, IDENTITY };
 
@@ -62,7 +64,14 @@ struct make {
                           {'-', '-'}, {'(', ')'}}
 #define ANY_OCTETS 1, {{0x00, 0xFF}}
 
-static const struct make makes[] = {
+#define DIGITS 1, {{'0', '9'}}
+
+#define MAKES 15
+#define CARRIED (MAKES - 1)
+
+/* By edition: those that it lists, then those that only the other one lists,
+ * and last carried types, whose number is chosen. */
+static const struct make makes[2][MAKES] = {{
     {0x01, 8, 8, DATE, 1, {{'0', '9'}}},
     {0x02, 1, 20, RANGES, NUMBER_OCTETS},
     {0x03, 1, 20, RANGES, NUMBER_OCTETS},
@@ -78,11 +87,38 @@ static const struct make makes[] = {
     {0x13, 1, 1, RANGES, ANY_OCTETS},
     {0x15, 1, 1, RANGES, 2, {{0x00, 0x06}, {0x80, 0xFF}}},
     {0x16, 1, 1, RANGES, 1, {{0x00, 0x0F}}},
-    {0x00, 1, 253, RANGES, ANY_OCTETS}, /* the last: carried types */
-};
+    {0x00, 1, 253, RANGES, ANY_OCTETS},
+}, {
+    {0x01, 8, 8, DATE, DIGITS},
+    {0x02, 1, 18, RANGES, DIGITS},
+    {0x04, 1, 1, RANGES, 1, {{'O', 'P'}}},
+    {0x07, 1, 20, RANGES, 1, {{0x20, 0x7E}}},
+    {0x0B, 1, 1, RANGES, 2, {{0x00, 0x00}, {0xFF, 0xFF}}},
+    {0x12, 1, 18, RANGES, DIGITS},
+    {0x15, 1, 1, RANGES, 1, {{0x00, 0x06}}},
+    {0x16, 1, 1, RANGES, 4, {{0x00, 0x00}, {0x03, 0x05}, {0x0A, 0x0D},
+                             {0x0F, 0x0F}}},
+    {0x03, 1, 253, RANGES, ANY_OCTETS},
+    {0x08, 1, 253, RANGES, ANY_OCTETS},
+    {0x0D, 1, 253, RANGES, ANY_OCTETS},
+    {0x0E, 1, 253, RANGES, ANY_OCTETS},
+    {0x11, 1, 253, RANGES, ANY_OCTETS},
+    {0x13, 1, 253, RANGES, ANY_OCTETS},
+    {0x00, 1, 253, RANGES, ANY_OCTETS},
+}};
 
-#define MAKES (sizeof makes / sizeof makes[0])
-#define CARRIED (MAKES - 1)
+/* How many of them the edition lists. */
+static const uint8_t listed[2] = {14, 8};
+
+static const struct make *make_of(const struct traffic *t, size_t row)
+{
+    return &makes[t->edition][row];
+}
+
+static int is_carried(const struct make *make)
+{
+    return make->high == 253;
+}
 
 /* Types of which 85 fill a message. */
 static const uint8_t shortest_types[7] = {
@@ -149,14 +185,14 @@ static void make_contents(struct traffic *t, const struct make *make,
 /* Which types a message is made of, so that repeats and pairs are common. */
 struct palette {
     size_t count;
-    uint8_t of[MAKES]; /* rows of makes[] */
+    uint8_t of[MAKES]; /* rows of the edition's makes */
     int shortest;      /* always the shortest length */
 };
 
-static void add_type(struct palette *p, uint8_t type)
+static void add_type(const struct traffic *t, struct palette *p, uint8_t type)
 {
     for (size_t i = 0; i < MAKES; i++) {
-        if (makes[i].type == type)
+        if (make_of(t, i)->type == type)
             p->of[p->count++] = (uint8_t)i;
     }
 }
@@ -170,10 +206,10 @@ static void choose_palette(struct traffic *t, struct palette *p)
     p->shortest = traffic_number(t, 4) == 0;
     if (way == 0) {
         for (size_t i = 0; i < 4; i++)
-            add_type(p, pairs[i]);
+            add_type(t, p, pairs[i]);
     } else if (way == 1) {
         for (size_t i = 0; i < 7; i++)
-            add_type(p, shortest_types[i]);
+            add_type(t, p, shortest_types[i]);
     } else if (way < 4) {
         for (size_t i = 0; i < 2; i++)
             p->of[p->count++] = (uint8_t)traffic_number(t, MAKES);
@@ -208,26 +244,26 @@ static const struct make *choose(struct traffic *t, const struct palette *p,
                                  size_t room, size_t *n)
 {
     for (int tries = 0; tries < 40; tries++) {
-        const struct make *make = &makes[p->of[traffic_number(
-            t, (uint32_t)p->count)]];
+        const struct make *make = make_of(
+            t, p->of[traffic_number(t, (uint32_t)p->count)]);
         size_t high = make->high < room - 2 ? make->high : room - 2;
 
         if (high < make->low)
             continue;
         *n = p->shortest ? make->low : near_limits(t, make->low, high);
-        if (make == &makes[CARRIED] && *n > 12 && traffic_number(t, 4) != 0)
+        if (is_carried(make) && *n > 12 && traffic_number(t, 4) != 0)
             *n = from_to(t, 1, 12);
         if (fits(*n, room))
             return make;
     }
     *n = room - 2;
-    return &makes[CARRIED];
+    return make_of(t, CARRIED);
 }
 
 static void lay_down(struct traffic *t, const struct make *make, uint8_t *q,
                      size_t n)
 {
-    q[0] = make == &makes[CARRIED] ? carried_type(t) : make->type;
+    q[0] = make == make_of(t, CARRIED) ? carried_type(t) : make->type;
     q[1] = (uint8_t)n;
     make_contents(t, make, q + 2, n);
 }
@@ -274,14 +310,14 @@ static size_t build_longest(struct traffic *t, uint8_t *out)
     out[0] = traffic_number(t, 2) == 0 ? 0x80 : 0x82;
     out[1] = 255;
     if (traffic_number(t, 2) == 0) {
-        lay_down(t, &makes[CARRIED], out + 2, 253);
+        lay_down(t, make_of(t, CARRIED), out + 2, 253);
     } else {
         for (size_t i = 0; i < 85; i++) {
             struct palette p = {0, {0}, 0};
 
             last = 2 + 3 * i;
-            add_type(&p, shortest_types[traffic_number(t, 7)]);
-            lay_down(t, &makes[p.of[0]], out + last, 1);
+            add_type(t, &p, shortest_types[traffic_number(t, 7)]);
+            lay_down(t, make_of(t, p.of[0]), out + last, 1);
         }
     }
     set_sum(out);
@@ -348,17 +384,17 @@ static size_t bad_room(struct traffic *t, uint8_t *out)
 /* After valid parameters comes one with a length that is not its type's. */
 static size_t bad_length(struct traffic *t, uint8_t *out, int zero)
 {
-    const struct make *make = &makes[traffic_number(t, MAKES)];
+    const struct make *make = make_of(t, traffic_number(t, MAKES));
     size_t n = 0, place;
 
     build(t, out, from_to(t, 3, 150));
     place = out[1] + 2u;
-    if (!zero && make != &makes[CARRIED])
+    if (!zero && !is_carried(make))
         n = traffic_number(t, 2) == 0 ? make->high + 1u : make->low - 1u;
     lay_down(t, make, out + place, n);
     out[1] = (uint8_t)(out[1] + 2 + n);
     if (traffic_number(t, 2) == 0) { /* not the last parameter */
-        lay_down(t, &makes[CARRIED], out + place + 2 + n, 4);
+        lay_down(t, make_of(t, CARRIED), out + place + 2 + n, 4);
         out[1] = (uint8_t)(out[1] + 6);
     }
     set_sum(out);
@@ -369,7 +405,8 @@ static size_t bad_length(struct traffic *t, uint8_t *out, int zero)
  * with any octet in its place. */
 static size_t bad_contents(struct traffic *t, uint8_t *out)
 {
-    const struct make *make = &makes[traffic_number(t, CARRIED)];
+    const struct make *make = make_of(t, traffic_number(t,
+                                                        listed[t->edition]));
     size_t n = near_limits(t, make->low, make->high), place;
     uint8_t *octet;
 
@@ -388,11 +425,11 @@ static size_t bad_contents(struct traffic *t, uint8_t *out)
  * length does not fill, or fills but for 1 or 2. */
 static size_t bad_type(struct traffic *t, uint8_t *out)
 {
-    const struct make *make = &makes[traffic_number(t, MAKES)];
+    const struct make *make = make_of(t, traffic_number(t, MAKES));
     size_t room, place;
 
     while (make->low != make->high)
-        make = &makes[traffic_number(t, MAKES)];
+        make = make_of(t, traffic_number(t, MAKES));
     room = make->low + from_to(t, 3, 4);
     if (make->low > 1 && traffic_number(t, 2) == 0)
         room = from_to(t, 3, make->low + 1u);

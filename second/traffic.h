@@ -1,7 +1,8 @@
 /*
  * Seeded traffic to compare listeners and readers on: messages built from the
- * rules of 01's "The message", and damaged ones, with every limit on both of
- * its sides. The same seed gives the same messages.
+ * rules of 01's "The message", or of the old edition (02, Q-5), and damaged
+ * ones, with every limit on both of its sides. The same seed gives the same
+ * messages.
  */
 #ifndef TRAFFIC_H
 #define TRAFFIC_H
@@ -34,24 +35,30 @@ enum traffic_sort {
 struct traffic {
     uint64_t seed;          /* the generator's own state */
     enum traffic_sort sort; /* of the last message given */
+    uint8_t edition;        /* that messages are built by: 0, or 1 the old */
 };
 
+/* Of the present edition; another may be set at any time. */
 void traffic_start(struct traffic *t, uint64_t seed);
 
 /* A number from 0 to below - 1, for callers that need one too. */
 uint32_t traffic_number(struct traffic *t, uint32_t below);
 
-/* Writes the next message and gives its number of octets, 0 to 300. */
+/* Writes the next message and gives its number of octets, 0 to 300. In the old
+ * edition the types that only the present one lists are common, with any
+ * contents. */
 size_t traffic_next(struct traffic *t, uint8_t out[TRAFFIC_OCTETS]);
 
 /* Likewise a message about one of some 24 references (02, Q-6): mostly a
  * notice that adds it, removes it or leaves it unset, often with a lamp and a
- * number; now and then a second reference, a call message, or a wrong sum. */
+ * number; now and then a second reference, a call message, or a wrong sum.
+ * Both editions take the same of these. */
 size_t traffic_about(struct traffic *t, uint8_t out[TRAFFIC_OCTETS]);
 
 /* Likewise a message with a date at a limit of its month or beside it (02,
  * Q-2), February and the months of 30 days more often than the others; now
- * and then cut inside the date, changed in it, or with a wrong sum. */
+ * and then cut inside the date, changed in it, or with a wrong sum. Likewise
+ * the same in both editions. */
 size_t traffic_dated(struct traffic *t, uint8_t out[TRAFFIC_OCTETS]);
 
 #endif

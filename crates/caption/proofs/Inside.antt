@@ -8,7 +8,8 @@ use native.Mathlib.Omega.{arith}
 use lib.ListN.{length, length-drop, take, drop}
 use Rattle.rules.proofs.Laying.{part-is}
 use Rattle.rules.proofs.Tests.{pick-case, picked-by, both, le-of, clash}
-use Rattle.rules.specs.Table.{Rules}
+use Rattle.rules.specs.Table.{Rules, rulesOf}
+use Rattle.rules.specs.Editions.{known, bookOf}
 use Rattle.rules.specs.declared.Fault.{Fault}
 use Rattle.message.specs.declared.Verdict.{Verdict}
 use Rattle.message.specs.declared.Verdict.the-variants.{Accepted, Declined}
@@ -21,10 +22,11 @@ use Rattle.caption.specs.declared.CallerText.{CallerText}
 use Rattle.caption.specs.declared.CallerText.the-variants.{Text, Missing}
 use Rattle.caption.specs.declared.Shown.{Shown}
 use Rattle.caption.specs.declared.Shown.the-variants.{InMessage, InDirectory, Refused}
+use Rattle.caption.specs.declared.Finding.{Finding}
 use Rattle.caption.specs.Lines.{onFirst, linesOf, indexOf, behind, names}
 use Rattle.caption.specs.Directory.{span}
 use Rattle.caption.specs.Told.{told}
-use Rattle.caption.specs.Caption.{lookupFrom, byEntry, byCaller, byName, findUnder, findOf, sliceOf, partText, captionOf}
+use Rattle.caption.specs.Caption.{lookupFrom, byEntry, byCaller, byName, findUnder, findOf, findIn, sliceOf, partText, captionIn}
 
 -- ---- lines, each with its end
 on-first-span : (x : ℕ) (ls : List (List ℕ)) (n : ℕ) → span ls ≤ suc n → span (onFirst x ls) ≤ suc (suc n)
@@ -85,32 +87,40 @@ module _ (o d : List ℕ) where
   unfolding findOf
   part-inside R = under-inside R (verdictOf R o)
 
+  -- by unknown numbers it is the empty part of the message
+  pub inside-by : (e w : ℕ) → Inside (findIn e w o d .shown)
+  unfolding findIn told sliceOf
+  inside-by e w =
+      pick-case (λ (r : Finding). Inside (r .shown)) (known e w) _ _ (λ _. part-inside (rulesOf (bookOf e w)))
+      (λ _. omega arith)
+
 -- ---- the part is cut out of its slice
-module _ (R : Rules) (o d : List ℕ) (r : Shown) (f : r ≡ findOf R o d) where
-  inside : Inside o d r
-  inside = subst (Inside o d) (sym f) (part-inside o d R)
+module _ (e w : ℕ) (o d : List ℕ) (r : Finding) (f : r ≡ findIn e w o d) where
+  inside : Inside o d (r .shown)
+  inside = subst (λ (x : Finding). Inside o d (x .shown)) (sym f) (inside-by o d e w)
 
-  pub in-message : (start n : ℕ) → r ≡ InMessage start n → start + n ≤ length o
+  pub in-message : (start n : ℕ) → r .shown ≡ InMessage start n → start + n ≤ length o
   unfolding told sliceOf
-  in-message start n e = subst (Inside o d) e inside
+  in-message start n q = subst (Inside o d) q inside
 
-  pub in-directory : (start n : ℕ) → r ≡ InDirectory start n → start + n ≤ length d
+  pub in-directory : (start n : ℕ) → r .shown ≡ InDirectory start n → start + n ≤ length d
   unfolding told sliceOf
-  in-directory start n e = subst (Inside o d) e inside
+  in-directory start n q = subst (Inside o d) q inside
 
-  caption-is : captionOf R o d ≡ partText r o d
-  unfolding captionOf
-  caption-is = ap (λ (x : Shown). partText x o d) (sym f)
+  caption-is : (s : Shown) → r .shown ≡ s → captionIn e w o d ≡ partText s o d
+  unfolding captionIn
+  caption-is s q = ap (λ (x : Finding). partText (x .shown) o d) (sym f) ∙ ap (λ (x : Shown). partText x o d) q
 
-  pub message-part : (start n : ℕ) → r ≡ InMessage start n → take (start + n - start) (drop start o) ≡ captionOf R o d
+  pub message-part : (start n : ℕ) → r .shown ≡ InMessage start n →
+      take (start + n - start) (drop start o) ≡ captionIn e w o d
   unfolding partText told sliceOf
-  message-part start n e = part-is o start n ∙ sym (caption-is ∙ ap (λ (x : Shown). partText x o d) e)
+  message-part start n q = part-is o start n ∙ sym (caption-is _ q)
 
-  pub directory-part : (start n : ℕ) → r ≡ InDirectory start n →
-      take (start + n - start) (drop start d) ≡ captionOf R o d
+  pub directory-part : (start n : ℕ) → r .shown ≡ InDirectory start n →
+      take (start + n - start) (drop start d) ≡ captionIn e w o d
   unfolding partText told sliceOf
-  directory-part start n e = part-is d start n ∙ sym (caption-is ∙ ap (λ (x : Shown). partText x o d) e)
+  directory-part start n q = part-is d start n ∙ sym (caption-is _ q)
 
-  pub refused-part : (g : Fault) → r ≡ Refused g → [] ≡ captionOf R o d
+  pub refused-part : (g : Fault) → r .shown ≡ Refused g → [] ≡ captionIn e w o d
   unfolding partText told sliceOf
-  refused-part g e = sym (caption-is ∙ ap (λ (x : Shown). partText x o d) e)
+  refused-part g q = sym (caption-is _ q)

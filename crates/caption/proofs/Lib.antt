@@ -8,3 +8,4 @@ pub mod Inside
 pub mod Directory
 pub mod Callers
 pub mod Finds
+pub mod Editions

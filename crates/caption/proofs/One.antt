@@ -1,5 +1,6 @@
 -- The sentences on finding leave one part, or one refusal: a refusal is the verdict's, and in a message the name,
--- else the caller and the directory's lines, tell side, start and length.
+-- else the caller and the directory's lines, tell side, start and length. By an edition and a way the book of known
+-- numbers leaves one answer, and unknown ones leave 16.
 -- Assumes nothing.
 use Prim.Native.Nat.{ℕ}
 use mathlib.Core.Path.{_≡_, refl, sym, _∙_}
@@ -7,21 +8,27 @@ use mathlib.Core.Logic.{_⊎_, inl, inr}
 use mathlib.Core.List.{List}
 use mathlib.Core.Option.{Option, none, some}
 use native.Mathlib.Omega.{arith}
-use Rattle.rules.specs.Table.{Rules}
+use lib.Dec.{T}
+use Rattle.rules.proofs.Tests.{decide}
+use Rattle.rules.specs.Table.{Rules, rulesOf}
+use Rattle.rules.specs.Editions.{known, bookOf}
 use Rattle.rules.specs.Message.{Message}
 use Rattle.rules.specs.Counting.{counted, Counts}
 use Rattle.rules.proofs.Counting.{counted-iff}
 use Rattle.rules.specs.Language.{calls}
+use Rattle.rules.specs.Refusals.{noted}
 use Rattle.rules.specs.declared.Fault.{Fault}
 use Rattle.message.proofs.One.{judges-one}
 use Rattle.caption.specs.declared.Shown.{Shown}
 use Rattle.caption.specs.declared.Shown.the-variants.{InMessage, InDirectory, Refused}
+use Rattle.caption.specs.declared.Finding.{Finding}
 use Rattle.caption.specs.Lines.{linesOf}
 use Rattle.caption.specs.Told.{told}
-use Rattle.caption.proofs.Told.{some-number, refused-iff, declined-so}
+use Rattle.caption.proofs.Told.{told-refused, some-number, refused-iff, declined-so}
 use Rattle.caption.specs.Directory.{NoneFor, FirstFor}
-use Rattle.caption.specs.Finds.{Shows, Captions, Finds}
+use Rattle.caption.specs.Finds.{Shows, Captions, Finds, FindsBy}
 use Rattle.caption.proofs.Directory.{first-or-none}
+use Rattle.caption.proofs.Editions.{not-sixteen}
 
 -- two answers name the same part
 record Same (r s : Shown) : Type 0 where
@@ -77,3 +84,25 @@ module _ (R : Rules) (o d : List ℕ) where
   finds-one (InDirectory a n) (InDirectory b k) A B =
       let t = shown-too _ _ A B refl in
       λ i. InDirectory (t .start i) (t .size i)
+
+-- ---- by an edition and a way
+module _ (e w : ℕ) (o d : List ℕ) where
+  known-edition : (r : Finding) → FindsBy e w o d r → T (known e w) → r .edition ≡ e
+  known-edition r A t = A .names (not-sixteen e w o d t (r .shown) (A .by-book t))
+
+  unknown-shown : (r : Finding) → FindsBy e w o d r → (T (known e w) → ⊥) → r .shown ≡ Refused (noted 16 0)
+  unknown-shown r A n = told-refused (r .shown) 16 0 0 (omega arith) .0 (A .sixteen 0 0 .1 (refl, refl, n))
+
+  -- any numbers, any octets and any directory have one answer, which names one edition
+  pub finds-by-one : (r s : Finding) → FindsBy e w o d r → FindsBy e w o d s → r ≡ s
+  finds-by-one r s A B = go (decide (known e w))
+    where
+      go : T (known e w) ⊎ (T (known e w) → ⊥) → r ≡ s
+      go (inl t) =
+          let x = known-edition r A t ∙ sym (known-edition s B t) in
+          let y = finds-one (rulesOf (bookOf e w)) o d _ _ (A .by-book t) (B .by-book t) in
+          λ i. record { edition = x i; shown = y i }
+      go (inr n) =
+          let x = A .names-none (A .unknown n) ∙ sym (B .names-none (B .unknown n)) in
+          let y = unknown-shown r A n ∙ sym (unknown-shown s B n) in
+          λ i. record { edition = x i; shown = y i }

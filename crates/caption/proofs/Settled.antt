@@ -9,5 +9,5 @@ pub find-settled : (κs : _) (a : _) (r r' : _) (s s' : _) → find.Post κs a r
 find-settled κs a r r' s s' p q = p ∙ sym q
 
 pub caption-settled : (κs : _) (a : _) (r r' : _) (s s' : _) → caption.Post κs a r s → caption.Post κs a r' s' →
-    (r .now ≡ r' .now) × (s .1 .1 .1 .0 .now ≡ s' .1 .1 .1 .0 .now)
+    (r .now ≡ r' .now) × (s .1 .1 .1 .1 .0 .now ≡ s' .1 .1 .1 .1 .0 .now)
 caption-settled κs a r r' s s' p q = (p .0 ∙ sym (q .0), p .1 ∙ sym (q .1))

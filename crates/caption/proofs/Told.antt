@@ -16,8 +16,14 @@ use Rattle.caption.specs.declared.Shown.the-variants.{InMessage, InDirec
 use Rattle.caption.specs.Told.{Told, told, refusal, Clear}
 use Rattle.caption.specs.Finds.{Finds}
 
-number-is : {s t : Told} → s ≡ t → s .number ≡ t .number
+pub number-is : {s t : Told} → s ≡ t → s .number ≡ t .number
 number-is e = ap (λ (t : Told). t .number) e
+
+pub place-is : {s t : Told} → s ≡ t → s .place ≡ t .place
+place-is e = ap (λ (t : Told). t .place) e
+
+pub parameter-is : {s t : Told} → s ≡ t → s .parameter ≡ t .parameter
+parameter-is e = ap (λ (t : Told). t .parameter) e
 
 pub told-refused : (r : Shown) (k p b : ℕ) → 1 ≤ k → (told r ≡ refusal k p b) ↔ (r ≡ Refused (notedIn k p b))
 unfolding told

@@ -1,4 +1,5 @@
--- The caption of a message: a part of the message or of the directory (document 01, The caption).
+-- The caption of a message: a part of the message or of the directory (document 01, The caption), by an edition and a
+-- way (document 02, Q-5).
 -- Assumes nothing.
 use Prim.Native.Nat.{ℕ, suc, _+_, _-_, _≤_, _<_}
 use mathlib.Core.Path.{_≡_}
@@ -6,7 +7,9 @@ use mathlib.Core.Bool.{true}
 use mathlib.Core.List.{List, [], _∷_}
 use lib.ListN.{length, take, drop}
 use Rattle.rules.specs.Tests.{pick}
-use Rattle.rules.specs.Table.{Rules}
+use Rattle.rules.specs.Table.{Rules, rulesOf}
+use Rattle.rules.specs.Editions.{known, bookOf}
+use Rattle.rules.specs.Refusals.{noted}
 use Rattle.message.specs.declared.Verdict.{Verdict}
 use Rattle.message.specs.declared.Verdict.the-variants.{Accepted, Declined}
 use Rattle.message.specs.declared.Part.{Part}
@@ -20,6 +23,7 @@ use Rattle.caption.specs.declared.CallerText.{CallerText}
 use Rattle.caption.specs.declared.CallerText.the-variants.{Text, Missing}
 use Rattle.caption.specs.declared.Shown.{Shown}
 use Rattle.caption.specs.declared.Shown.the-variants.{InMessage, InDirectory, Refused}
+use Rattle.caption.specs.declared.Finding.{Finding}
 
 -- where the text after the first = stands on the first line for the caller; the first of the lines begins at a place
 -- of the directory
@@ -57,6 +61,13 @@ findUnder R (Declined f) o d = Refused f
 unfoldable pub findOf : Rules → List ℕ → List ℕ → Shown
 findOf R o d = findUnder R (verdictOf R o) o d
 
+-- what is found by an edition and a way, and the edition that the answer names: by the book of known numbers, and 16
+-- where the edition or the way is unknown
+unfoldable pub findIn : ℕ → ℕ → List ℕ → List ℕ → Finding
+findIn e w o d =
+    pick (known e w) (record { edition = e; shown = findOf (rulesOf (bookOf e w)) o d })
+    (record { edition = 0; shown = Refused (noted 16 0) })
+
 -- the slice that the part lies in, of the message o and the directory d
 unfoldable pub sliceOf : Shown → List ℕ → List ℕ → List ℕ
 sliceOf (InMessage start n) o d = o
@@ -68,8 +79,8 @@ unfoldable pub partText : Shown → List ℕ → List ℕ → List ℕ
 partText r o d = take (told r .size) (drop (told r .start) (sliceOf r o d))
 
 -- the octets of the part that is found
-unfoldable pub captionOf : Rules → List ℕ → List ℕ → List ℕ
-captionOf R o d = partText (findOf R o d) o d
+unfoldable pub captionIn : ℕ → ℕ → List ℕ → List ℕ → List ℕ
+captionIn e w o d = partText (findIn e w o d .shown) o d
 
 -- the lent code, which held x, afterwards: which slice the part lies in; x with a refusal
 unfoldable pub codeOf : Shown → ℕ → ℕ

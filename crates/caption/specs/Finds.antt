@@ -1,5 +1,5 @@
 -- What the caption finder gives, over the written rules (document 01, The caption): the part of each case, and
--- refusals exactly as the whole read's.
+-- refusals exactly as the whole read's; by a book, and by an edition and a way (document 02, Q-5).
 -- Assumes nothing.
 use Prim.Native.Nat.{ℕ, _+_, _≤_}
 use mathlib.Core.Path.{_≡_}
@@ -8,7 +8,8 @@ use mathlib.Core.List.{List, []}
 use mathlib.Core.Option.{none}
 use lib.ListN.{length}
 use lib.Dec.{T}
-use Rattle.rules.specs.Table.{Rules}
+use Rattle.rules.specs.Table.{Rules, rulesOf}
+use Rattle.rules.specs.Editions.{known, bookOf}
 use Rattle.rules.specs.Message.{Message, octets, LegalMessage, Accepts}
 use Rattle.rules.specs.Counting.{counted, Counts}
 use Rattle.rules.specs.Language.{calls}
@@ -16,6 +17,7 @@ use Rattle.message.specs.declared.Verdict.{Verdict}
 use Rattle.message.specs.Told as message
 use Rattle.message.specs.Judges.{Judges, verdictNumber}
 use Rattle.caption.specs.declared.Shown.{Shown}
+use Rattle.caption.specs.declared.Finding.{Finding}
 use Rattle.caption.specs.Lines.{linesOf}
 use Rattle.caption.specs.Told.{told, refusal, Clear}
 use Rattle.caption.specs.Caption.{sliceOf, partText}
@@ -62,3 +64,19 @@ pub record Finds (R : Rules) (o d : List ℕ) (r : Shown) : Type 0 where
   -- the part lies inside the slice that it names
   pub inside : told r .start + told r .size ≤ length (sliceOf r o d)
   pub caption : (m : Message) → LegalMessage R m → octets m ≡ o → Captions R m d r
+
+-- by the edition e and the way w, the message's octets o and the directory d went in, and r came back
+pub record FindsBy (e w : ℕ) (o d : List ℕ) (r : Finding) : Type 0 where
+  -- by known numbers all that is said of their book
+  pub by-book : T (known e w) → Finds (rulesOf (bookOf e w)) o d (r .shown)
+  -- number, place, parameter and part tell it, by unknown numbers too
+  pub clear : Clear (r .shown)
+  -- 16, with the empty part at the message's start, exactly where the edition or the way is unknown
+  pub sixteen : (p b : ℕ) → (told (r .shown) ≡ refusal 16 p b) ↔ ((p ≡ 0) × (b ≡ 0) × (T (known e w) → ⊥))
+  -- by unknown numbers nothing else
+  pub unknown : (T (known e w) → ⊥) → told (r .shown) .number ≡ 16
+  -- the part lies inside the slice that it names, by unknown numbers too
+  pub inside : told (r .shown) .start + told (r .shown) .size ≤ length (sliceOf (r .shown) o d)
+  -- every answer names its edition, but with 16 none
+  pub names : (told (r .shown) .number ≡ 16 → ⊥) → r .edition ≡ e
+  pub names-none : told (r .shown) .number ≡ 16 → r .edition ≡ 0

@@ -10,13 +10,19 @@ ghost use lib.ListN.{length, take, drop};
 ghost use Rattle.rules.specs.Table.{rulesOf};
 ghost use Rattle.message.specs.Parts.{countedAt};
 ghost use Rattle.caption.specs.Lines.{indexOf, names};
-ghost use Rattle.caption.specs.Caption.{lookup, Cuts, byEntry, byCaller, byName, findOf, captionOf, codeOf};
+ghost use Rattle.caption.specs.Caption.{lookup, Cuts, byEntry, byCaller, byName, findOf, findIn, captionIn, codeOf};
 
 // Where the caption stands, or a refusal.
 pub enum Shown {
     InMessage { start: usize, length: usize },
     InDirectory { start: usize, length: usize },
     Refused(Fault),
+}
+
+// What is shown, and the edition that the answer names: 0 with 16 (document 02, Q-5).
+pub struct Finding {
+    pub edition: u8,
+    pub shown: Shown,
 }
 
 // How long a line is, and whether it is for the caller.
@@ -131,8 +137,8 @@ fn by_name(book: Book, message: &[u8], directory: &[u8]) -> Shown
     }
 }
 
-// Which slice, where and how long; octets that the whole read declines with 1 to 8 or 10 get that number.
-pub fn find(book: Book, message: &[u8], directory: &[u8]) -> Shown
+// By a book: which slice, where and how long; octets that the whole read declines with 1 to 8 or 10 get that number.
+fn find_by(book: Book, message: &[u8], directory: &[u8]) -> Shown
     ensures { λ r. ⌜ r ≡ findOf (rulesOf book) (now (message .entry)) (now (directory .entry)) ⌝ }
 {
     let verdict = message::judge(book, message);
@@ -142,13 +148,37 @@ pub fn find(book: Book, message: &[u8], directory: &[u8]) -> Shown
     }
 }
 
+// What is shown, by an edition and a way: 16 where one of them is unknown.
+pub fn find(edition: u8, way: u8, message: &[u8], directory: &[u8]) -> Finding
+    ensures { λ r. ⌜ r ≡ findIn edition way (now (message .entry)) (now (directory .entry)) ⌝ }
+{
+    if rules::is_known(edition, way) {
+        Finding {
+            edition,
+            shown: find_by(rules::book_of(edition, way), message, directory),
+        }
+    } else {
+        Finding {
+            edition: 0,
+            shown: Shown::Refused(rules::noted(16, 0)),
+        }
+    }
+}
+
 // The part that `find` finds, and in the lent code which slice it is part of: 0 the message, 1 the directory. With
 // every refusal the empty part at the message's start, and the code as it was; the refusal is `find`'s.
-pub fn caption<'a>(book: Book, message: &'a [u8], directory: &'a [u8], side: &mut u8) -> &'a [u8]
-    ensures part { λ r. ⌜ now r ≡ captionOf (rulesOf book) (now (message .entry)) (now (directory .entry)) ⌝ }
-    ensures side { λ r. ⌜ now (side .exit) ≡ codeOf (findOf (rulesOf book) (now (message .entry)) (now (directory .entry))) (now (side .entry)) ⌝ }
+pub fn caption<'a>(
+    edition: u8,
+    way: u8,
+    message: &'a [u8],
+    directory: &'a [u8],
+    side: &mut u8,
+) -> &'a [u8]
+    ensures part { λ r. ⌜ now r ≡ captionIn edition way (now (message .entry)) (now (directory .entry)) ⌝ }
+    ensures side { λ r. ⌜ now (side .exit) ≡ codeOf (findIn edition way (now (message .entry)) (now (directory .entry)) .shown) (now (side .entry)) ⌝ }
 {
-    let found = find(book, message, directory);
+    let finding = find(edition, way, message, directory);
+    let found = finding.shown;
     match found {
         Shown::InMessage { start, length } => {
             *side = 0;

@@ -1,4 +1,5 @@
--- A reference stands as the last word on it says: call by call, a change says what it leaves.
+-- A reference stands as the last word on it says: call by call, a change says what it leaves. A call by unknown
+-- numbers is refused, and says nothing.
 -- Assumes nothing.
 use Prim.Native.Nat.{ℕ}
 use mathlib.Core.Path.{_≡_, sym, subst}
@@ -11,6 +12,7 @@ use lib.Dec.{T}
 use Rattle.rules.specs.Tests.{_=?_, pick}
 use Rattle.rules.proofs.Tests.{pick-yes, pick-not, decide, of-eq, eq-of}
 use Rattle.rules.specs.Table.{rulesOf}
+use Rattle.rules.specs.Editions.{known, bookOf}
 use Rattle.rules.specs.declared.Book.{Book}
 use Rattle.message.specs.declared.Verdict.{Verdict}
 use Rattle.message.specs.declared.Verdict.the-variants.{Accepted, Declined}
@@ -19,18 +21,21 @@ use Rattle.desk.specs.declared.Change.{Change}
 use Rattle.desk.specs.declared.Change.the-variants.{Nothing, Adds, Removes}
 use Rattle.desk.specs.declared.Desk.{Desk}
 use Rattle.desk.specs.declared.Outcome.{Outcome}
+use Rattle.desk.specs.declared.Settling.{Settling}
 use Rattle.desk.specs.References.{placesFit, isFull, placesAfter}
 use Rattle.desk.specs.Holding.{Open, Fit}
 use Rattle.desk.proofs.Holding.{fit-of}
 use Rattle.desk.proofs.Changes.{added, others-added, closed-after, others-removed}
-use Rattle.desk.specs.Settle.{refusedWith, changeOf, noticed, countedIn, settledMessage, settledUnder, settleOf}
+use Rattle.desk.specs.Settle.{refusedWith, changeOf, noticed, countedIn, settledMessage, settledUnder, settleOf, settleIn}
 use Rattle.desk.proofs.Settles.{Ways, ways}
+use Rattle.desk.proofs.Editions.{unnamed, known-is, unknown-is, none-is}
 use Rattle.desk.specs.History.{saidBy, Call, saidUnder, said, later, lastSaid, OpenBy}
 
 -- calls one after the other, from the desk d to the desk e: each on the desk that the one before left
 abbrev pub History : Desk → List Call → Desk → Type 0
 History d [] e = d ≡ e
-History d (c ∷ cs) e = (c .outcome ≡ settleOf (rulesOf (c .book)) d (c .octets)) × History (c .outcome .desk) cs e
+History d (c ∷ cs) e =
+    (c .settled ≡ settleIn (c .edition) (c .way) d (c .octets)) × History (c .settled .outcome .desk) cs e
 
 -- ---- one change
 stands-changed : (r : ℕ) (k : Change) (ps : List ℕ) → Fit ps → (T (isFull k ps) → ⊥) →
@@ -99,6 +104,21 @@ module _ (book : Book) where
             (says-under (verdictOf (rulesOf book) o) o (fit-of (d .places) t))
         go (inr n) = subst (Says o) (sym (pick-not (placesFit (d .places)) _ _ n)) same
 
+-- by an edition and a way
+module _ (e w r : ℕ) (d : Desk) (o : List ℕ) where
+  abbrev SaysBy : Settling → Type 0
+  SaysBy x = Says (bookOf e w) r d o (x .outcome)
+
+  says-by : SaysBy (settleIn e w d o)
+  unfolding saidUnder
+  says-by = go (decide (known e w))
+    where
+      go : T (known e w) ⊎ (T (known e w) → ⊥) → SaysBy (settleIn e w d o)
+      go (inl t) = subst SaysBy (sym (known-is e w d o t)) (says (bookOf e w) r d o)
+      go (inr n) =
+          subst SaysBy (sym (unknown-is e w d o n))
+          (subst (λ (x : Outcome). SaysBy (unnamed x)) (sym (none-is d .1)) (same (bookOf e w) r d))
+
 -- ---- call after call
 stands-later : (r : ℕ) (ps qs rs : List ℕ) (a b : Option Bool) → OpenBy r ps b qs → OpenBy r qs a rs →
     OpenBy r ps (later a b) rs
@@ -114,10 +134,10 @@ goes-on : (r : ℕ) (ps : List ℕ) (d : Desk) (cs : List Call) (e : Desk) (b : 
 unfolding lastSaid said
 goes-on r ps d [] e b x h = subst (λ (y : Desk). OpenBy r ps b (y .places)) h x
 goes-on r ps d (c ∷ cs) e b x h =
-    goes-on r ps (c .outcome .desk) cs e _
-    (stands-later r ps (d .places) (c .outcome .desk .places) (said r c) b x
-    (subst (λ (y : Outcome). OpenBy r (d .places) (saidUnder (rulesOf (c .book)) r (c .octets) (y .answer))
-    (y .desk .places)) (sym (h .0)) (says (c .book) r d (c .octets))))
+    goes-on r ps (c .settled .outcome .desk) cs e _
+    (stands-later r ps (d .places) (c .settled .outcome .desk .places) (said r c) b x
+    (subst (SaysBy (c .edition) (c .way) r d (c .octets)) (sym (h .0))
+    (says-by (c .edition) (c .way) r d (c .octets))))
     (h .1)
 
 -- from whatever desk: open, closed or as it was, by the last word of all calls

@@ -5,6 +5,7 @@ pub mod Counted
 pub mod Notice
 pub mod Told
 pub mod Settles
+pub mod Editions
 pub mod History
 pub mod Words
 pub mod Settled

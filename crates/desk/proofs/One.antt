@@ -1,9 +1,10 @@
 -- The sentences on settling leave one outcome: each answer is told by the desk's places and the octets, and what
 -- counts in a notice, whose contents have a sentence each in every book, tells the number, the lamp and the places
--- after it.
+-- after it. By an edition and a way the book of known numbers leaves one outcome; by unknown ones the desk's places
+-- tell the number; and the number tells which edition is named.
 -- Assumes nothing.
 use Prim.Native.Nat.{ℕ, _≤_, _<_}
-use mathlib.Core.Path.{_≡_, refl, sym, _∙_, ap}
+use mathlib.Core.Path.{_≡_, refl, sym, _∙_, ap, subst}
 use mathlib.Core.Logic.{_⊎_, inl, inr}
 use mathlib.Core.List.{List, [], _∷_}
 use mathlib.Core.Option.{Option, none, some}
@@ -14,6 +15,7 @@ use lib.Dec.{T}
 use Rattle.rules.specs.Tests.{_=?_}
 use Rattle.rules.proofs.Tests.{clash, either, decide, eq-of, of-eq}
 use Rattle.rules.specs.Table.{Rules, rulesOf}
+use Rattle.rules.specs.Editions.{known, bookOf}
 use Rattle.rules.specs.Message.{Message, octets, LegalMessage, messageKind}
 use Rattle.rules.specs.Counting.{counted}
 use Rattle.rules.specs.Language.{calls}
@@ -25,12 +27,15 @@ use Rattle.desk.specs.declared.Desk.{Desk}
 use Rattle.desk.specs.declared.Answer.{Answer}
 use Rattle.desk.specs.declared.Answer.the-variants.{Done, Refused}
 use Rattle.desk.specs.declared.Outcome.{Outcome}
+use Rattle.desk.specs.declared.Settling.{Settling}
 use Rattle.desk.specs.References.{absent, held}
-use Rattle.desk.specs.Holding.{Lowest, Added, Removed}
-use Rattle.desk.specs.Settles.{Notices, Settles}
+use Rattle.desk.specs.Holding.{Fit, Lowest, Added, Removed}
+use Rattle.desk.specs.Told.{told, refusal}
+use Rattle.desk.specs.Settles.{Notices, Settles, SettlesBy}
 use Rattle.desk.proofs.Holding.{closed-of, open-of}
 use Rattle.desk.proofs.Told.{told-done, unfit-iff, refused-iff, full-iff, done-iff, some-number, number-of, noted-at}
-use Rattle.desk.proofs.Told.{refusal-leaves}
+use Rattle.desk.proofs.Told.{number-is, told-refused, refusal-leaves}
+use Rattle.desk.proofs.Editions.{fits}
 use Rattle.desk.proofs.Counted.{waiting-octet, lamp-octet, identity-octets}
 
 -- ---- the places
@@ -148,3 +153,61 @@ settles-one b d o r s A B = λ i. record { desk = desk (r .answer) refl i; answe
     desk : (a : Answer) → r .answer ≡ a → r .desk ≡ s .desk
     desk (Refused f) e = refusal-leaves A f e ∙ sym (refusal-leaves B f (answer (Refused f) e))
     desk Done e = let x = done-iff A .0 e .1 in by-kind (x .0) (x .1) (x .2) e (kinds _ (x .1 .kind))
+
+-- ---- by an edition and a way
+module _ (e w : ℕ) (d : Desk) (o : List ℕ) where
+  -- by unknown numbers the desk's places tell the number
+  abbrev number : Fit (d .places) ⊎ (Fit (d .places) → ⊥) → ℕ
+  number (inl f) = 16
+  number (inr m) = 17
+
+  none-told : (r : Settling) → SettlesBy e w d o r → (T (known e w) → ⊥) →
+      (f : Fit (d .places) ⊎ (Fit (d .places) → ⊥)) → told (r .outcome .answer) ≡ refusal (number f) 0 0
+  none-told r A n (inl f) = A .sixteen 0 0 .1 (refl, refl, f, n)
+  none-told r A n (inr m) = A .seventeen 0 0 .1 (refl, refl, m)
+
+  least : (f : Fit (d .places) ⊎ (Fit (d .places) → ⊥)) → 1 ≤ number f
+  least (inl f) = omega arith
+  least (inr m) = omega arith
+
+  none-one : (r : Settling) → SettlesBy e w d o r → (T (known e w) → ⊥) →
+      r .outcome ≡ record { desk = d; answer = Refused (noted (number (fits d)) 0) }
+  none-one r A n =
+      let t = none-told r A n (fits d) in
+      let l = least (fits d) in
+      let a = told-refused _ (number (fits d)) 0 0 l .0 t in
+      let k = A .refusal-stays (omega (arith, number-is t, l)) in
+      λ i. record { desk = k i; answer = a i }
+
+  module _ (r s : Settling) (A : SettlesBy e w d o r) (B : SettlesBy e w d o s) where
+    outcome-one : r .outcome ≡ s .outcome
+    outcome-one = go (decide (known e w))
+      where
+        go : T (known e w) ⊎ (T (known e w) → ⊥) → r .outcome ≡ s .outcome
+        go (inl t) = settles-one (bookOf e w) d o _ _ (A .by-book t) (B .by-book t)
+        go (inr n) = none-one r A n ∙ sym (none-one s B n)
+
+    abbrev k : ℕ
+    k = told (r .outcome .answer) .number
+
+    number-one : k ≡ told (s .outcome .answer) .number
+    number-one = ap (λ (x : Outcome). told (x .answer) .number) outcome-one
+
+    edition-one : r .edition ≡ s .edition
+    edition-one = go (decide (k =? 16)) (decide (k =? 17))
+      where
+        none : (k ≡ 16) ⊎ (k ≡ 17) → r .edition ≡ s .edition
+        none x =
+            A .names-none x
+            ∙ sym (B .names-none (subst (λ (j : ℕ). (j ≡ 16) ⊎ (j ≡ 17)) number-one x))
+
+        go : T (k =? 16) ⊎ (T (k =? 16) → ⊥) → T (k =? 17) ⊎ (T (k =? 17) → ⊥) → r .edition ≡ s .edition
+        go (inl x) y = none (inl (eq-of _ _ x))
+        go (inr x) (inl y) = none (inr (eq-of _ _ y))
+        go (inr x) (inr y) =
+            A .names (λ z. x (of-eq _ _ z)) (λ z. y (of-eq _ _ z))
+            ∙ sym (B .names (λ z. x (of-eq _ _ (number-one ∙ z))) (λ z. y (of-eq _ _ (number-one ∙ z))))
+
+    -- by any numbers, any octets settled on any desk have one outcome, and name one edition
+    pub settles-by-one : r ≡ s
+    settles-by-one = λ i. record { edition = edition-one i; outcome = outcome-one i }

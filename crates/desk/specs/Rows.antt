@@ -1,5 +1,5 @@
 -- Document 01's rows on a desk, computed: settled notices, a call message, and refusals; then document 02's Q-6:
--- references added, removed and refused.
+-- references added, removed and refused; and Q-5: the old edition, and an unknown one.
 -- Assumes nothing.
 use Prim.Native.Nat.{ℕ}
 use mathlib.Core.Path.{_≡_, refl}
@@ -10,6 +10,7 @@ use Rattle.rules.specs.Octets.{checksum}
 use Rattle.rules.specs.Contents.{within, inSet, digit, someLength, shortMonth, days}
 use Rattle.rules.specs.Table.{rulesOf, classFault, rowIn, rowOf, listedIn, listed, classOf, rivalOf, typeFault, whole}
 use Rattle.rules.specs.declared.Book.the-variants.{PresentLenient}
+use Rattle.rules.specs.Editions.{edition, known, bookOf, namedBy}
 use Rattle.rules.specs.Message.{messageKind}
 use Rattle.rules.specs.ContentJudge.{opens, tensFit, onesFit, pairAt, dayFits, calendarAt, calendarKeep, columnAt, judgeOf}
 use Rattle.rules.specs.Machine.{step, run}
@@ -24,9 +25,11 @@ use Rattle.desk.specs.declared.Lamp.the-variants as lamp
 use Rattle.desk.specs.declared.Desk.{Desk}
 use Rattle.desk.specs.declared.Answer.the-variants.{Done, Refused}
 use Rattle.desk.specs.declared.Outcome.{Outcome}
+use Rattle.desk.specs.declared.Settling.{Settling}
+use Rattle.desk.specs.Told.{told}
 use Rattle.desk.specs.References.{free, held, placeWith, absent, mayStand, placesFit}
 use Rattle.desk.specs.References.{changeBy, isFull, placesAfter}
-use Rattle.desk.specs.Settle.{newDesk, waitingAfter, lampAfter, changeIn, changeOf, noticed, countedIn, settledNotice, settledMessage, settledUnder, refusedWith, settleOf}
+use Rattle.desk.specs.Settle.{newDesk, waitingAfter, lampAfter, changeIn, changeOf, noticed, countedIn, settledNotice, settledMessage, settledUnder, refusedWith, settleOf, settledByNone, settleIn}
 
 abbrev with-places : Waiting → Lamp → List ℕ → Desk
 with-places w l ps = record { waiting = w; lamp = l; places = ps }
@@ -45,6 +48,9 @@ done w l = settled (desk w l)
 
 abbrev refused : ℕ → ℕ → Desk → Outcome
 refused k p d = record { desk = d; answer = Refused (noted k p) }
+
+abbrev by : ℕ → Outcome → Settling
+by e x = record { edition = e; outcome = x }
 
 -- the references 101H to 110H
 abbrev sixteen : List ℕ
@@ -100,9 +106,28 @@ pub record Claim : Type 0 where
       refused 17 0 (holding (65537 ∷ replicate 15 free))
   pub last-reference : settleOf (rulesOf PresentLenient) (holding (65536 ∷ replicate 15 free))
       (0x82 ∷ 0x05 ∷ 0x0D ∷ 0x03 ∷ 0x00 ∷ 0xFF ∷ 0xFF ∷ 0x6B ∷ []) ≡ settled newDesk
+  -- by the old edition 13H is carried, and the number stays; the lamp is set
+  pub old-number : settleIn 1 1 (desk (waiting.Number 7) lamp.Off)
+      (0x82 ∷ 0x03 ∷ 0x13 ∷ 0x01 ∷ 0x02 ∷ 0x65 ∷ []) ≡ by 1 (done (waiting.Number 7) lamp.Off)
+  pub old-lamp : settleIn 1 1 (desk (waiting.Number 7) lamp.Off)
+      (0x82 ∷ 0x03 ∷ 0x0B ∷ 0x01 ∷ 0xFF ∷ 0x70 ∷ []) ≡ by 1 (done (waiting.Number 7) lamp.On)
+  -- the same notice by the present edition, and by the old one where types without a row are refused
+  pub present-number : settleIn 0 1 (desk (waiting.Number 7) lamp.Off)
+      (0x82 ∷ 0x03 ∷ 0x13 ∷ 0x01 ∷ 0x02 ∷ 0x65 ∷ []) ≡ by 0 (done (waiting.Number 2) lamp.Off)
+  pub old-strict : settleIn 1 0 newDesk (0x82 ∷ 0x03 ∷ 0x13 ∷ 0x01 ∷ 0x02 ∷ 0x65 ∷ []) ≡
+      by 1 (record { desk = newDesk; answer = Refused (notedIn 10 2 1) })
+  -- an unknown edition and an unknown way, behind 17
+  pub unknown-edition : settleIn 2 1 newDesk (0x82 ∷ 0x03 ∷ 0x0B ∷ 0x01 ∷ 0xFF ∷ 0x70 ∷ []) ≡
+      by 0 (refused 16 0 newDesk)
+  pub unknown-way : settleIn 1 2 newDesk (0x82 ∷ 0x03 ∷ 0x0B ∷ 0x01 ∷ 0xFF ∷ 0x70 ∷ []) ≡
+      by 0 (refused 16 0 newDesk)
+  pub held-twice-unknown : settleIn 2 1 (holding (held 7 ∷ free ∷ held 7 ∷ replicate 13 free)) [] ≡
+      by 0 (refused 17 0 (holding (held 7 ∷ free ∷ held 7 ∷ replicate 13 free)))
+  pub held-twice-known : settleIn 1 1 (holding (held 7 ∷ free ∷ held 7 ∷ replicate 13 free)) [] ≡
+      by 0 (refused 17 0 (holding (held 7 ∷ free ∷ held 7 ∷ replicate 13 free)))
 
 pub rows : Claim
-unfolding _≤?_ _=?_ _and_ _or_ pick checksum within inSet whole digit rowIn rowOf listedIn listed classOf rivalOf typeFault rulesOf classFault someLength messageKind opens tensFit onesFit pairAt shortMonth days dayFits calendarAt calendarKeep columnAt judgeOf step run roomFits rangePossible somePossible possible final fits contents after fault standsIn machine judged verdictOf parameterAt matched searchFrom countedAt partOf waitingAfter lampAfter changeIn changeOf noticed countedIn settledNotice settledMessage settledUnder refusedWith settleOf placeWith absent mayStand placesFit changeBy isFull placesAfter
+unfolding _≤?_ _=?_ _and_ _or_ pick checksum within inSet whole digit rowIn rowOf listedIn listed classOf rivalOf typeFault rulesOf classFault someLength messageKind opens tensFit onesFit pairAt shortMonth days dayFits calendarAt calendarKeep columnAt judgeOf step run roomFits rangePossible somePossible possible final fits contents after fault standsIn machine judged verdictOf parameterAt matched searchFrom countedAt partOf waitingAfter lampAfter changeIn changeOf noticed countedIn settledNotice settledMessage settledUnder refusedWith settleOf placeWith absent mayStand placesFit changeBy isFull placesAfter edition known bookOf namedBy told settledByNone settleIn
 rows = record {
   lamp-on = refl;
   lamp-off = refl;
@@ -125,4 +150,12 @@ rows = record {
   held-twice = refl;
   out-of-range = refl;
   last-reference = refl;
+  old-number = refl;
+  old-lamp = refl;
+  present-number = refl;
+  old-strict = refl;
+  unknown-edition = refl;
+  unknown-way = refl;
+  held-twice-unknown = refl;
+  held-twice-known = refl;
 }

@@ -1,11 +1,12 @@
--- What settling does to a desk (document 01, The desk; document 02, Q-6).
+-- What settling does to a desk (document 01, The desk; document 02, Q-6), by an edition and a way (Q-5).
 -- Assumes nothing.
 use Prim.Native.Nat.{ℕ}
 use mathlib.Core.List.{List}
 use mathlib.Core.Option.{Option, none, some}
 use lib.ListN.{getD, replicate}
 use Rattle.rules.specs.Tests.{_=?_, pick}
-use Rattle.rules.specs.Table.{Rules}
+use Rattle.rules.specs.Table.{Rules, rulesOf}
+use Rattle.rules.specs.Editions.{known, bookOf, namedBy}
 use Rattle.rules.specs.declared.Fault.{Fault}
 use Rattle.rules.specs.Refusals.{noted}
 use Rattle.message.specs.Parts.{countedAt, partOf}
@@ -21,6 +22,8 @@ use Rattle.desk.specs.declared.Change.the-variants.{Nothing}
 use Rattle.desk.specs.declared.Desk.{Desk}
 use Rattle.desk.specs.declared.Answer.the-variants.{Done, Refused}
 use Rattle.desk.specs.declared.Outcome.{Outcome}
+use Rattle.desk.specs.declared.Settling.{Settling}
+use Rattle.desk.specs.Told.{told}
 use Rattle.desk.specs.References.{placeCount, free, placesFit, changeBy, isFull, placesAfter}
 
 -- number and lamp unknown, all sixteen places free
@@ -85,3 +88,18 @@ settledUnder R (Declined f) o d = refused f d
 -- whole read's verdict on the octets
 unfoldable pub settleOf : Rules → Desk → List ℕ → Outcome
 settleOf R d o = pick (placesFit (d .places)) (settledUnder R (verdictOf R o) o d) (refusedWith 17 d)
+
+-- without a book: 17 as by any, else 16
+unfoldable pub settledByNone : Desk → Outcome
+settledByNone d = pick (placesFit (d .places)) (refusedWith 16 d) (refusedWith 17 d)
+
+-- the outcome by an edition and a way, and the edition that its answer names: by the book of known numbers, and
+-- without one where the edition or the way is unknown
+unfoldable pub settleIn : ℕ → ℕ → Desk → List ℕ → Settling
+settleIn e w d o =
+    pick (known e w)
+    (record {
+      edition = namedBy (told (settleOf (rulesOf (bookOf e w)) d o .answer) .number) e;
+      outcome = settleOf (rulesOf (bookOf e w)) d o;
+    })
+    (record { edition = 0; outcome = settledByNone d })

@@ -1,5 +1,5 @@
 -- What settling means over the written rules (document 01, The desk; document 02, Q-6): which answer, and what a
--- notice, a call message and a refusal do to the desk.
+-- notice, a call message and a refusal do to the desk; by a book, and by an edition and a way (Q-5).
 -- Assumes nothing.
 use Prim.Native.Nat.{ℕ, _≤_}
 use mathlib.Core.Path.{_≡_}
@@ -8,7 +8,8 @@ use mathlib.Core.List.{List, [], _∷_}
 use mathlib.Core.Option.{none, some}
 use lib.ListN.{length}
 use lib.Dec.{T}
-use Rattle.rules.specs.Table.{Rules}
+use Rattle.rules.specs.Table.{Rules, rulesOf}
+use Rattle.rules.specs.Editions.{known, bookOf}
 use Rattle.rules.specs.Message.{Message, octets, LegalMessage, Accepts}
 use Rattle.rules.specs.Counting.{counted}
 use Rattle.desk.specs.declared.Waiting.the-variants.{Number}
@@ -20,6 +21,7 @@ use Rattle.message.specs.declared.Verdict.{Verdict}
 use Rattle.message.specs.Told as message
 use Rattle.message.specs.Judges.{Judges, verdictNumber}
 use Rattle.desk.specs.declared.Outcome.{Outcome}
+use Rattle.desk.specs.declared.Settling.{Settling}
 use Rattle.desk.specs.Told.{told, success, refusal, Clear}
 use Rattle.rules.specs.Octets.{referenceOf}
 
@@ -83,3 +85,29 @@ pub record Settles (R : Rules) (d : Desk) (o : List ℕ) (r : Outcome) : Type 0 
   -- a desk that fits is left as one that fits, with as many places
   pub fits : Fit (d .places) → Fit (r .desk .places)
   pub as-many : length (r .desk .places) ≡ length (d .places)
+
+-- by the edition e and the way w, the desk d and the octets o went in, and r came back
+pub record SettlesBy (e w : ℕ) (d : Desk) (o : List ℕ) (r : Settling) : Type 0 where
+  -- by known numbers all that is said of their book
+  pub by-book : T (known e w) → Settles (rulesOf (bookOf e w)) d o (r .outcome)
+  -- number, place and parameter tell the answer, by unknown numbers too
+  pub clear : Clear (r .outcome .answer)
+  -- 17 exactly for a desk with a place out of range or a reference twice, whatever the numbers
+  pub seventeen : (p b : ℕ) →
+      (told (r .outcome .answer) ≡ refusal 17 p b) ↔ ((p ≡ 0) × (b ≡ 0) × (Fit (d .places) → ⊥))
+  -- else 16 exactly where the edition or the way is unknown
+  pub sixteen : (p b : ℕ) →
+      (told (r .outcome .answer) ≡ refusal 16 p b) ↔ ((p ≡ 0) × (b ≡ 0) × Fit (d .places) × (T (known e w) → ⊥))
+  -- by unknown numbers nothing else
+  pub unknown :
+      let k = told (r .outcome .answer) .number in
+      (T (known e w) → ⊥) → (k ≡ 16) ⊎ (k ≡ 17)
+  -- a refusal leaves the desk as it was, by unknown numbers too
+  pub refusal-stays : 1 ≤ told (r .outcome .answer) .number → r .outcome .desk ≡ d
+  -- every answer names its edition, but with 16 and 17 none
+  pub names :
+      let k = told (r .outcome .answer) .number in
+      (k ≡ 16 → ⊥) → (k ≡ 17 → ⊥) → r .edition ≡ e
+  pub names-none :
+      let k = told (r .outcome .answer) .number in
+      (k ≡ 16) ⊎ (k ≡ 17) → r .edition ≡ 0

@@ -11,7 +11,8 @@ ghost use Rattle.rules.specs.Table.{rulesOf};
 ghost use Rattle.rules.specs.Message.{Accepts};
 ghost use Rattle.desk.specs.References as places-of;
 ghost use Rattle.desk.specs.References.{placeCount, placeWith, absent, mayStand, placesFit, changeBy, isFull, placesAfter};
-ghost use Rattle.desk.specs.Settle.{newDesk, countedIn, waitingAfter, lampAfter, changeIn, changeOf, settledNotice, settledMessage, refusedWith, settleOf};
+ghost use Rattle.desk.specs.Settle.{newDesk, countedIn, waitingAfter, lampAfter, changeIn, changeOf, settledNotice, settledMessage, refusedWith, settleOf, settledByNone, settleIn};
+ghost use Rattle.desk.specs.Told.{told};
 
 // The places for references (document 02, Q-6); one that holds none, and the one that holds the last.
 pub const PLACES: usize = 16;
@@ -47,6 +48,12 @@ pub enum Answer {
 pub struct Outcome {
     pub desk: Desk,
     pub answer: Answer,
+}
+
+// An outcome, and the edition that its answer names: 0 with 16 and 17 (document 02, Q-5).
+pub struct Settling {
+    pub edition: u8,
+    pub outcome: Outcome,
 }
 
 // What a notice does to a reference.
@@ -297,7 +304,7 @@ fn settle_message(book: Book, desk: Desk, octets: &[u8]) -> Outcome
 
 // A desk with a place out of range or a reference twice is 17; octets that the whole read declines with 1 to 8 or 10
 // get that number; 21 where a reference has no place. With each the desk comes back as it was.
-pub fn settle(book: Book, desk: Desk, octets: &[u8]) -> Outcome
+fn settle_by(book: Book, desk: Desk, octets: &[u8]) -> Outcome
     ensures { λ r. ⌜ r ≡ settleOf (rulesOf book) desk (now (octets .entry)) ⌝ }
 {
     let places = desk.places;
@@ -312,5 +319,45 @@ pub fn settle(book: Book, desk: Desk, octets: &[u8]) -> Outcome
         }
     } else {
         refused_with(17, desk)
+    }
+}
+
+// Without a book: 17 comes before 16.
+fn settle_by_none(desk: Desk) -> Outcome
+    ensures { λ r. ⌜ r ≡ settledByNone desk ⌝ }
+{
+    let places = desk.places;
+    if places_fit(places) {
+        refused_with(16, desk)
+    } else {
+        refused_with(17, desk)
+    }
+}
+
+fn number_of(a: Answer) -> u8
+    ensures { λ r. ⌜ r ≡ told a .number ⌝ }
+{
+    match a {
+        Answer::Done => 0,
+        Answer::Refused(f) => f.number,
+    }
+}
+
+// Settles a whole message by an edition and a way: 16 where one of them is unknown, behind 17.
+pub fn settle(edition: u8, way: u8, desk: Desk, octets: &[u8]) -> Settling
+    ensures { λ r. ⌜ r ≡ settleIn edition way desk (now (octets .entry)) ⌝ }
+{
+    if rules::is_known(edition, way) {
+        let outcome = settle_by(rules::book_of(edition, way), desk, octets);
+        let answer = outcome.answer;
+        Settling {
+            edition: rules::named_by(number_of(answer), edition),
+            outcome,
+        }
+    } else {
+        Settling {
+            edition: 0,
+            outcome: settle_by_none(desk),
+        }
     }
 }

@@ -20,7 +20,7 @@ use Rattle.draft.specs.declared.Value.the-variants.{Date, Code, State, T
 use Rattle.draft.specs.declared.Entry.{Entry}
 use Rattle.draft.specs.declared.Draft.{Draft}
 use Rattle.draft.specs.declared.Flat.{Flat}
-use Rattle.draft.specs.Same.{flatOf, sameNumbers, sameText, sameFlat, sameEntry, sameEntries, sameDraft}
+use Rattle.draft.specs.Same.{flatOf, sameNumbers, sameText, sameFlat, sameEntry, sameEntries, sameMessage, sameDraft}
 
 -- ---- values: what a value says is what it is flat, with its text's octets
 record FlatMeaning : Type 0 where
@@ -175,14 +175,18 @@ module _ (s : List ℕ) (t : List ℕ) where
 
 -- ---- drafts: the test holds exactly where they are equal
 pub same-equal : (a : Draft) (s : List ℕ) (b : Draft) (t : List ℕ) → T (sameDraft a s b t) ↔ Equal a s b t
-unfolding sameDraft
+unfolding sameDraft sameMessage
 same-equal a s b t = (
   λ q.
-      let x = both _ _ q in
+      let v = both _ _ q in
+      let w = both _ _ (v .1) in
+      let x = both _ _ (w .1) in
       let y = both _ _ (x .1) in
       let z = both _ _ (y .1) in
       let l = entries-alike s t _ _ (z .1) in
       record {
+        edition = eq-of _ _ (w .0);
+        known = v .0;
         kind = eq-of _ _ (x .0);
         count = eq-of _ _ (y .0);
         entries = l .says;
@@ -191,7 +195,8 @@ same-equal a s b t = (
         right = l .right;
       },
   λ e.
-      join _ _ (of-eq _ _ (e .kind))
+      join _ _ (e .known) (join _ _ (of-eq _ _ (e .edition))
+      (join _ _ (of-eq _ _ (e .kind))
       (join _ _ (of-eq _ _ (e .count)) (join _ _ (of-le _ _ (e .few))
-      (alike-entries s t _ _ (record { says = e .entries; left = e .left; right = e .right })))),
+      (alike-entries s t _ _ (record { says = e .entries; left = e .left; right = e .right })))))),
 )

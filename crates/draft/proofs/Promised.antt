@@ -3,9 +3,10 @@
 use Prim.Native.Nat.{ℕ}
 use mathlib.Core.Path.{_≡_, sym, _∙_, subst}
 use mathlib.Core.Bool.{Bool}
-use mathlib.Core.Logic.{_↔_}
+use mathlib.Core.Logic.{_⊎_, inl, inr, _↔_}
 use mathlib.Core.List.{List}
 use lib.Dec.{T}
+use Rattle.rules.specs.Editions.{edition}
 use Rattle.draft.specs.declared.Draft.{Draft}
 use Rattle.draft.specs.Draft.{Equal, messageOf}
 use Rattle.draft.specs.Same.{sameDraft}
@@ -29,3 +30,13 @@ module _ (d : Draft) (s : List ℕ) (e : Draft) (t : List ℕ) (x : Bool) (h : s
   -- and then they stand for the same message
   pub same-stands : T x → messageOf d s ≡ messageOf e t
   same-stands y = equal-stand d s e t (same-tells .0 y)
+
+  -- drafts of two editions are never equal, and one of an unknown edition, on either side, equals none (document 02,
+  -- Q-5)
+  pub editions-apart : (d .edition ≡ e .edition → ⊥) → T x → ⊥
+  editions-apart n y = n (same-tells .0 y .edition)
+
+  pub unknown-apart : (T (edition (d .edition)) → ⊥) ⊎ (T (edition (e .edition)) → ⊥) → T x → ⊥
+  unknown-apart (inl n) y = n (same-tells .0 y .known)
+  unknown-apart (inr n) y =
+      let q = same-tells .0 y in n (subst (λ (k : ℕ). T (edition k)) (q .edition) (q .known))

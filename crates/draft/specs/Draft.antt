@@ -7,6 +7,7 @@ use mathlib.Core.List.{List, [], _∷_}
 use lib.ListN.{length, take, drop, replicate}
 use lib.Dec.{T}
 use Rattle.rules.specs.Tests.{_≤?_, every}
+use Rattle.rules.specs.Editions as editions
 use Rattle.rules.specs.Message.{Parameter, Message, most}
 use Rattle.draft.specs.Meaning.{Meaning, dateIs, codeIs, stateIs, textIs, carriedIs, spelled}
 use Rattle.draft.specs.declared.Value.{Value}
@@ -48,9 +49,9 @@ unfoldable pub saidOf : List ℕ → Entry → Said
 saidOf texts e = record { kind = e .kind; meaning = meaningOf texts (e .value) }
 
 -- ---- drafts
--- a draft of a message type with no entries
-unfoldable pub emptyOf : ℕ → Draft
-emptyOf kind = record { kind = kind; count = 0; entries = replicate most noEntry }
+-- a draft of an edition and a message type with no entries
+unfoldable pub emptyOf : ℕ → ℕ → Draft
+emptyOf e kind = record { kind = kind; edition = e; count = 0; entries = replicate most noEntry }
 
 -- the entries that are used
 abbrev pub used : Draft → List Entry
@@ -71,9 +72,12 @@ allInside texts es = every (λ (e : Entry). inside texts (e .value)) es
 unfoldable pub messageOf : Draft → List ℕ → Message
 messageOf d texts = record { kind = d .kind; parameters = parametersOf texts (used d) }
 
--- two drafts, each with its text area, are equal: message type, number of entries and, entry by entry, type and value
--- agree. A draft with more than 85 entries, or with a text outside its area, is equal to none
+-- two drafts, each with its text area, are equal: edition, message type, number of entries and, entry by entry, type
+-- and value agree. A draft of an unknown edition (document 02, Q-5), with more than 85 entries or with a text outside
+-- its area is equal to none
 pub record Equal (a : Draft) (s : List ℕ) (b : Draft) (t : List ℕ) : Type 0 where
+  pub edition : a .edition ≡ b .edition
+  pub known : T (editions.edition (a .edition))
   pub kind : a .kind ≡ b .kind
   pub count : a .count ≡ b .count
   pub entries : allSaid s (used a) ≡ allSaid t (used b)

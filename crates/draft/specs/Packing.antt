@@ -46,6 +46,7 @@ unfoldable pub draftOf : Rules → Message → Draft
 draftOf R m =
     record {
       kind = m .kind;
+      edition = R .edition;
       count = length (m .parameters);
       entries = entriesOf R 0 (m .parameters) ++ replicate (most - length (m .parameters)) noEntry;
     }

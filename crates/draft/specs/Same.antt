@@ -7,6 +7,7 @@ use mathlib.Core.List.{List}
 use lib.ListN.{length, take, drop}
 use Rattle.rules.specs.Message.{most}
 use Rattle.rules.specs.Tests.{_≤?_, _=?_, _and_}
+use Rattle.rules.specs.Editions.{edition}
 use Rattle.rules.specs.Pairwise.{pairwise, sameOctets}
 use Rattle.draft.specs.Draft.{used}
 use Rattle.draft.specs.declared.Value.{Value}
@@ -59,6 +60,10 @@ abbrev pub sameEntries : List ℕ → List Entry → List ℕ → List Entry →
 sameEntries s es t fs = pairwise (λ (e f : Entry). sameEntry s e t f) es fs
 
 -- message type, number of entries (at most 85) and, entry by entry, type and value
-unfoldable pub sameDraft : Draft → List ℕ → Draft → List ℕ → Bool
-sameDraft a s b t =
+unfoldable pub sameMessage : Draft → List ℕ → Draft → List ℕ → Bool
+sameMessage a s b t =
     a .kind =? b .kind and (a .count =? b .count and (a .count ≤? most and sameEntries s (used a) t (used b)))
+
+-- a known edition, the same, and all the rest
+unfoldable pub sameDraft : Draft → List ℕ → Draft → List ℕ → Bool
+sameDraft a s b t = edition (a .edition) and (a .edition =? b .edition and sameMessage a s b t)

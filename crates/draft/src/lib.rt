@@ -1,4 +1,5 @@
-// Drafts (document 01, Drafts): a message type and up to 85 entries, each a parameter type with its value.
+// Drafts (document 01, Drafts; document 02, Q-5): an edition, a message type and up to 85 entries, each a parameter type
+// with its value.
 use rules::Class;
 use rules::Form;
 use rules::MOST;
@@ -11,7 +12,7 @@ ghost use Rattle.rules.specs.Table.{formOf};
 ghost use Rattle.rules.specs.Message.{most};
 ghost use Rattle.draft.specs.Meaning.{formNumber};
 ghost use Rattle.draft.specs.Draft.{noEntry, emptyOf};
-ghost use Rattle.draft.specs.Same.{flatOf, flatText, sameText, sameNumbers, sameFlat, sameEntry, sameEntries, sameDraft};
+ghost use Rattle.draft.specs.Same.{flatOf, flatText, sameText, sameNumbers, sameFlat, sameEntry, sameEntries, sameMessage, sameDraft};
 
 pub enum Value {
     Date {
@@ -40,10 +41,12 @@ pub struct Entry {
     pub value: Value,
 }
 
+// A message type, the entries, and the number of the edition by which they are written (document 02, Q-5).
 pub struct Draft {
     pub kind: u8,
     pub count: usize,
     pub entries: [Entry; MOST],
+    pub edition: u8,
 }
 
 // An entry place that is not used.
@@ -56,14 +59,15 @@ pub fn no_entry() -> Entry
     }
 }
 
-// A draft with no entries.
-pub fn empty(kind: u8) -> Draft
-    ensures { λ r. ⌜ r ≡ emptyOf kind ⌝ }
+// A draft of an edition with no entries.
+pub fn empty(edition: u8, kind: u8) -> Draft
+    ensures { λ r. ⌜ r ≡ emptyOf edition kind ⌝ }
 {
     let none = no_entry();
     let entries = [none; MOST];
     Draft {
         kind,
+        edition,
         count: 0,
         entries,
     }
@@ -268,10 +272,9 @@ fn same_entries(a: Draft, s: &[u8], b: Draft, t: &[u8]) -> bool
     true
 }
 
-// Are two drafts, each with its text area, equal? One with over 85 entries or with a text outside its area is equal to
-// none.
-pub fn same(a: Draft, s: &[u8], b: Draft, t: &[u8]) -> bool
-    ensures { λ r. ⌜ r ≡ sameDraft a (now (s .entry)) b (now (t .entry)) ⌝ }
+// Message type, number of entries, and the entries; one with over 85 entries is like none.
+fn same_message(a: Draft, s: &[u8], b: Draft, t: &[u8]) -> bool
+    ensures { λ r. ⌜ r ≡ sameMessage a (now (s .entry)) b (now (t .entry)) ⌝ }
 {
     if a.kind == b.kind {
         if a.count == b.count {
@@ -280,6 +283,22 @@ pub fn same(a: Draft, s: &[u8], b: Draft, t: &[u8]) -> bool
             } else {
                 false
             }
+        } else {
+            false
+        }
+    } else {
+        false
+    }
+}
+
+// Are two drafts, each with its text area, equal? Those of two editions never are; one of an unknown edition, with over
+// 85 entries or with a text outside its area is equal to none.
+pub fn same(a: Draft, s: &[u8], b: Draft, t: &[u8]) -> bool
+    ensures { λ r. ⌜ r ≡ sameDraft a (now (s .entry)) b (now (t .entry)) ⌝ }
+{
+    if rules::is_edition(a.edition) {
+        if a.edition == b.edition {
+            same_message(a, s, b, t)
         } else {
             false
         }

@@ -2,17 +2,20 @@
 -- r decodes.
 -- Assumes nothing.
 use mathlib.Core.Path.{_≡_, refl, sym, _∙_, ap, subst}
-use mathlib.Core.Bool.{Bool}
+use mathlib.Core.Bool.{Bool, false}
+use mathlib.Core.Logic.{_⊎_, inl, inr}
 use mathlib.Core.List.{List, [], _∷_}
 use Prim.Native.Nat.{ℕ, _+_, _*_, _/_, _%_, _≤_}
 use native.Mathlib.Omega.{arith}
+use lib.Dec.{T}
 use lib.ListN.{length, getD}
-use Rattle.rules.specs.Tests.{_≤?_, _=?_, pick}
-use Rattle.rules.proofs.Tests.{clash, picked-by, pick-yes, of-eq, eq-of, of-le, le-of}
+use Rattle.rules.specs.Tests.{_≤?_, _=?_, _and_, pick}
+use Rattle.rules.proofs.Tests.{clash, picked-by, pick-yes, both, either, of-eq, eq-of, of-le, le-of}
 use Rattle.rules.specs.Octets.{Octets}
-use Rattle.rules.specs.Codes.{lastPresent, classCode, classCoded}
+use Rattle.rules.specs.Codes.{classCode, classCoded, oldCodes, codeIn}
+use Rattle.rules.specs.Editions.{lenient}
+use Rattle.rules.specs.Contents.{within, inSet}
 use Rattle.rules.proofs.Codes.{coded-code, code-coded}
-use Rattle.rules.specs.declared.Book.the-variants.{PresentLenient}
 use Rattle.rules.specs.declared.Class.{Class}
 use Rattle.rules.specs.declared.Stage.the-variants.{Kind, Size, Header, Length, Content}
 use Rattle.rules.specs.declared.State.{State}
@@ -33,27 +36,26 @@ unfolding decodeOf
 known-size c l e = picked-by (length c ≡ listenerSize) _ _ _ _ e (λ t _. eq-of _ _ t) (λ _ e. absurd (unknown-not l e))
 
 -- ---- decode (encode l) is l
-state-fields : (s : State) → Coded s → stateOf (fieldsFor s) ≡ Known (record { book = PresentLenient; state = s })
-unfolding stateOf fieldsFor fieldsAt fieldsWaiting fieldsEnded openingOf parameterState endedOf pick _≤?_ _=?_ known
-state-fields (Waiting Kind q) h = refl
-state-fields (Waiting Size q) h = refl
-state-fields (Waiting (Header r) q) h = refl
-state-fields (Waiting (Length c r) q) h =
-    pick-yes (classCode c ≤? lastPresent)
-    (Known (record { book = PresentLenient; state = Waiting (Length (classCoded (classCode c)) r) q })) Unknown
-    (of-le _ _ h) ∙ ap (λ (d : Class). Known (record { book = PresentLenient; state = Waiting (Length d r) q }))
-    (coded-code c)
-state-fields (Waiting (Content c n i m r) q) h =
-    pick-yes (classCode c ≤? lastPresent)
-    (Known (record { book = PresentLenient; state = Waiting (Content (classCoded (classCode c)) n i m r) q }))
-    Unknown (of-le _ _ h)
-    ∙ ap (λ (d : Class). Known (record { book = PresentLenient; state = Waiting (Content d n i m r) q })) (coded-code c)
-state-fields (Message n) h = refl
-state-fields (Refused f) h = refl
+abbrev made : ℕ → State → Listener
+made e s = record { edition = e; way = lenient; state = s }
 
-fields-laid : (f : Fields) → f .spare ≡ 0 → fieldsOf (laidFields f) ≡ f
+state-fields : (e : ℕ) (s : State) → Coded e s → stateOf e (fieldsFor s) ≡ Known (made e s)
+unfolding stateOf fieldsFor fieldsAt fieldsWaiting fieldsEnded openingOf parameterState endedOf pick _≤?_ _=?_ known
+state-fields e (Waiting Kind q) h = refl
+state-fields e (Waiting Size q) h = refl
+state-fields e (Waiting (Header r) q) h = refl
+state-fields e (Waiting (Length c r) q) h =
+    pick-yes (codeIn e (classCode c)) (Known (made e (Waiting (Length (classCoded (classCode c)) r) q))) Unknown h
+    ∙ ap (λ (d : Class). Known (made e (Waiting (Length d r) q))) (coded-code c)
+state-fields e (Waiting (Content c n i m r) q) h =
+    pick-yes (codeIn e (classCode c)) (Known (made e (Waiting (Content (classCoded (classCode c)) n i m r) q))) Unknown
+    h ∙ ap (λ (d : Class). Known (made e (Waiting (Content d n i m r) q))) (coded-code c)
+state-fields e (Message n) h = refl
+state-fields e (Refused f) h = refl
+
+fields-laid : (e : ℕ) (f : Fields) → f .spare ≡ 0 → fieldsOf (laidFields e f) ≡ f
 unfolding fieldsOf laidFields
-fields-laid f e =
+fields-laid e f z =
     let p : f .place % 256 + 256 * (f .place / 256) ≡ f .place = omega arith in
     λ i. record {
       stage = f .stage;
@@ -66,7 +68,7 @@ fields-laid f e =
       room = f .room;
       number = f .number;
       parameter = f .parameter;
-      spare = sym e i;
+      spare = sym z i;
     }
 
 no-spare : (s : State) → fieldsFor s .spare ≡ 0
@@ -79,66 +81,101 @@ no-spare (Waiting (Content c n i m r) q) = refl
 no-spare (Message n) = refl
 no-spare (Refused f) = refl
 
-laid-size : (f : Fields) → length (laidFields f) ≡ listenerSize
+laid-size : (e : ℕ) (f : Fields) → length (laidFields e f) ≡ listenerSize
 unfolding laidFields
-laid-size f = refl
+laid-size e f = refl
 
-laid-kept : (f : Fields) → getD (laidFields f) 11 0 ≡ 0
+laid-edition : (e : ℕ) (f : Fields) → getD (laidFields e f) 11 0 ≡ e
 unfolding laidFields
-laid-kept f = refl
+laid-edition e f = refl
 
-pub decode-encode : (l : Listener) → l .book ≡ PresentLenient → Coded (l .state) → decodeOf (recordOf l) ≡ Known l
+-- the edition of a listener stands in octet 11 of its record
+pub record-edition : (l : Listener) → getD (recordOf l) 11 0 ≡ l .edition
+unfolding recordOf
+record-edition l = laid-edition (l .edition) (fieldsFor (l .state))
+
+-- of a listener whose types without a row are carried, in a class of its edition's table
+pub decode-encode : (l : Listener) → l .way ≡ lenient → Coded (l .edition) (l .state) → decodeOf (recordOf l) ≡ Known l
 unfolding decodeOf recordOf
 decode-encode l b h =
-    pick-yes _ _ _ (of-eq _ _ (laid-size (fieldsFor (l .state))))
-    ∙ pick-yes _ _ _ (of-eq _ _ (laid-kept (fieldsFor (l .state))))
-    ∙ ap stateOf (fields-laid (fieldsFor (l .state)) (no-spare (l .state)))
-    ∙ state-fields (l .state) h
-    ∙ (λ i. Known (record { book = sym b i; state = l .state }))
+    pick-yes _ _ _ (of-eq _ _ (laid-size (l .edition) (fieldsFor (l .state))))
+    ∙ ap (λ (f : Fields). stateOf (getD (laidFields (l .edition) (fieldsFor (l .state))) 11 0) f)
+    (fields-laid (l .edition) (fieldsFor (l .state)) (no-spare (l .state)))
+    ∙ ap (λ (e : ℕ). stateOf e (fieldsFor (l .state))) (laid-edition (l .edition) (fieldsFor (l .state)))
+    ∙ state-fields (l .edition) (l .state) h
+    ∙ (λ i. Known (record { edition = l .edition; way = sym b i; state = l .state }))
 
--- ---- what a record decodes to is of the present edition
-abbrev pub Good : Listener → Type 0
-Good l = (l .book ≡ PresentLenient) × Coded (l .state)
+-- ---- what a record decodes to is of the edition in its octet 11, and carries
+pub record Good (e : ℕ) (l : Listener) : Type 0 where
+  pub edition : l .edition ≡ e
+  pub way : l .way ≡ lenient
+  pub coded : Coded e (l .state)
 
-known-good : (ok : Bool) (s : State) (l : Listener) → Coded s → known ok s ≡ Known l → Good l
+known-good : (e : ℕ) (ok : Bool) (s : State) (l : Listener) → Coded e s → known e ok s ≡ Known l → Good e l
 unfolding known
-known-good ok s l h e =
-    picked-by (Good l) _ _ _ _ e
-    (λ _ d. let z : _≡_ {A = Listener} (record { book = PresentLenient; state = s }) l = cc in subst Good z (refl, h))
+known-good e ok s l h z =
+    picked-by (Good e l) _ _ _ _ z
+    (λ _ d. let y : made e s ≡ l = cc in
+    subst (Good e) y (record { edition = refl; way = refl; coded = h }))
     (λ _ d. absurd (unknown-not l d))
 
-state-good : (f : Fields) (l : Listener) → stateOf f ≡ Known l → Good l
-unfolding stateOf openingOf parameterState endedOf
-state-good f l e =
-    picked-by (Good l) _ _ _ _ e
-    (λ _ e. picked-by (Good l) _ _ _ _ e (λ _ e. known-good _ _ l tt e)
-    (λ _ e. picked-by (Good l) _ _ _ _ e (λ _ e. known-good _ _ l tt e) (λ _ e. known-good _ _ l tt e)))
-    (λ _ e.
-    picked-by (Good l) _ _ _ _ e
-    (λ _ e.
-    picked-by (Good l) _ _ _ _ e
-    (λ t e.
-    let h : classCode (classCoded (f .class)) ≤ lastPresent = let k =
-    le-of _ _ t in omega (arith, code-coded (f .class) (omega arith)) in
-    picked-by (Good l) _ _ _ _ e (λ _ e. known-good _ _ l h e) (λ _ e. known-good _ _ l h e))
-    (λ _ e. absurd (unknown-not l e)))
-    (λ _ e. picked-by (Good l) _ _ _ _ e (λ _ e. known-good _ _ l tt e)
-    (λ _ e. picked-by (Good l) _ _ _ _ e (λ _ e. known-good _ _ l tt e) (λ _ e. absurd (unknown-not l e)))))
+set-small : (k : ℕ) → T (inSet oldCodes k) → k ≤ 14
+unfolding inSet within
+set-small k t = go (either _ _ t)
+  where
+    last : T (11 ≤? k and k ≤? 14) ⊎ T false → k ≤ 14
+    last (inl u) = le-of _ _ (both _ _ u .1)
+    last (inr u) = absurd u
 
-pub decoded-good : (c : List ℕ) (l : Listener) → decodeOf c ≡ Known l → Good l
+    third : T (5 ≤? k and k ≤? 5) ⊎ T (inSet ((11, 14) ∷ []) k) → k ≤ 14
+    third (inl u) = let h = le-of _ _ (both _ _ u .1) in omega arith
+    third (inr u) = last (either _ _ u)
+
+    second : T (3 ≤? k and k ≤? 3) ⊎ T (inSet ((5, 5) ∷ (11, 14) ∷ []) k) → k ≤ 14
+    second (inl u) = let h = le-of _ _ (both _ _ u .1) in omega arith
+    second (inr u) = third (either _ _ u)
+
+    go : T (0 ≤? k and k ≤? 1) ⊎ T (inSet ((3, 3) ∷ (5, 5) ∷ (11, 14) ∷ []) k) → k ≤ 14
+    go (inl u) = let h = le-of _ _ (both _ _ u .1) in omega arith
+    go (inr u) = second (either _ _ u)
+
+pub code-small : (e k : ℕ) → T (codeIn e k) → k ≤ 14
+unfolding codeIn
+code-small e k t =
+    picked-by (k ≤ 14) (e =? 0) _ _ (codeIn e k) refl (λ _ z. let h = le-of _ _ (subst T (sym z) t) in omega arith)
+    (λ _ z. picked-by (k ≤ 14) (e =? 1) _ _ (codeIn e k) z
+    (λ _ y. set-small k (subst T (sym y) t)) (λ _ y. le-of _ _ (subst T (sym y) t)))
+
+state-good : (e : ℕ) (f : Fields) (l : Listener) → stateOf e f ≡ Known l → Good e l
+unfolding stateOf openingOf parameterState endedOf
+state-good v f l e =
+    picked-by (Good v l) _ _ _ _ e
+    (λ _ e. picked-by (Good v l) _ _ _ _ e (λ _ e. known-good v _ _ l tt e)
+    (λ _ e. picked-by (Good v l) _ _ _ _ e (λ _ e. known-good v _ _ l tt e) (λ _ e. known-good v _ _ l tt e)))
+    (λ _ e.
+    picked-by (Good v l) _ _ _ _ e
+    (λ _ e.
+    picked-by (Good v l) _ _ _ _ e
+    (λ t e.
+    let h : T (codeIn v (classCode (classCoded (f .class)))) =
+    subst (λ (k : ℕ). T (codeIn v k)) (sym (code-coded (f .class) (let k = code-small v _ t in omega arith))) t in
+    picked-by (Good v l) _ _ _ _ e (λ _ e. known-good v _ _ l h e) (λ _ e. known-good v _ _ l h e))
+    (λ _ e. absurd (unknown-not l e)))
+    (λ _ e. picked-by (Good v l) _ _ _ _ e (λ _ e. known-good v _ _ l tt e)
+    (λ _ e. picked-by (Good v l) _ _ _ _ e (λ _ e. known-good v _ _ l tt e) (λ _ e. absurd (unknown-not l e)))))
+
+pub decoded-good : (c : List ℕ) (l : Listener) → decodeOf c ≡ Known l → Good (getD c 11 0) l
 unfolding decodeOf
 decoded-good c l e =
-    picked-by (Good l) _ _ _ _ e
-    (λ _ e. picked-by (Good l) _ _ _ _ e (λ _ e. state-good (fieldsOf c) l e) (λ _ e. absurd (unknown-not l e)))
+    picked-by (Good (getD c 11 0) l) _ _ _ _ e (λ _ e. state-good (getD c 11 0) (fieldsOf c) l e)
     (λ _ e. absurd (unknown-not l e))
 
 -- ---- encode (decode c) is c, where c decodes
-known-is : (n : ℕ) (s : State) (l : Listener) → known (n =? 0) s ≡ Known l → (n ≡ 0) × (l .state ≡ s)
+known-is : (e n : ℕ) (s : State) (l : Listener) → known e (n =? 0) s ≡ Known l → (n ≡ 0) × (l .state ≡ s)
 unfolding known
-known-is n s l e =
-    picked-by _ _ _ _ _ e
-    (λ t d. let k : _≡_ {A = Listener} (record { book = PresentLenient; state = s }) l = cc in
-    (eq-of _ _ t, sym (ap (λ (x : Listener). x .state) k)))
+known-is e n s l z =
+    picked-by _ _ _ _ _ z
+    (λ t d. let k : made e s ≡ l = cc in (eq-of _ _ t, sym (ap (λ (x : Listener). x .state) k)))
     (λ _ d. absurd (unknown-not l d))
 
 third : (n : ℕ) → n ≤ 2 → (n ≡ 0 → ⊥) → (n ≡ 1 → ⊥) → n ≡ 2
@@ -166,64 +203,64 @@ same-fields f g a b c d e h m r n p s =
     }
 
 -- what nothing uses is 0, and is read back as 0
-module _ (f : Fields) (l : Listener) where
+module _ (v : ℕ) (f : Fields) (l : Listener) where
   abbrev Back : Type 0
   Back = fieldsFor (l .state) ≡ f
 
   opening-back : f .stage ≤ 2 →
-      openingOf (f .stage) (spotOf f) (f .room) (f .class + f .length + f .index + f .memory + f .number + f .spare) ≡
+      openingOf v (f .stage) (spotOf f) (f .room) (f .class + f .length + f .index + f .memory + f .number + f .spare) ≡
       Known l → Back
   unfolding openingOf fieldsFor fieldsAt fieldsWaiting
   opening-back h e =
       picked-by Back _ _ _ _ e
-      (λ t e. let k = eq-of _ _ t in let n = known-is _ _ l e in
+      (λ t e. let k = eq-of _ _ t in let n = known-is v _ _ l e in
       rw (n .1) (same-fields _ f (omega arith) refl refl (omega arith) (omega arith) (omega arith) (omega arith)
       (omega arith) (omega arith) refl (omega arith)))
       (λ a e.
       picked-by Back _ _ _ _ e
-      (λ t e. let k = eq-of _ _ t in let n = known-is _ _ l e in
+      (λ t e. let k = eq-of _ _ t in let n = known-is v _ _ l e in
       rw (n .1) (same-fields _ f (omega arith) refl refl (omega arith) (omega arith) (omega arith) (omega arith)
       (omega arith) (omega arith) refl (omega arith)))
       (λ b e.
       let s : f .stage ≡ 2 = third (f .stage) h (λ k. a (of-eq _ _ k)) (λ k. b (of-eq _ _ k)) in
-      let n = known-is _ _ l e in
+      let n = known-is v _ _ l e in
       rw (n .1) (same-fields _ f (omega arith) refl refl (omega arith) (omega arith) (omega arith) (omega arith)
       refl (omega arith) refl (omega arith))))
 
   parameter-back : f .stage ≤ 4 → (f .stage ≤ 2 → ⊥) →
-      parameterState (f .stage) (spotOf f) (f .class) (f .length) (f .index) (f .memory) (f .room)
+      parameterState v (f .stage) (spotOf f) (f .class) (f .length) (f .index) (f .memory) (f .room)
       (f .number + f .spare) ≡ Known l → Back
   unfolding parameterState fieldsFor fieldsAt fieldsWaiting
   parameter-back h g e =
       picked-by Back _ _ _ _ e
       (λ t e.
-      let c = code-coded (f .class) (let k = le-of _ _ t in omega arith) in
+      let c = code-coded (f .class) (let k = code-small v _ t in omega arith) in
       picked-by Back _ _ _ _ e
-      (λ t e. let k = eq-of _ _ t in let n = known-is _ _ l e in
+      (λ t e. let k = eq-of _ _ t in let n = known-is v _ _ l e in
       rw (n .1) (same-fields _ f (omega arith) refl refl c (omega arith) (omega arith) (omega arith) refl
       (omega arith) refl (omega arith)))
       (λ b e.
       let s : f .stage ≡ 4 = fifth (f .stage) h g (λ k. b (of-eq _ _ k)) in
-      let n = known-is _ _ l e in
+      let n = known-is v _ _ l e in
       rw (n .1) (same-fields _ f (omega arith) refl refl c refl refl refl refl (omega arith) refl (omega arith))))
       (λ _ e. absurd (unknown-not l e))
 
-  ended-back : endedOf (f .stage) (f .place) (f .number) (f .parameter)
+  ended-back : endedOf v (f .stage) (f .place) (f .number) (f .parameter)
       (f .class + f .length + f .index + f .memory + f .sum + f .room + f .spare) ≡ Known l → Back
   unfolding endedOf fieldsFor fieldsEnded
   ended-back e =
       picked-by Back _ _ _ _ e
-      (λ t e. let k = eq-of _ _ t in let n = known-is _ _ l e in
+      (λ t e. let k = eq-of _ _ t in let n = known-is v _ _ l e in
       rw (n .1) (same-fields _ f (omega arith) (omega arith) refl (omega arith) (omega arith) (omega arith)
       (omega arith) (omega arith) (omega arith) (omega arith) (omega arith)))
       (λ _ e.
       picked-by Back _ _ _ _ e
-      (λ t e. let k = eq-of _ _ t in let n = known-is _ _ l e in
+      (λ t e. let k = eq-of _ _ t in let n = known-is v _ _ l e in
       rw (n .1) (same-fields _ f (omega arith) (omega arith) refl (omega arith) (omega arith) (omega arith)
       (omega arith) (omega arith) refl refl (omega arith)))
       (λ _ e. absurd (unknown-not l e)))
 
-  fields-state : stateOf f ≡ Known l → Back
+  fields-state : stateOf v f ≡ Known l → Back
   unfolding stateOf
   fields-state e =
       picked-by Back _ _ _ _ e
@@ -231,47 +268,44 @@ module _ (f : Fields) (l : Listener) where
       (λ g e. picked-by Back _ _ _ _ e (λ t. parameter-back (le-of _ _ t) (λ k. g (of-le _ _ k))) (λ _. ended-back))
 
 -- the 16 octets of a record are its fields
-laid-fields : (c : List ℕ) → length c ≡ listenerSize → Octets c → fieldsOf c .spare ≡ 0 → getD c 11 0 ≡ 0 →
-    laidFields (fieldsOf c) ≡ c
+laid-fields : (c : List ℕ) → length c ≡ listenerSize → Octets c → fieldsOf c .spare ≡ 0 →
+    laidFields (getD c 11 0) (fieldsOf c) ≡ c
 unfolding laidFields fieldsOf
-laid-fields [] n o e k = absurd (omega arith)
-laid-fields (a0 ∷ []) n o e k = absurd (omega arith)
-laid-fields (a0 ∷ a1 ∷ []) n o e k = absurd (omega arith)
-laid-fields (a0 ∷ a1 ∷ a2 ∷ []) n o e k = absurd (omega arith)
-laid-fields (a0 ∷ a1 ∷ a2 ∷ a3 ∷ []) n o e k = absurd (omega arith)
-laid-fields (a0 ∷ a1 ∷ a2 ∷ a3 ∷ a4 ∷ []) n o e k = absurd (omega arith)
-laid-fields (a0 ∷ a1 ∷ a2 ∷ a3 ∷ a4 ∷ a5 ∷ []) n o e k = absurd (omega arith)
-laid-fields (a0 ∷ a1 ∷ a2 ∷ a3 ∷ a4 ∷ a5 ∷ a6 ∷ []) n o e k = absurd (omega arith)
-laid-fields (a0 ∷ a1 ∷ a2 ∷ a3 ∷ a4 ∷ a5 ∷ a6 ∷ a7 ∷ []) n o e k = absurd (omega arith)
-laid-fields (a0 ∷ a1 ∷ a2 ∷ a3 ∷ a4 ∷ a5 ∷ a6 ∷ a7 ∷ a8 ∷ []) n o e k = absurd (omega arith)
-laid-fields (a0 ∷ a1 ∷ a2 ∷ a3 ∷ a4 ∷ a5 ∷ a6 ∷ a7 ∷ a8 ∷ a9 ∷ []) n o e k = absurd (omega arith)
-laid-fields (a0 ∷ a1 ∷ a2 ∷ a3 ∷ a4 ∷ a5 ∷ a6 ∷ a7 ∷ a8 ∷ a9 ∷ a10 ∷ []) n o e k = absurd (omega arith)
-laid-fields (a0 ∷ a1 ∷ a2 ∷ a3 ∷ a4 ∷ a5 ∷ a6 ∷ a7 ∷ a8 ∷ a9 ∷ a10 ∷ a11 ∷ []) n o e k = absurd (omega arith)
-laid-fields (a0 ∷ a1 ∷ a2 ∷ a3 ∷ a4 ∷ a5 ∷ a6 ∷ a7 ∷ a8 ∷ a9 ∷ a10 ∷ a11 ∷ a12 ∷ []) n o e k = absurd (omega arith)
-laid-fields (a0 ∷ a1 ∷ a2 ∷ a3 ∷ a4 ∷ a5 ∷ a6 ∷ a7 ∷ a8 ∷ a9 ∷ a10 ∷ a11 ∷ a12 ∷ a13 ∷ []) n o e k = absurd (omega arith)
-laid-fields (a0 ∷ a1 ∷ a2 ∷ a3 ∷ a4 ∷ a5 ∷ a6 ∷ a7 ∷ a8 ∷ a9 ∷ a10 ∷ a11 ∷ a12 ∷ a13 ∷ a14 ∷ []) n o e k =
+laid-fields [] n o e = absurd (omega arith)
+laid-fields (a0 ∷ []) n o e = absurd (omega arith)
+laid-fields (a0 ∷ a1 ∷ []) n o e = absurd (omega arith)
+laid-fields (a0 ∷ a1 ∷ a2 ∷ []) n o e = absurd (omega arith)
+laid-fields (a0 ∷ a1 ∷ a2 ∷ a3 ∷ []) n o e = absurd (omega arith)
+laid-fields (a0 ∷ a1 ∷ a2 ∷ a3 ∷ a4 ∷ []) n o e = absurd (omega arith)
+laid-fields (a0 ∷ a1 ∷ a2 ∷ a3 ∷ a4 ∷ a5 ∷ []) n o e = absurd (omega arith)
+laid-fields (a0 ∷ a1 ∷ a2 ∷ a3 ∷ a4 ∷ a5 ∷ a6 ∷ []) n o e = absurd (omega arith)
+laid-fields (a0 ∷ a1 ∷ a2 ∷ a3 ∷ a4 ∷ a5 ∷ a6 ∷ a7 ∷ []) n o e = absurd (omega arith)
+laid-fields (a0 ∷ a1 ∷ a2 ∷ a3 ∷ a4 ∷ a5 ∷ a6 ∷ a7 ∷ a8 ∷ []) n o e = absurd (omega arith)
+laid-fields (a0 ∷ a1 ∷ a2 ∷ a3 ∷ a4 ∷ a5 ∷ a6 ∷ a7 ∷ a8 ∷ a9 ∷ []) n o e = absurd (omega arith)
+laid-fields (a0 ∷ a1 ∷ a2 ∷ a3 ∷ a4 ∷ a5 ∷ a6 ∷ a7 ∷ a8 ∷ a9 ∷ a10 ∷ []) n o e = absurd (omega arith)
+laid-fields (a0 ∷ a1 ∷ a2 ∷ a3 ∷ a4 ∷ a5 ∷ a6 ∷ a7 ∷ a8 ∷ a9 ∷ a10 ∷ a11 ∷ []) n o e = absurd (omega arith)
+laid-fields (a0 ∷ a1 ∷ a2 ∷ a3 ∷ a4 ∷ a5 ∷ a6 ∷ a7 ∷ a8 ∷ a9 ∷ a10 ∷ a11 ∷ a12 ∷ []) n o e = absurd (omega arith)
+laid-fields (a0 ∷ a1 ∷ a2 ∷ a3 ∷ a4 ∷ a5 ∷ a6 ∷ a7 ∷ a8 ∷ a9 ∷ a10 ∷ a11 ∷ a12 ∷ a13 ∷ []) n o e = absurd (omega arith)
+laid-fields (a0 ∷ a1 ∷ a2 ∷ a3 ∷ a4 ∷ a5 ∷ a6 ∷ a7 ∷ a8 ∷ a9 ∷ a10 ∷ a11 ∷ a12 ∷ a13 ∷ a14 ∷ []) n o e =
     absurd (omega arith)
-laid-fields (a0 ∷ a1 ∷ a2 ∷ a3 ∷ a4 ∷ a5 ∷ a6 ∷ a7 ∷ a8 ∷ a9 ∷ a10 ∷ a11 ∷ a12 ∷ a13 ∷ a14 ∷ a15 ∷ a16 ∷ c) n o e k =
+laid-fields (a0 ∷ a1 ∷ a2 ∷ a3 ∷ a4 ∷ a5 ∷ a6 ∷ a7 ∷ a8 ∷ a9 ∷ a10 ∷ a11 ∷ a12 ∷ a13 ∷ a14 ∷ a15 ∷ a16 ∷ c) n o e =
     absurd (omega arith)
-laid-fields (a0 ∷ a1 ∷ a2 ∷ a3 ∷ a4 ∷ a5 ∷ a6 ∷ a7 ∷ a8 ∷ a9 ∷ a10 ∷ a11 ∷ a12 ∷ a13 ∷ a14 ∷ a15 ∷ []) n o e k =
+laid-fields (a0 ∷ a1 ∷ a2 ∷ a3 ∷ a4 ∷ a5 ∷ a6 ∷ a7 ∷ a8 ∷ a9 ∷ a10 ∷ a11 ∷ a12 ∷ a13 ∷ a14 ∷ a15 ∷ []) n o e =
     let p : (a2 + 256 * a3) % 256 ≡ a2 = omega (arith, o .1 .1 .0) in
     let q : (a2 + 256 * a3) / 256 ≡ a3 = omega (arith, o .1 .1 .0) in
-    let z11 : 0 ≡ a11 = omega arith in
     let z12 : 0 ≡ a12 = omega arith in
     let z13 : 0 ≡ a13 = omega arith in
     let z14 : 0 ≡ a14 = omega arith in
     let z15 : 0 ≡ a15 = omega arith in
-    λ i. a0 ∷ a1 ∷ p i ∷ q i ∷ a4 ∷ a5 ∷ a6 ∷ a7 ∷ a8 ∷ a9 ∷ a10 ∷ z11 i ∷ z12 i ∷ z13 i ∷ z14 i ∷ z15 i ∷ []
+    λ i. a0 ∷ a1 ∷ p i ∷ q i ∷ a4 ∷ a5 ∷ a6 ∷ a7 ∷ a8 ∷ a9 ∷ a10 ∷ a11 ∷ z12 i ∷ z13 i ∷ z14 i ∷ z15 i ∷ []
 
 pub encode-decode : (c : List ℕ) (l : Listener) → Octets c → decodeOf c ≡ Known l → recordOf l ≡ c
 unfolding recordOf decodeOf
 encode-decode c l o e =
-    picked-by (laidFields (fieldsFor (l .state)) ≡ c) _ _ _ _ e
+    picked-by (laidFields (l .edition) (fieldsFor (l .state)) ≡ c) _ _ _ _ e
     (λ t e.
-    picked-by (laidFields (fieldsFor (l .state)) ≡ c) _ _ _ _ e
-    (λ k e.
-    let f = fields-state (fieldsOf c) l e in
-    ap laidFields f
-    ∙ laid-fields c (eq-of _ _ t) o (sym (ap (λ (g : Fields). g .spare) f) ∙ no-spare (l .state)) (eq-of _ _ k))
-    (λ _ e. absurd (unknown-not l e)))
+    let f = fields-state (getD c 11 0) (fieldsOf c) l e in
+    let g = state-good (getD c 11 0) (fieldsOf c) l e .edition in
+    (λ i. laidFields (g i) (f i))
+    ∙ laid-fields c (eq-of _ _ t) o (sym (ap (λ (g : Fields). g .spare) f) ∙ no-spare (l .state)))
     (λ _ e. absurd (unknown-not l e))

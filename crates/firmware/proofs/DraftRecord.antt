@@ -14,7 +14,6 @@ use Rattle.rules.specs.Message.{Message, most}
 use Rattle.rules.specs.Tests.{_=?_, pick, every}
 use Rattle.rules.proofs.Tests.{le-of, both}
 use Rattle.rules.specs.Table.{Rules, rulesOf}
-use Rattle.rules.specs.declared.Book.the-variants.{PresentLenient}
 use Rattle.draft.specs.declared.Value.{Value}
 use Rattle.draft.specs.declared.Value.the-variants.{Date, Code, State, Text, Carried}
 use Rattle.draft.specs.declared.Entry.{Entry}
@@ -96,10 +95,7 @@ cells-length [] = refl
 cells-length (e ∷ es) = omega (arith, length-append (entryCells e) (entriesCells es), entry-length e, cells-length es)
 
 -- ---- the loop over the entries and their texts
-abbrev R : Rules
-R = rulesOf PresentLenient
-
-module _ (o old : List ℕ) where
+module _ (R : Rules) (o old : List ℕ) where
   pub record Recorded (count at used : ℕ) (cells texts : List ℕ) : Type 0 where
     pub entries : List Entry
     pub filled : TakenEntries R o count at used entries
@@ -154,7 +150,7 @@ module _ (o old : List ℕ) where
           × (texts ≡ laid (textsOf R (parametersIn o)) old)))
       recorded-end e =
           let z = filled-end R o count at used (w .entries) (w .filled)
-          (record { kind = getD o 0 0; count = count; entries = w .entries }) refl refl refl e in (
+          (record { kind = getD o 0 0; edition = R .edition; count = count; entries = w .entries }) refl refl refl refl e in (
             ap (λ (d : Draft). d .count) z,
             (
               sized-end R o count at used (w .laid-down .sized) e,
@@ -166,20 +162,25 @@ module _ (o old : List ℕ) where
           )
 
 -- the header over eight octets of 0
-pub headed : (d : Draft) (cells : List ℕ) (kind count : ℕ) → kind ≡ d .kind → count ≡ d .count →
-    cells ≡ zeros ++ entriesCells (d .entries) → set (set cells 0 kind) 1 count ≡ draftRecord d
+pub headed : (d : Draft) (cells : List ℕ) (kind count edition : ℕ) → kind ≡ d .kind → count ≡ d .count →
+    edition ≡ d .edition → cells ≡ zeros ++ entriesCells (d .entries) →
+    set (set (set cells 0 kind) 1 count) 2 edition ≡ draftRecord d
 unfolding draftRecord
-headed d cells kind count k n e =
-    ap (λ (l : List ℕ). set (set l 0 kind) 1 count) e
-    ∙ (λ i. k i ∷ n i ∷ 0 ∷ 0 ∷ 0 ∷ 0 ∷ 0 ∷ 0 ∷ entriesCells (d .entries))
+headed d cells kind count edition k n v e =
+    ap (λ (l : List ℕ). set (set (set l 0 kind) 1 count) 2 edition) e
+    ∙ (λ i. k i ∷ n i ∷ v i ∷ 0 ∷ 0 ∷ 0 ∷ 0 ∷ 0 ∷ entriesCells (d .entries))
 
-pub draft-kind : (o : List ℕ) → getD o 0 0 ≡ draftOf (rulesOf PresentLenient) (messageIn o) .kind
+pub draft-kind : (R : Rules) (o : List ℕ) → getD o 0 0 ≡ draftOf R (messageIn o) .kind
 unfolding draftOf messageIn
-draft-kind o = refl
+draft-kind R o = refl
 
-pub count-small : (o : List ℕ) → draftOf (rulesOf PresentLenient) (messageIn o) .count ≤ most
+pub draft-edition : (R : Rules) (o : List ℕ) → R .edition ≡ draftOf R (messageIn o) .edition
+unfolding draftOf
+draft-edition R o = refl
+
+pub count-small : (R : Rules) (o : List ℕ) → draftOf R (messageIn o) .count ≤ most
 unfolding draftOf messageIn parametersIn
-count-small o = parameters-few most o 2
+count-small R o = parameters-few most o 2
 
 -- ---- octets cleared one after the other
 pub record Cleared (old : List ℕ) (i : ℕ) (cells : List ℕ) : Type 0 where
@@ -254,7 +255,7 @@ unfolding draftRecord
 cell-is d i k h =
     let z : 8 + 8 * i + k ≡ 8 + (8 * i + k) = omega arith in
     ap (λ (n : ℕ). getD (draftRecord d) n 0) z
-    ∙ getD-append-add (d .kind ∷ d .count ∷ replicate 6 0) (entriesCells (d .entries)) (8 * i + k) 0
+    ∙ getD-append-add (d .kind ∷ d .count ∷ d .edition ∷ replicate 5 0) (entriesCells (d .entries)) (8 * i + k) 0
     ∙ cells-at (d .entries) i k h
 
 -- what stands at entry i is the draft's entry i

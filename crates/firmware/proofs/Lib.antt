@@ -14,3 +14,5 @@ pub mod DraftRecord
 pub mod PartRecord
 pub mod RecordParts
 pub mod Coding
+pub mod OtherEdition
+pub mod RecordCodes

@@ -18,9 +18,9 @@ use Rattle.firmware.specs.Word.{packed}
 use Rattle.firmware.specs.Exports.{badRecord, wordOf, heardWordOf, answered, recorded, listenAnswer, listenRecord}
 
 -- `known` of a test on two numbers
-pub known-eq : (r : Decoded) (a b : ℕ) (s : State) → r ≡ known (eqb a b) s → r ≡ known (a =? b) s
+pub known-eq : (v : ℕ) (r : Decoded) (a b : ℕ) (s : State) → r ≡ known v (eqb a b) s → r ≡ known v (a =? b) s
 unfolding _=?_
-known-eq r a b s e = e
+known-eq v r a b s e = e
 
 -- ---- a call of the listener
 module _ (c o : List ℕ) (got : Decoded) (p : got ≡ decodeOf c) where
@@ -36,7 +36,7 @@ module _ (c o : List ℕ) (got : Decoded) (p : got ≡ decodeOf c) where
   unknown-answers r q g = let e : decodeOf c ≡ Unknown = sym p ∙ q in (rw e g, rw e)
 
 pub heard-word : (l : Listener) (o : List ℕ) (h : Heard) (w : ℕ) → h ≡ heardOf l o →
-    w ≡ packed (told (h .answer) .number) (told (h .answer) .place) (told (h .answer) .parameter)
+    w ≡ packed (h .edition) (told (h .answer) .number) (told (h .answer) .place) (told (h .answer) .parameter)
     (told (h .answer) .size) (h .taken) →
     _≡_ {A = HeardWord} (record { listener = h .listener; word = w }) (heardWordOf l o)
 unfolding heardWordOf wordOf

@@ -11,7 +11,7 @@ use lib.Dec.{T}
 use Rattle.rules.specs.Tests.{_=?_}
 use Rattle.rules.proofs.Tests.{decide, eq-of, of-eq}
 use Rattle.rules.specs.Table.{rulesOf}
-use Rattle.rules.specs.declared.Book.the-variants.{PresentLenient}
+use Rattle.rules.specs.Editions.{lenient, bookOf}
 use Rattle.rules.specs.Message.{Accepts}
 use Rattle.rules.specs.Counting.{counted}
 use Rattle.rules.proofs.Counting.{counted-iff}
@@ -25,13 +25,13 @@ use Rattle.reader.specs.declared.Reading.{Reading}
 use Rattle.reader.specs.Told as reader
 use Rattle.reader.proofs.One.{reads-one}
 use Rattle.desk.specs.declared.Desk.{Desk}
-use Rattle.desk.specs.declared.Outcome.{Outcome}
+use Rattle.desk.specs.declared.Settling.{Settling}
 use Rattle.desk.specs.Told as desk
-use Rattle.desk.proofs.One.{settles-one}
-use Rattle.caption.specs.declared.Shown.{Shown}
+use Rattle.desk.proofs.One.{settles-by-one}
+use Rattle.caption.specs.declared.Finding.{Finding}
 use Rattle.caption.specs.Told as caption
-use Rattle.caption.proofs.One.{finds-one}
-use Rattle.firmware.specs.Word.{packed, wordNumber, wordPlace, wordParameter, wordSize, wordTaken, Unpacked, Seventeen}
+use Rattle.caption.proofs.One.{finds-by-one}
+use Rattle.firmware.specs.Word.{packed, wordNumber, wordPlace, wordParameter, wordSize, wordTaken, Unpacked, Plain}
 use Rattle.firmware.specs.DraftRecord.{draftRecord}
 use Rattle.firmware.specs.DeskRecord.{deskRecord}
 use Rattle.firmware.specs.PartRecord.{partRecord}
@@ -45,21 +45,24 @@ positive : (k : ℕ) → (T (k =? 0) → ⊥) → 1 ≤ k
 positive k n = let z : k ≡ 0 → ⊥ = λ e. n (of-eq _ _ e) in omega arith
 
 -- words of the same fields are one
-words-one : (k p q n t w v : ℕ) → Unpacked k p q n t w → Unpacked k p q n t v → w ≡ v
-words-one k p q n t w v a b = a .whole ∙ sym (b .whole)
+words-one : (e k p q n t w v : ℕ) → Unpacked e k p q n t w → Unpacked e k p q n t v → w ≡ v
+words-one e k p q n t w v a b = a .whole ∙ sym (b .whole)
 
--- 17 is one word, and the record as it was
-pub seventeen-one : (c : List ℕ) (w : ℕ) (d : List ℕ) (v : ℕ) (e : List ℕ) → Seventeen c w d → Seventeen c v e →
+-- 16 and 17 are one word each, and the record as it was
+pub plain-one : (k : ℕ) (c : List ℕ) (w : ℕ) (d : List ℕ) (v : ℕ) (e : List ℕ) → Plain k c w d → Plain k c v e →
     (w ≡ v) × (d ≡ e)
-seventeen-one c w d v e a b = (words-one 17 0 0 0 0 w v (a .word) (b .word), a .cells ∙ sym (b .cells))
+plain-one k c w d v e a b = (words-one 0 k 0 0 0 0 w v (a .word) (b .word), a .cells ∙ sym (b .cells))
 
 -- hearing
-pub record-hears-one : (L : Language) (h o : List ℕ) (w v : ℕ) → RecordHears L h o w → RecordHears L h o v → w ≡ v
-record-hears-one L h o w v A B = go (decide (wordNumber w =? 0)) (decide (wordSize w =? 0))
+pub record-hears-one : (L : Language) (e : ℕ) (h o : List ℕ) (w v : ℕ) → RecordHears L e h o w →
+    RecordHears L e h o v → w ≡ v
+record-hears-one L e h o w v A B = go (decide (wordNumber w =? 0)) (decide (wordSize w =? 0))
   where
     same : wordNumber w ≡ wordNumber v → wordPlace w ≡ wordPlace v → wordParameter w ≡ wordParameter v →
         wordSize w ≡ wordSize v → wordTaken w ≡ wordTaken v → w ≡ v
-    same a b q c d = A .whole ∙ (λ i. packed (a i) (b i) (q i) (c i) (d i)) ∙ sym (B .whole)
+    same a b q c d =
+        let r = A .names ∙ sym (B .names) in
+        A .whole ∙ (λ i. packed (r i) (a i) (b i) (q i) (c i) (d i)) ∙ sym (B .whole)
 
     waiting : wordNumber w ≡ 0 → wordSize w ≡ 0 → w ≡ v
     waiting a b =
@@ -95,12 +98,12 @@ record-hears-one L h o w v A B = go (decide (wordNumber w =? 0)) (decide (wordSi
     go (inr a) b = refused (positive (wordNumber w) a)
 
 -- reading
-pub record-reads-one : (o c t : List ℕ) (w : ℕ) (c' t' : List ℕ) (v : ℕ) (d u : List ℕ) →
-    RecordReads o c t w c' t' → RecordReads o c t v d u → (w ≡ v) × (c' ≡ d) × (t' ≡ u)
-record-reads-one o c t w c' t' v d u A B =
-    let e = reads-one (rulesOf PresentLenient) o t (A .reading) t' (B .reading) u (A .reads) (B .reads) in
+pub record-reads-one : (k : ℕ) (o c t : List ℕ) (w : ℕ) (c' t' : List ℕ) (v : ℕ) (d u : List ℕ) →
+    RecordReads k o c t w c' t' → RecordReads k o c t v d u → (w ≡ v) × (c' ≡ d) × (t' ≡ u)
+record-reads-one k o c t w c' t' v d u A B =
+    let e = reads-one (rulesOf (bookOf k lenient)) o t (A .reading) t' (B .reading) u (A .reads) (B .reads) in
     let a = ap (λ (r : Reading). r .answer) (e .0) in (
-      A .word .whole ∙ (λ i. packed (reader.told (a i) .number) (reader.told (a i) .place) (reader.told
+      A .word .whole ∙ (λ i. packed k (reader.told (a i) .number) (reader.told (a i) .place) (reader.told
           (a i) .parameter)
           (reader.told (a i) .size) 0)
           ∙ sym (B .word .whole),
@@ -120,60 +123,62 @@ record-reads-one o c t w c' t' v d u A B =
         A .refused l ∙ sym (B .refused (subst (λ (r : Reading). 1 ≤ reader.told (r .answer) .number) e l))
 
 -- settling
-pub record-settles-one : (d : Desk) (o : List ℕ) (w : ℕ) (c : List ℕ) (v : ℕ) (e : List ℕ) →
-    RecordSettles d o w c → RecordSettles d o v e → (w ≡ v) × (c ≡ e)
-record-settles-one d o w c v e A B =
-    let x = settles-one PresentLenient d o (A .outcome) (B .outcome) (A .settles) (B .settles) in (
-      A .word .whole ∙ (λ i. packed (desk.told (x i .answer) .number) (desk.told (x i .answer) .place)
-          (desk.told (x i .answer) .parameter) 0 0)
+pub record-settles-one : (k : ℕ) (d : Desk) (o : List ℕ) (w : ℕ) (c : List ℕ) (v : ℕ) (e : List ℕ) →
+    RecordSettles k d o w c → RecordSettles k d o v e → (w ≡ v) × (c ≡ e)
+record-settles-one k d o w c v e A B =
+    let x = settles-by-one k lenient d o (A .settling) (B .settling) (A .settles) (B .settles) in (
+      A .word .whole ∙ (λ i. packed (x i .edition) (desk.told (x i .outcome .answer) .number)
+          (desk.told (x i .outcome .answer) .place) (desk.told (x i .outcome .answer) .parameter) 0 0)
           ∙ sym (B .word .whole),
-      A .cells ∙ ap (λ (r : Outcome). deskRecord (r .desk)) x ∙ sym (B .cells),
+      A .cells ∙ ap (λ (r : Settling). deskRecord (r .outcome .desk)) x ∙ sym (B .cells),
     )
 
 -- what counts
-pub record-counts-one : (o : List ℕ) (t w v : ℕ) → RecordCounts o t w → RecordCounts o t v → w ≡ v
+pub record-counts-one : (b : ℕ) (o : List ℕ) (t w v : ℕ) → RecordCounts b o t w → RecordCounts b o t v → w ≡ v
 unfolding message.told
-record-counts-one o t w v A B = go (A .verdict) refl
+record-counts-one b o t w v A B = go (A .verdict) refl
   where
-    of-message : (a : Accepts (rulesOf PresentLenient) o) (x : Option (List ℕ)) →
-        counted (rulesOf PresentLenient) (a .0) t ≡ x → w ≡ v
-    of-message (m, l, e) none z = words-one 0 0 0 0 0 w v (A .none-counts m l e z) (B .none-counts m l e z)
+    of-message : (a : Accepts (rulesOf (bookOf b lenient)) o) (x : Option (List ℕ)) →
+        counted (rulesOf (bookOf b lenient)) (a .0) t ≡ x → w ≡ v
+    of-message (m, l, e) none z = words-one b 0 0 0 0 0 w v (A .none-counts m l e z) (B .none-counts m l e z)
     of-message (m, l, e) (some y) z =
-        let c = counted-iff (rulesOf PresentLenient) m t y .0 z in
-        words-one _ _ _ _ _ w v (A .counts m l e y c) (B .counts m l e y c)
+        let c = counted-iff (rulesOf (bookOf b lenient)) m t y .0 z in
+        words-one _ _ _ _ _ _ w v (A .counts m l e y c) (B .counts m l e y c)
 
     go : (x : Verdict) → A .verdict ≡ x → w ≡ v
     go (Accepted n) e = of-message (accepted-iff (A .judged) n .0 e .1) _ refl
     go (Declined f) e =
-        let k = judges-one (languageOf PresentLenient) o _ _ (A .judged) (B .judged) in
+        let k = judges-one (languageOf (bookOf b lenient)) o _ _ (A .judged) (B .judged) in
         let l : 1 ≤ message.told (A .verdict) .number =
         subst (λ (x : Verdict). 1 ≤ message.told x .number) (sym e) (some-number (A .judged) f e) in
-        words-one _ _ _ _ _ w v (A .refused l)
-        (subst (λ (x : Verdict). Unpacked (message.told x .number) (message.told x .place)
+        words-one _ _ _ _ _ _ w v (A .refused l)
+        (subst (λ (x : Verdict). Unpacked b (message.told x .number) (message.told x .place)
         (message.told x .parameter) 0 0 v) (sym k)
         (B .refused (subst (λ (x : Verdict). 1 ≤ message.told x .number) k l)))
 
 -- the caption
-pub record-finds-one : (o d c : List ℕ) (w : ℕ) (c' : List ℕ) (v : ℕ) (e : List ℕ) → RecordFinds o d c w c' →
-    RecordFinds o d c v e → (w ≡ v) × (c' ≡ e)
-record-finds-one o d c w c' v e A B = (
-  A .word .whole ∙ (λ i. packed (caption.told (x i) .number) (caption.told (x i) .place) (caption.told
-      (x i) .parameter) 0 0)
+pub record-finds-one : (k : ℕ) (o d c : List ℕ) (w : ℕ) (c' : List ℕ) (v : ℕ) (e : List ℕ) →
+    RecordFinds k o d c w c' → RecordFinds k o d c v e → (w ≡ v) × (c' ≡ e)
+record-finds-one k o d c w c' v e A B = (
+  A .word .whole ∙ (λ i. packed (x i .edition) (caption.told (x i .shown) .number) (caption.told (x i .shown) .place)
+      (caption.told (x i .shown) .parameter) 0 0)
       ∙ sym (B .word .whole),
-  cells (decide (caption.told (A .found) .number =? 0)),
+  cells (decide (caption.told (A .finding .shown) .number =? 0)),
 )
   where
-    x : A .found ≡ B .found
-    x = finds-one (rulesOf PresentLenient) o d (A .found) (B .found) (A .finds) (B .finds)
+    x : A .finding ≡ B .finding
+    x = finds-by-one k lenient o d (A .finding) (B .finding) (A .finds) (B .finds)
 
-    shown : caption.told (A .found) .number ≡ 0 → c' ≡ e
+    shown : caption.told (A .finding .shown) .number ≡ 0 → c' ≡ e
     shown z =
         A .part z
-        ∙ ap (λ (r : Shown). partRecord (caption.told r .side) (caption.told r .start) (caption.told r .size)) x
-        ∙ sym (B .part (sym (ap (λ (x : Shown). caption.told x .number) x) ∙ z))
+        ∙ ap (λ (r : Finding). partRecord (caption.told (r .shown) .side) (caption.told (r .shown) .start)
+        (caption.told (r .shown) .size)) x
+        ∙ sym (B .part (sym (ap (λ (x : Finding). caption.told (x .shown) .number) x) ∙ z))
 
-    cells : T (caption.told (A .found) .number =? 0) ⊎ (T (caption.told (A .found) .number =? 0) → ⊥) → c' ≡ e
+    cells : T (caption.told (A .finding .shown) .number =? 0) ⊎ (T (caption.told (A .finding .shown) .number =? 0) → ⊥) →
+        c' ≡ e
     cells (inl t) = shown (eq-of _ _ t)
     cells (inr n) =
         let l = positive _ n in
-        A .refused l ∙ sym (B .refused (subst (λ (r : Shown). 1 ≤ caption.told r .number) x l))
+        A .refused l ∙ sym (B .refused (subst (λ (r : Finding). 1 ≤ caption.told (r .shown) .number) x l))

@@ -10,7 +10,7 @@ use Rattle.rules.proofs.Laying.{laid-then}
 use Rattle.rules.specs.Octets.{Octets}
 use Rattle.rules.specs.Table.{rulesOf}
 use Rattle.rules.proofs.Grammar.{accepted-size}
-use Rattle.rules.specs.declared.Book.the-variants.{PresentLenient}
+use Rattle.rules.specs.declared.Book.{Book}
 use Rattle.message.specs.declared.Verdict.the-variants.{Accepted}
 use Rattle.message.specs.Verdict.{verdictOf}
 use Rattle.message.proofs.Told.{accepted-iff}
@@ -19,10 +19,9 @@ use Rattle.firmware.specs.PartRecord.{lowFirst, numberIn, sideCells, par
 use Rattle.firmware.specs.Sizes.{partSize}
 
 -- an accepted message has at most 258 octets
-pub accepted-small : (o : List ℕ) → Octets o → (n : ℕ) → verdictOf (rulesOf PresentLenient) o ≡ Accepted n →
+pub accepted-small : (b : Book) (o : List ℕ) → Octets o → (n : ℕ) → verdictOf (rulesOf b) o ≡ Accepted n →
     length o ≤ 258
-accepted-small o q n e =
-    accepted-size (rulesOf PresentLenient) o (accepted-iff (judges-of PresentLenient o q) n .0 e .1) .1
+accepted-small b o q n e = accepted-size (rulesOf b) o (accepted-iff (judges-of b o q) n .0 e .1) .1
 
 -- octets laid over as many are all that stands there
 laid-whole : (v old : List ℕ) → length old ≡ length v → laid v old ≡ v

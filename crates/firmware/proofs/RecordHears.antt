@@ -1,20 +1,21 @@
 -- A call on a listener's record is a call on the listener that it stands for, and its word is read back field by
--- field; a record that stands for none is 17.
+-- field; a record that stands for none is 17, one that stands for a listener of an unknown edition 16.
 -- Assumes nothing.
 use Prim.Native.Nat.{ℕ, suc, _+_, _≤_, _<_}
 use mathlib.Core.Path.{_≡_, refl, sym, _∙_, ap, subst}
-use mathlib.Core.Logic.{_⊎_, inl, inr, Iff·trans}
+use mathlib.Core.Logic.{_⊎_, inl, inr, _↔_, Iff·trans}
 use mathlib.Core.List.{List, [], _++_}
 use native.Mathlib.Omega.{arith}
-use lib.ListN.{length, take}
+use lib.ListN.{length, take, getD}
 use lib.Dec.{T}
 use Rattle.rules.specs.Tests.{_=?_}
-use Rattle.rules.proofs.Tests.{pick-yes, pick-not, of-eq, eq-of, decide, clash}
+use Rattle.rules.proofs.Tests.{pick-yes, pick-not, of-eq, eq-of, le-of, decide, clash}
 use Rattle.rules.specs.Octets.{Octets}
 use Rattle.rules.proofs.Octets.{octets-append}
 use Rattle.rules.specs.Table.{rulesOf}
+use Rattle.rules.specs.Editions.{lenient, edition, known, bookOf}
+use Rattle.rules.proofs.Editions.{edition-of, by-lenient}
 use Rattle.rules.specs.declared.Book.{Book}
-use Rattle.rules.specs.declared.Book.the-variants.{PresentLenient}
 use Rattle.rules.specs.Machine.{run}
 use Rattle.rules.specs.Judge.{machine, inRange}
 use Rattle.rules.specs.Language.{languageOf}
@@ -25,19 +26,21 @@ use Rattle.listener.specs.declared.Answer.{Answer}
 use Rattle.listener.specs.declared.Answer.the-variants.{Waits, Message, Refused}
 use Rattle.listener.specs.declared.Heard.{Heard}
 use Rattle.listener.specs.Told.{told}
-use Rattle.listener.specs.Heard.{taken, answerOf, stepped, heardOf, newListener}
+use Rattle.listener.specs.Heard.{answerOf, stepped, unknownNumbers, heardOf, newListener}
+use Rattle.listener.specs.Answers.{InRange}
+use Rattle.listener.specs.Answers as answers
 use Rattle.listener.proofs.Hears as listening
 use Rattle.listener.proofs.Told.{told-waits, fields-waiting, fields-message, fields-refusal}
-use Rattle.listener.proofs.Hears.{LedBy, led-in-range, led-on, new-led, hears, Ranged, ranged, taken-small}
-use Rattle.listener.proofs.Hears.{in-range-heard, out-of-range-heard}
+use Rattle.listener.proofs.Hears.{B, LedBy, led-in-range, led-on, new-led, hears, Ranged, ranged, taken-small}
+use Rattle.listener.proofs.Hears.{in-range-heard, unknown-heard, out-of-range-heard, numbers-kept}
 use Rattle.firmware.specs.declared.Decoded.{Decoded}
 use Rattle.firmware.specs.declared.Decoded.the-variants.{Known, Unknown}
 use Rattle.firmware.specs.Record.{decodeOf, recordOf}
-use Rattle.firmware.specs.Word.{packed, wordNumber, wordPlace, wordParameter, wordSize, wordTaken, Unpacked, unpacked, Seventeen, seventeen}
-use Rattle.firmware.specs.Exports.{badRecord, resetAnswer, resetRecord, wordOf, answered, recorded, listenAnswer, listenRecord}
-use Rattle.firmware.proofs.Coding.{Good, decode-encode, encode-decode, decoded-good}
+use Rattle.firmware.specs.Word.{packed, wordEdition, wordNumber, wordPlace, wordParameter, wordSize, wordTaken, Unpacked, unpacked, Plain, Sixteen, sixteen, Seventeen, seventeen}
+use Rattle.firmware.specs.Exports.{badRecord, noEdition, resetAnswer, resetRecord, wordOf, answered, recorded, listenAnswer, listenRecord}
+use Rattle.firmware.proofs.Coding.{Good, record-edition, decode-encode, encode-decode, decoded-good}
 use Rattle.firmware.proofs.Classes.{Coded, run-coded, number-six}
-use Rattle.firmware.specs.RecordHears.{RecordHears, Sound, SameEnd}
+use Rattle.firmware.specs.RecordHears.{RecordHears, Stands, Sound, SameEnd}
 use Rattle.firmware.specs.Sizes.{listenerSize}
 
 -- the word of an answer is read back field by field
@@ -67,30 +70,37 @@ no-size Waits e = absurd (omega arith)
 no-size (Message n) e = absurd (omega arith)
 no-size (Refused f) e = refl
 
-read-back : (x : Heard) → Ranged (x .answer) → x .taken ≤ 258 →
-    Unpacked (told (x .answer) .number) (told (x .answer) .place) (told (x .answer) .parameter)
+read-back : (x : Heard) → x .edition < 2 → Ranged (x .answer) → x .taken ≤ 258 →
+    Unpacked (x .edition) (told (x .answer) .number) (told (x .answer) .place) (told (x .answer) .parameter)
     (told (x .answer) .size) (x .taken) (wordOf x)
 unfolding wordOf
-read-back x g t = let b = small-fields (x .answer) g in unpacked _ _ _ _ _ (b .0) (b .1) (b .2) (b .3) (omega arith)
+read-back x v g t =
+    let b = small-fields (x .answer) g in unpacked _ _ _ _ _ _ v (b .0) (b .1) (b .2) (b .3) (omega arith)
+
+-- the fields of a word by another name of the edition
+pub renamed : (e v k p b n t w : ℕ) → e ≡ v → Unpacked e k p b n t w → Unpacked v k p b n t w
+renamed e v k p b n t w z u = subst (λ (x : ℕ). Unpacked x k p b n t w) z u
+
+pub edition-small : (e : ℕ) → T (edition e) → e < 2
+unfolding edition
+edition-small e t = let h = le-of _ _ t in omega arith
 
 -- ---- any record at all
-pub sound-or-not : (c : List ℕ) → Sound c ⊎ (Sound c → ⊥)
-sound-or-not c = go (decodeOf c) refl
+pub stands-or-not : (c : List ℕ) → Stands c ⊎ (Stands c → ⊥)
+stands-or-not c = go (decodeOf c) refl
   where
-    in-or-out : (l : Listener) → decodeOf c ≡ Known l →
-        T (inRange (rulesOf (l .book)) (l .state)) ⊎ (T (inRange (rulesOf (l .book)) (l .state)) → ⊥) →
-        Sound c ⊎ (Sound c → ⊥)
+    in-or-out : (l : Listener) → decodeOf c ≡ Known l → InRange l ⊎ (InRange l → ⊥) → Stands c ⊎ (Stands c → ⊥)
     in-or-out l k (inl t) = inl (record { listener = l; known = k; in-range = t })
     in-or-out l k (inr n) =
         inr (λ s. let e : Known (s .listener) ≡ Known l = sym (s .known) ∙ k in let z : s .listener ≡ l = cc in
-        n (subst (λ (x : Listener). T (inRange (rulesOf (x .book)) (x .state))) z (s .in-range)))
+        n (subst (λ (x : Listener). InRange x) z (s .in-range)))
 
-    go : (y : Decoded) → decodeOf c ≡ y → Sound c ⊎ (Sound c → ⊥)
-    go (Known l) k = in-or-out l k (decide (inRange (rulesOf (l .book)) (l .state)))
+    go : (y : Decoded) → decodeOf c ≡ y → Stands c ⊎ (Stands c → ⊥)
+    go (Known l) k = in-or-out l k (decide (inRange (rulesOf (B l)) (l .state)))
     go Unknown k = inr (λ s. clash (cc (s .known, k)))
 
--- a record that is not sound is 17, whatever the octets
-unsound : (c : List ℕ) → Octets c → (Sound c → ⊥) → (o : List ℕ) →
+-- a record that stands for none is 17, whatever the octets
+unsound : (c : List ℕ) → Octets c → (Stands c → ⊥) → (o : List ℕ) →
     (listenAnswer c o ≡ badRecord) × (listenRecord c o ≡ c)
 unfolding listenAnswer listenRecord answered recorded wordOf told
 unsound c q n o = go (decodeOf c) refl
@@ -101,89 +111,186 @@ unsound c q n o = go (decodeOf c) refl
         let x = out-of-range-heard l o (λ t. n (record { listener = l; known = k; in-range = t })) in
         (rw (k, x), rw (k, x) (encode-decode c l q k))
 
--- a sound record is heard by its listener
-module _ (c : List ℕ) (s : Sound c) (o : List ℕ) where
-  sound-word : listenAnswer c o ≡ wordOf (heardOf (s .listener) o)
-  unfolding listenAnswer answered
-  sound-word = ap (λ (y : Decoded). answered y o) (s .known)
-
-  pub sound-record : listenRecord c o ≡ recordOf (heardOf (s .listener) o .listener)
-  unfolding listenRecord recorded
-  sound-record = ap (λ (y : Decoded). recorded y c o) (s .known)
-
-  sound-ranged : Octets o → Ranged (heardOf (s .listener) o .answer)
-  sound-ranged q =
-      subst Ranged (sym (ap (λ (r : Heard). r .answer) (in-range-heard (s .listener) o (s .in-range))))
-      (ranged (spoken-of (s .listener .book)) _
-      (in-range-run (spoken-of (s .listener .book)) (s .listener .state) o q (s .in-range)))
-
-  pub sound-fields : Octets o → (w : ℕ) → w ≡ listenAnswer c o →
-      Unpacked (told (heardOf (s .listener) o .answer) .number) (told (heardOf (s .listener) o .answer) .place)
-      (told (heardOf (s .listener) o .answer) .parameter) (told (heardOf (s .listener) o .answer) .size)
-      (heardOf (s .listener) o .taken) w
-  sound-fields q w e = rw (e, sound-word) (read-back _ (sound-ranged q) (taken-small (s .listener) o q))
-
-  pub good : Good (s .listener)
+-- what a record stands for: the edition is its octet 11, and types without a row are carried
+module _ (c : List ℕ) (s : Stands c) where
+  pub good : Good (getD c 11 0) (s .listener)
   good = decoded-good c (s .listener) (s .known)
 
-  abbrev pub heard-is : heardOf (s .listener) o ≡
-      record {
-        listener = record {
-          book = s .listener .book;
-          state = run (machine (rulesOf (s .listener .book))) (s .listener .state) o;
-        };
-        answer = answerOf (run (machine (rulesOf (s .listener .book))) (s .listener .state) o);
-        taken = taken (machine (rulesOf (s .listener .book))) (s .listener .state) o;
-      }
-  heard-is = in-range-heard (s .listener) o (s .in-range)
+  listener-is : record { edition = getD c 11 0; way = lenient; state = s .listener .state } ≡ s .listener
+  listener-is =
+      let v = sym (good .edition) in
+      let x = sym (good .way) in
+      λ i. record { edition = v i; way = x i; state = s .listener .state }
+
+  pub numbers-known : T (edition (getD c 11 0)) → answers.Known (s .listener)
+  numbers-known t = subst answers.Known listener-is (by-lenient (getD c 11 0) t)
+
+  numbers-unknown : (T (edition (getD c 11 0)) → ⊥) → answers.Known (s .listener) → ⊥
+  numbers-unknown n k =
+      n (edition-of (getD c 11 0) lenient (subst answers.Known (sym listener-is) k))
+
+  -- of an unknown edition it is 16, whatever the octets
+  pub unknown-edition : Octets c → (T (edition (getD c 11 0)) → ⊥) → (o : List ℕ) →
+      (listenAnswer c o ≡ noEdition) × (listenRecord c o ≡ c)
+  unfolding listenAnswer listenRecord answered recorded wordOf told
+  unknown-edition q n o =
+      let k = s .known in
+      let x = unknown-heard (s .listener) o (s .in-range) (numbers-unknown n) in
+      (rw (k, x), rw (k, x) (encode-decode c (s .listener) q k))
+
+-- every record is sound, or the call is 16 or 17 and leaves it as it was
+pub ways : (c : List ℕ) → Sound c ⊎ ((Stands c × (T (edition (getD c 11 0)) → ⊥)) ⊎ (Stands c → ⊥))
+ways c = go (stands-or-not c) (decide (edition (getD c 11 0)))
+  where
+    go : Stands c ⊎ (Stands c → ⊥) → T (edition (getD c 11 0)) ⊎ (T (edition (getD c 11 0)) → ⊥) →
+        Sound c ⊎ ((Stands c × (T (edition (getD c 11 0)) → ⊥)) ⊎ (Stands c → ⊥))
+    go (inl s) (inl t) = inl (record { stands = s; edition = t })
+    go (inl s) (inr n) = inr (inl (s, n))
+    go (inr n) t = inr (inr n)
+
+pub sound-or-refused : (c o : List ℕ) (w : ℕ) (d : List ℕ) → w ≡ listenAnswer c o → d ≡ listenRecord c o → Octets c →
+    Sound c ⊎ (Sixteen c w d ⊎ Seventeen c w d)
+sound-or-refused c o w d e f q = go (ways c)
+  where
+    go : Sound c ⊎ ((Stands c × (T (edition (getD c 11 0)) → ⊥)) ⊎ (Stands c → ⊥)) →
+        Sound c ⊎ (Sixteen c w d ⊎ Seventeen c w d)
+    go (inl s) = inl s
+    go (inr (inl s)) = let u = unknown-edition c (s .0) q (s .1) o in inr (inl (sixteen c w d (e ∙ u .0) (f ∙ u .1)))
+    go (inr (inr n)) = let u = unsound c q n o in inr (inr (seventeen c w d (e ∙ u .0) (f ∙ u .1)))
+
+-- a sound record is heard by its listener
+module _ (c : List ℕ) (s : Sound c) (o : List ℕ) where
+  abbrev l : Listener
+  l = s .stands .listener
+
+  numbers : answers.Known l
+  numbers = numbers-known c (s .stands) (s .edition)
+
+  sound-word : listenAnswer c o ≡ wordOf (heardOf l o)
+  unfolding listenAnswer answered
+  sound-word = ap (λ (y : Decoded). answered y o) (s .stands .known)
+
+  pub sound-record : listenRecord c o ≡ recordOf (heardOf l o .listener)
+  unfolding listenRecord recorded
+  sound-record = ap (λ (y : Decoded). recorded y c o) (s .stands .known)
+
+  pub heard-is : heardOf l o ≡ stepped (languageOf (B l)) l o
+  heard-is = in-range-heard l o (s .stands .in-range) numbers
+
+  pub in-range-after : Octets o → T (languageOf (B l) .inRange (run (machine (rulesOf (B l))) (l .state) o))
+  in-range-after q = in-range-run (spoken-of (B l)) (l .state) o q (s .stands .in-range)
+
+  sound-ranged : Octets o → Ranged (heardOf l o .answer)
+  sound-ranged q =
+      subst Ranged (sym (ap (λ (r : Heard). r .answer) heard-is)) (ranged (spoken-of (B l)) _ (in-range-after q))
+
+  -- its answer names the edition
+  pub sound-edition : heardOf l o .edition ≡ getD c 11 0
+  sound-edition = ap (λ (r : Heard). r .edition) heard-is ∙ good c (s .stands) .edition
+
+  pub sound-fields : Octets o → (w : ℕ) → w ≡ listenAnswer c o →
+      Unpacked (heardOf l o .edition) (told (heardOf l o .answer) .number) (told (heardOf l o .answer) .place)
+      (told (heardOf l o .answer) .parameter) (told (heardOf l o .answer) .size) (heardOf l o .taken) w
+  sound-fields q w e =
+      rw (e, sound-word)
+      (read-back _ (omega (arith, sound-edition, edition-small _ (s .edition))) (sound-ranged q) (taken-small l o q))
 
   -- it is stepped by the written rule, also where no octets lead to it: word and record
   pub sound-steps : (w : ℕ) (d : List ℕ) → w ≡ listenAnswer c o → d ≡ listenRecord c o →
-      (w ≡ wordOf (stepped (languageOf (s .listener .book)) (s .listener) o))
-      × (d ≡ recordOf (stepped (languageOf (s .listener .book)) (s .listener) o .listener))
+      (w ≡ wordOf (stepped (languageOf (B l)) l o)) × (d ≡ recordOf (stepped (languageOf (B l)) l o .listener))
   sound-steps w d e f = (
-    e ∙ sound-word ∙ ap wordOf (in-range-heard (s .listener) o (s .in-range)),
-    f ∙ sound-record ∙ ap (λ (y : Heard). recordOf (y .listener)) (in-range-heard (s .listener) o (s .in-range)),
+    e ∙ sound-word ∙ ap wordOf heard-is,
+    f ∙ sound-record ∙ ap (λ (y : Heard). recordOf (y .listener)) heard-is,
   )
 
-  -- and stays sound
+  -- its classes stay those of its edition
+  pub coded-after : Coded (l .edition) (run (machine (rulesOf (B l))) (l .state) o)
+  coded-after =
+      subst (λ (x : Listener). Coded (x .edition) (run (machine (rulesOf (B x))) (x .state) o))
+      (listener-is c (s .stands)) (run-coded (getD c 11 0) (s .edition) (l .state) o (good c (s .stands) .coded))
+
+  -- and it stays sound, of its edition
+  pub edition-stays : (d : List ℕ) → d ≡ listenRecord c o → getD d 11 0 ≡ getD c 11 0
+  edition-stays d f =
+      ap (λ (x : List ℕ). getD x 11 0) (f ∙ sound-record) ∙ record-edition (heardOf l o .listener)
+      ∙ numbers-kept l o .0 ∙ good c (s .stands) .edition
+
   abbrev pub sound-stays : Octets o → (d : List ℕ) → d ≡ listenRecord c o → Sound d
   sound-stays q d f = record {
-    listener = heardOf (s .listener) o .listener;
-    known =
-        ap decodeOf (f ∙ sound-record) ∙ decode-encode _ (ap (λ (x : Heard). x .listener .book) heard-is ∙ good .0)
-        (subst (λ (x : Heard). Coded (x .listener .state)) (sym heard-is)
-        (run-coded (s .listener .book) (sym (good .0)) (s .listener .state) o (good .1)));
-    in-range =
-        subst (λ (x : Heard). T (inRange (rulesOf (x .listener .book)) (x .listener .state)))
-        (sym (in-range-heard (s .listener) o (s .in-range)))
-        (in-range-run (spoken-of (s .listener .book)) (s .listener .state) o q (s .in-range));
+    stands = record {
+      listener = heardOf l o .listener;
+      known =
+          ap decodeOf (f ∙ sound-record)
+          ∙ decode-encode _ (numbers-kept l o .1 ∙ good c (s .stands) .way)
+          (subst (λ (x : Heard). Coded (x .listener .edition) (x .listener .state)) (sym heard-is) coded-after);
+      in-range = subst (λ (x : Heard). InRange (x .listener)) (sym heard-is) (in-range-after q);
+    };
+    edition = subst (λ (v : ℕ). T (edition v)) (sym (edition-stays d f)) (s .edition);
   }
 
   -- it gets a number up to 6, or none
   pub sound-number : Octets o → (w : ℕ) → w ≡ listenAnswer c o → wordNumber w ≤ 6
-  sound-number q w e =
-      let k : told (heardOf (s .listener) o .answer) .number ≤ 6 =
-      subst (λ (x : Heard). told (x .answer) .number ≤ 6) (sym heard-is)
-      (number-six (s .listener .book) (good .0) _
-      (in-range-run (spoken-of (s .listener .book)) (s .listener .state) o q (s .in-range))) in
-      omega (arith, sound-fields q w e .number, k)
+  sound-number q w e = omega (arith, sound-fields q w e .number, few)
+    where
+      six : (x : Listener) → record { edition = getD c 11 0; way = lenient; state = l .state } ≡ x →
+          T (inRange (rulesOf (B x)) (run (machine (rulesOf (B x))) (x .state) o)) →
+          told (answerOf (run (machine (rulesOf (B x))) (x .state) o)) .number ≤ 6
+      six x z t =
+          subst (λ (y : Listener). T (inRange (rulesOf (B y)) (run (machine (rulesOf (B y))) (y .state) o)) →
+          told (answerOf (run (machine (rulesOf (B y))) (y .state) o)) .number ≤ 6) z
+          (number-six (getD c 11 0) (s .edition) _) t
 
--- every record is sound, or the call is 17 and leaves it as it was
-pub sound-or-17 : (c o : List ℕ) (w : ℕ) (d : List ℕ) → w ≡ listenAnswer c o → d ≡ listenRecord c o → Octets c →
-    Sound c ⊎ Seventeen c w d
-sound-or-17 c o w d e f q = go (sound-or-not c)
-  where
-    go : Sound c ⊎ (Sound c → ⊥) → Sound c ⊎ Seventeen c w d
-    go (inl s) = inl s
-    go (inr n) = let u = unsound c q n o in inr (seventeen c w d (e ∙ u .0) (f ∙ u .1))
+      few : told (heardOf l o .answer) .number ≤ 6
+      few =
+          subst (λ (x : Heard). told (x .answer) .number ≤ 6) (sym heard-is)
+          (six l (listener-is c (s .stands)) (in-range-after q))
 
+-- ---- 16 and 17 exactly when
+module _ (c o : List ℕ) (w : ℕ) (d : List ℕ) (e : w ≡ listenAnswer c o) (f : d ≡ listenRecord c o) (q : Octets c)
+    (p : Octets o) where
+  pub seventeen-iff : (wordNumber w ≡ 17) ↔ (Stands c → ⊥)
+  seventeen-iff = go (ways c)
+    where
+      go : Sound c ⊎ ((Stands c × (T (edition (getD c 11 0)) → ⊥)) ⊎ (Stands c → ⊥)) →
+          (wordNumber w ≡ 17) ↔ (Stands c → ⊥)
+      go (inl s) = (λ x. absurd (omega (arith, x, sound-number c s o p w e)), λ n. absurd (n (s .stands)))
+      go (inr (inl s)) =
+          let u = unknown-edition c (s .0) q (s .1) o in
+          let z = sixteen c w d (e ∙ u .0) (f ∙ u .1) in
+          (λ x. absurd (omega (arith, x, z .word .number)), λ n. absurd (n (s .0)))
+      go (inr (inr n)) =
+          let u = unsound c q n o in (λ _. n, λ _. seventeen c w d (e ∙ u .0) (f ∙ u .1) .word .number)
+
+  pub sixteen-iff : (wordNumber w ≡ 16) ↔ (Stands c × (T (edition (getD c 11 0)) → ⊥))
+  sixteen-iff = go (ways c)
+    where
+      go : Sound c ⊎ ((Stands c × (T (edition (getD c 11 0)) → ⊥)) ⊎ (Stands c → ⊥)) →
+          (wordNumber w ≡ 16) ↔ (Stands c × (T (edition (getD c 11 0)) → ⊥))
+      go (inl s) = (λ x. absurd (omega (arith, x, sound-number c s o p w e)), λ n. absurd (n .1 (s .edition)))
+      go (inr (inl s)) =
+          let u = unknown-edition c (s .0) q (s .1) o in
+          (λ _. s, λ _. sixteen c w d (e ∙ u .0) (f ∙ u .1) .word .number)
+      go (inr (inr n)) =
+          let u = unsound c q n o in
+          let z = seventeen c w d (e ∙ u .0) (f ∙ u .1) in
+          (λ x. absurd (omega (arith, x, z .word .number)), λ s. absurd (n (s .0)))
+
+  -- every answer names the edition of the record, 16 and 17 name none
+  pub names-edition : (wordNumber w ≡ 16 → ⊥) → (wordNumber w ≡ 17 → ⊥) → wordEdition w ≡ getD c 11 0
+  names-edition a b = go (ways c)
+    where
+      go : Sound c ⊎ ((Stands c × (T (edition (getD c 11 0)) → ⊥)) ⊎ (Stands c → ⊥)) → wordEdition w ≡ getD c 11 0
+      go (inl s) = sound-fields c s o p w e .edition ∙ sound-edition c s o
+      go (inr (inl s)) = absurd (a (sixteen-iff .1 s))
+      go (inr (inr n)) = absurd (b (seventeen-iff .1 n))
+
+-- ---- any cutting
 module _ (c a b : List ℕ) (w w₁ w₂ : ℕ) (d d₁ d₂ : List ℕ) (e : w ≡ listenAnswer c (a ++ b))
     (f : d ≡ listenRecord c (a ++ b)) (e₁ : w₁ ≡ listenAnswer c a) (f₁ : d₁ ≡ listenRecord c a)
     (e₂ : w₂ ≡ listenAnswer d₁ b) (f₂ : d₂ ≡ listenRecord d₁ b) (q : Octets c) (p : Octets a) (r : Octets b) where
   cut-sound : Sound c → SameEnd w w₁ w₂ d d₂
   cut-sound s =
-      let l = s .listener in
+      let l = s .stands .listener in
       let s₁ = sound-stays c s a p d₁ f₁ in
       let k = listening.cut-anywhere l a b p (heardOf l (a ++ b)) (heardOf l a) (heardOf (heardOf l a .listener) b)
       refl refl refl in
@@ -192,6 +299,9 @@ module _ (c a b : List ℕ) (w w₁ w₂ : ℕ) (d d₁ d₂ : List ℕ) (e : w 
       let u₂ = sound-fields d₁ s₁ b r w₂ e₂ in
       record {
         left = f ∙ sound-record c s (a ++ b) ∙ ap recordOf (k .0) ∙ sym (f₂ ∙ sound-record d₁ s₁ b);
+        edition =
+            u .edition ∙ sound-edition c s (a ++ b) ∙ sym (edition-stays c s a d₁ f₁)
+            ∙ sym (u₂ .edition ∙ sound-edition d₁ s₁ b);
         number = u .number ∙ ap (λ (x : Answer). told x .number) (k .1) ∙ sym (u₂ .number);
         place = u .place ∙ ap (λ (x : Answer). told x .place) (k .1) ∙ sym (u₂ .place);
         parameter = u .parameter ∙ ap (λ (x : Answer). told x .parameter) (k .1) ∙ sym (u₂ .parameter);
@@ -199,17 +309,18 @@ module _ (c a b : List ℕ) (w w₁ w₂ : ℕ) (d d₁ d₂ : List ℕ) (e : w 
         taken = omega (arith, u .taken, u₁ .taken, u₂ .taken, k .2);
       }
 
-  cut-unsound : (Sound c → ⊥) → SameEnd w w₁ w₂ d d₂
-  cut-unsound n =
-      let v : d₁ ≡ c = f₁ ∙ unsound c q n a .1 in
-      let v₂ = unsound c q n b in
-      let z = seventeen c w d (e ∙ unsound c q n (a ++ b) .0) (f ∙ unsound c q n (a ++ b) .1) in
-      let z₁ = seventeen c w₁ d₁ (e₁ ∙ unsound c q n a .0) v in
-      let z₂ =
-      seventeen c w₂ d₂ (e₂ ∙ ap (λ (x : List ℕ). listenAnswer x b) v ∙ v₂ .0)
-      (f₂ ∙ ap (λ (x : List ℕ). listenRecord x b) v ∙ v₂ .1) in
+  -- 16 or 17 for every run, and the record stays
+  cut-plain : (k : ℕ) → ((o : List ℕ) (x : ℕ) (y : List ℕ) → x ≡ listenAnswer c o → y ≡ listenRecord c o →
+      Plain k c x y) → SameEnd w w₁ w₂ d d₂
+  cut-plain k all =
+      let z = all (a ++ b) w d e f in
+      let z₁ = all a w₁ d₁ e₁ f₁ in
+      let v = z₁ .cells in
+      let z₂ = all b w₂ d₂ (e₂ ∙ ap (λ (x : List ℕ). listenAnswer x b) v)
+      (f₂ ∙ ap (λ (x : List ℕ). listenRecord x b) v) in
       record {
         left = z .cells ∙ sym (z₂ .cells);
+        edition = z .word .edition ∙ sym (z₂ .word .edition);
         number = z .word .number ∙ sym (z₂ .word .number);
         place = z .word .place ∙ sym (z₂ .word .place);
         parameter = z .word .parameter ∙ sym (z₂ .word .parameter);
@@ -218,37 +329,56 @@ module _ (c a b : List ℕ) (w w₁ w₂ : ℕ) (d d₁ d₂ : List ℕ) (e : w 
       }
 
   pub cut-anywhere : SameEnd w w₁ w₂ d d₂
-  cut-anywhere = go (sound-or-not c)
+  cut-anywhere = go (ways c)
     where
-      go : Sound c ⊎ (Sound c → ⊥) → SameEnd w w₁ w₂ d d₂
+      go : Sound c ⊎ ((Stands c × (T (edition (getD c 11 0)) → ⊥)) ⊎ (Stands c → ⊥)) → SameEnd w w₁ w₂ d d₂
       go (inl s) = cut-sound s
-      go (inr n) = cut-unsound n
+      go (inr (inl s)) =
+          cut-plain 16 (λ o x y g h. let u = unknown-edition c (s .0) q (s .1) o in
+          sixteen c x y (g ∙ u .0) (h ∙ u .1))
+      go (inr (inr n)) =
+          cut-plain 17 (λ o x y g h. let u = unsound c q n o in seventeen c x y (g ∙ u .0) (h ∙ u .1))
 
--- ---- a record that was reset, and any octets
--- a record stands for a listener that the octets h lead to
-pub record RecordLedBy (c h : List ℕ) : Type 0 where
+-- ---- a record that was reset to the edition v, and any octets
+-- a record stands for a listener of the edition v that the octets h lead to
+pub record RecordLedBy (v : ℕ) (c h : List ℕ) : Type 0 where
   pub listener : Listener
   pub known : decodeOf c ≡ Known listener
   pub led : LedBy listener h
+  pub edition : listener .edition ≡ v
 
-abbrev pub led-sound : (c h : List ℕ) → RecordLedBy c h → Sound c
-led-sound c h s =
-    record { listener = s .listener; known = s .known; in-range = led-in-range (s .listener) h (s .led) }
+abbrev pub led-sound : (v : ℕ) (c h : List ℕ) → RecordLedBy v c h → Sound c
+led-sound v c h s =
+    let k = led-in-range (s .listener) h (s .led) in
+    let g = decoded-good c (s .listener) (s .known) in
+    record {
+      stands = record { listener = s .listener; known = s .known; in-range = k };
+      edition =
+          subst (λ (x : ℕ). T (edition x)) (g .edition)
+          (edition-of (s .listener .edition) (s .listener .way) (s .led .numbers));
+    }
 
-module _ (c h : List ℕ) (s : RecordLedBy c h) (o : List ℕ) (q : Octets o) (w : ℕ) (e : w ≡ listenAnswer c o) where
+module _ (v : ℕ) (c h : List ℕ) (s : RecordLedBy v c h) (o : List ℕ) (q : Octets o) (w : ℕ)
+    (e : w ≡ listenAnswer c o) where
   abbrev heard : Heard
   heard = heardOf (s .listener) o
 
   fields :
       let a = told (heard .answer) in
-      Unpacked (a .number) (a .place) (a .parameter) (a .size) (heard .taken) w
-  fields = sound-fields c (led-sound c h s) o q w e
+      Unpacked (heard .edition) (a .number) (a .place) (a .parameter) (a .size) (heard .taken) w
+  fields = sound-fields c (led-sound v c h s) o q w e
 
-  record-hears-in : RecordHears (languageOf (s .listener .book)) h o w
+  names-v : wordEdition w ≡ v
+  names-v =
+      fields .edition ∙ sound-edition c (led-sound v c h s) o
+      ∙ sym (decoded-good c (s .listener) (s .known) .edition) ∙ s .edition
+
+  record-hears-in : RecordHears (languageOf (B (s .listener))) v h o w
   record-hears-in =
       let said = hears (s .listener) h (s .led) o q heard refl in
-      let g = sound-ranged c (led-sound c h s) o q in
+      let g = sound-ranged c (led-sound v c h s) o q in
       record {
+        names = names-v;
         waits = rw (fields .number, fields .size) (Iff·trans (fields-waiting _ (said .clear)) (said .waits));
         has-message = λ n l. rw (fields .size) (Iff·trans (fields-message _ n l) (said .has-message n l));
         refuses =
@@ -272,77 +402,89 @@ module _ (c h : List ℕ) (s : RecordLedBy c h) (o : List ℕ) (q : Octets o) (w
         no-parameter = λ a. fields .parameter ∙ no-parameter _ g (sym (fields .number) ∙ a);
         no-size = λ l. fields .size ∙ no-size _ (omega (arith, fields .number));
         whole =
+            let r = sym (fields .edition) in
             let u = sym (fields .number) in
             let v = sym (fields .place) in
             let b = sym (fields .parameter) in
             let x = sym (fields .size) in
             let y = sym (fields .taken) in
-            fields .whole ∙ (λ i. packed (u i) (v i) (b i) (x i) (y i));
+            fields .whole ∙ (λ i. packed (r i) (u i) (v i) (b i) (x i) (y i));
         answers-by-258 =
             λ a b. said .answers-by-258
             (fields-waiting _ (said .clear) .0 (sym (fields .number) ∙ a, sym (fields .size) ∙ b));
       }
 
-  pub record-hears : RecordHears (languageOf PresentLenient) h o w
-  record-hears = subst (λ (b : Book). RecordHears (languageOf b) h o w)
-      (decoded-good c (s .listener) (s .known) .0) record-hears-in
+  pub record-hears : RecordHears (languageOf (bookOf v lenient)) v h o w
+  record-hears =
+      let g = decoded-good c (s .listener) (s .known) .way in
+      subst (λ (b : Book). RecordHears (languageOf b) v h o w) (λ i. bookOf (s .edition i) (g i)) record-hears-in
 
-  pub record-led-on : (d : List ℕ) → d ≡ listenRecord c o → RecordLedBy d (h ++ take (wordTaken w) o)
+  pub record-led-on : (d : List ℕ) → d ≡ listenRecord c o → RecordLedBy v d (h ++ take (wordTaken w) o)
   record-led-on d f = record {
     listener = heard .listener;
-    known = sound-stays c (led-sound c h s) o q d f .known;
+    known = sound-stays c (led-sound v c h s) o q d f .stands .known;
     led = rw (fields .taken) (led-on (s .listener) h (s .led) o q heard refl);
+    edition = numbers-kept (s .listener) o .0 ∙ s .edition;
   }
 
 -- an answer that a call gave, the next call on the record gives again, takes none and leaves the record as it was
-module _ (c h : List ℕ) (s : RecordLedBy c h) (o : List ℕ) (q : Octets o) (w : ℕ) (e : w ≡ listenAnswer c o)
-    (d : List ℕ) (f : d ≡ listenRecord c o) where
+module _ (v : ℕ) (c h : List ℕ) (s : RecordLedBy v c h) (o : List ℕ) (q : Octets o) (w : ℕ)
+    (e : w ≡ listenAnswer c o) (d : List ℕ) (f : d ≡ listenRecord c o) where
   pub answer-stays : (((wordNumber w ≡ 0) × (wordSize w ≡ 0)) → ⊥) → (o' : List ℕ) (w' : ℕ) (d' : List ℕ) →
       w' ≡ listenAnswer d o' → d' ≡ listenRecord d o' →
-      (w' ≡ packed (wordNumber w) (wordPlace w) (wordParameter w) (wordSize w) 0) × (d' ≡ d)
+      (w' ≡ packed v (wordNumber w) (wordPlace w) (wordParameter w) (wordSize w) 0) × (d' ≡ d)
   unfolding wordOf
   answer-stays n o' w' d' e' f' =
       let l = s .listener in
       let r = heardOf l o in
-      let u = fields c h s o q w e in
+      let u = fields v c h s o q w e in
       let y = hears l h (s .led) o q r refl .clear in
-      let t = sound-stays c (led-sound c h s) o q d f in
+      let t = sound-stays c (led-sound v c h s) o q d f in
       let k = listening.answer-stays l h (s .led) o q r refl
       (λ z. let x = fields-waiting _ y .1 (told-waits _ y .1 z) in n (u .number ∙ x .0, u .size ∙ x .1)) o'
       (heardOf (r .listener) o') refl in
+      let m : r .listener .edition ≡ v = numbers-kept l o .0 ∙ s .edition in
       let x = sym (u .number) in
       let y = sym (u .place) in
       let b = sym (u .parameter) in
       let z = sym (u .size) in (
-        e' ∙ sound-word d t o' ∙ ap wordOf k ∙ (λ i. packed (x i) (y i) (b i) (z i) 0),
-        f' ∙ sound-record d t o' ∙ ap (λ (v : Heard). recordOf (v .listener)) k
-            ∙ sym (f ∙ sound-record c (led-sound c h s) o),
+        e' ∙ sound-word d t o' ∙ ap wordOf k ∙ (λ i. packed (m i) (x i) (y i) (b i) (z i) 0),
+        f' ∙ sound-record d t o' ∙ ap (λ (x : Heard). recordOf (x .listener)) k
+            ∙ sym (f ∙ sound-record c (led-sound v c h s) o),
       )
 
 -- ---- reset
-pub reset-led : (c d : List ℕ) → length c ≡ listenerSize → d ≡ resetRecord c → RecordLedBy d []
-unfolding resetRecord newListener machine
-reset-led c d n e =
-    let k : d ≡ recordOf (newListener PresentLenient) = e ∙ pick-yes _ _ _ (of-eq _ _ n) in
-    record {
-      listener = newListener PresentLenient;
-      known = ap decodeOf k ∙ decode-encode (newListener PresentLenient) refl tt;
-      led = new-led PresentLenient;
-    }
+module _ (v : ℕ) (c : List ℕ) (w : ℕ) (d : List ℕ) (e : w ≡ resetAnswer v c) (f : d ≡ resetRecord v c) where
+  pub reset-new : length c ≡ listenerSize → T (edition v) →
+      Unpacked v 0 0 0 0 0 w × (d ≡ recordOf (newListener v lenient))
+  unfolding resetAnswer resetRecord
+  reset-new n t =
+      let s = of-eq _ _ n in (
+        subst (Unpacked v 0 0 0 0 0) (sym (e ∙ pick-yes _ _ _ s ∙ pick-yes _ _ _ t))
+            (unpacked v 0 0 0 0 0 (edition-small v t) (omega arith) (omega arith) (omega arith) (omega arith)
+            (omega arith)),
+        f ∙ pick-yes _ _ _ s ∙ pick-yes _ _ _ t,
+      )
 
-pub reset-new : (c : List ℕ) (w : ℕ) (d : List ℕ) → w ≡ resetAnswer c → d ≡ resetRecord c →
-    length c ≡ listenerSize → Unpacked 0 0 0 0 0 w × (d ≡ recordOf (newListener PresentLenient))
-unfolding resetAnswer resetRecord
-reset-new c w d e f n =
-    let t = of-eq _ _ n in (
-      subst (Unpacked 0 0 0 0 0) (sym (e ∙ pick-yes _ _ _ t))
-          (unpacked 0 0 0 0 0 (omega arith) (omega arith) (omega arith) (omega arith) (omega arith)),
-      f ∙ pick-yes _ _ _ t,
-    )
+  pub reset-16 : length c ≡ listenerSize → (T (edition v) → ⊥) → Sixteen c w d
+  unfolding resetAnswer resetRecord
+  reset-16 n t =
+      let s = of-eq _ _ n in
+      sixteen c w d (e ∙ pick-yes _ _ _ s ∙ pick-not _ _ _ t) (f ∙ pick-yes _ _ _ s ∙ pick-not _ _ _ t)
 
-pub reset-17 : (c : List ℕ) (w : ℕ) (d : List ℕ) → w ≡ resetAnswer c → d ≡ resetRecord c →
-    (length c ≡ listenerSize → ⊥) → Seventeen c w d
-unfolding resetAnswer resetRecord
-reset-17 c w d e f n =
-    let k : T (length c =? listenerSize) → ⊥ = λ t. n (eq-of _ _ t) in
-    seventeen c w d (e ∙ pick-not _ _ _ k) (f ∙ pick-not _ _ _ k)
+  pub reset-17 : (length c ≡ listenerSize → ⊥) → Seventeen c w d
+  unfolding resetAnswer resetRecord
+  reset-17 n =
+      let k : T (length c =? listenerSize) → ⊥ = λ t. n (eq-of _ _ t) in
+      seventeen c w d (e ∙ pick-not _ _ _ k) (f ∙ pick-not _ _ _ k)
+
+  pub reset-led : length c ≡ listenerSize → T (edition v) → RecordLedBy v d []
+  unfolding newListener machine
+  reset-led n t =
+      let k = reset-new n t .1 in
+      record {
+        listener = newListener v lenient;
+        known = ap decodeOf k ∙ decode-encode (newListener v lenient) refl tt;
+        led = new-led v lenient (by-lenient v t);
+        edition = refl;
+      }

@@ -3,18 +3,21 @@
 -- Assumes nothing.
 use Prim.Native.Nat.{ℕ, _≤_, _<_, _^_}
 use mathlib.Core.Path.{_≡_, refl, sym, _∙_, ap, subst}
+use mathlib.Core.Logic.{_⊎_, inl, inr}
 use mathlib.Core.List.{List}
 use mathlib.Core.Option.{none}
 use native.Mathlib.Omega.{arith}
 use lib.ListN.{length}
 use lib.Dec.{T}
 use Rattle.rules.specs.Tests.{_=?_}
-use Rattle.rules.proofs.Tests.{pick-yes, pick-not, of-eq, eq-of, clash}
+use Rattle.rules.proofs.Tests.{pick-yes, pick-not, of-eq, eq-of, decide, clash}
 use Rattle.rules.specs.Octets.{Octets}
 use Rattle.rules.specs.Table.{rulesOf}
-use Rattle.rules.specs.declared.Book.the-variants.{PresentLenient}
+use Rattle.rules.specs.Editions.{lenient, edition, known, bookOf}
+use Rattle.rules.proofs.Editions.{edition-of}
+use Rattle.rules.specs.declared.Book.{Book}
 use Rattle.rules.specs.declared.Fault.{Fault}
-use Rattle.rules.specs.Message.{Message, octets, LegalMessage}
+use Rattle.rules.specs.Message.{Message, octets, LegalMessage, Accepts}
 use Rattle.rules.specs.Counting.{counted, Counts}
 use Rattle.rules.proofs.Grammar.{spoken-of, accepted-size}
 use Rattle.message.specs.declared.Verdict.{Verdict}
@@ -30,84 +33,103 @@ use Rattle.message.proofs.Searching.{counted-part}
 use Rattle.message.specs.Places.{contentsAt}
 use Rattle.message.proofs.Places.{counted-at, counted-inside}
 use Rattle.caption.specs.declared.Shown.{Shown}
+use Rattle.caption.specs.declared.Finding.{Finding}
 use Rattle.caption.specs.declared.Shown.the-variants as found
-use Rattle.caption.specs.Told.{told}
-use Rattle.caption.specs.Caption.{findOf, sliceOf}
-use Rattle.caption.proofs.Finds.{finds}
-use Rattle.caption.proofs.Told.{some-number, declined-so}
-use Rattle.firmware.specs.Word.{packed, Unpacked, unpacked, Seventeen, seventeen}
+use Rattle.caption.specs.Told.{Told, told, Clear}
+use Rattle.caption.specs.Caption.{findIn, sliceOf}
+use Rattle.caption.specs.Finds.{Finds, FindsBy}
+use Rattle.caption.proofs.Editions.{finds-by}
+use Rattle.caption.proofs.Told.{declined-so}
+use Rattle.firmware.specs.Word.{packed, Unpacked, unpacked, plain-word, Seventeen, seventeen}
 use Rattle.firmware.specs.PartRecord.{partRecord, partSide, partStart, partLength}
 use Rattle.firmware.proofs.PartRecord.{part-back}
 use Rattle.firmware.specs.Exports.{badRecord, partWord, countedUnder, countedAnswer, foundWord, partFrom, captionAnswer, captionRecord}
+use Rattle.firmware.proofs.RecordHears.{edition-small}
 use Rattle.firmware.specs.RecordParts.{RecordCounts, RecordFinds}
 use Rattle.firmware.specs.Sizes.{partSize}
 
 -- number, place and parameter of a verdict fit their octets
-refusal-word : (o : List ℕ) → Octets o → (f : Fault) → verdictOf (rulesOf PresentLenient) o ≡ Declined f →
-    Unpacked (f .number) (f .place) (f .parameter) 0 0 (packed (f .number) (f .place) (f .parameter) 0 0)
-refusal-word o q f e =
-    let j = judges-of PresentLenient o q in
-    unpacked (f .number) (f .place) (f .parameter) 0 0
-    (omega (arith, told-small (spoken-of PresentLenient) _ (number-of j f e) .1))
+refusal-word : (b : Book) (v : ℕ) → v < 2 → (o : List ℕ) → Octets o → (f : Fault) →
+    verdictOf (rulesOf b) o ≡ Declined f →
+    Unpacked v (f .number) (f .place) (f .parameter) 0 0 (packed v (f .number) (f .place) (f .parameter) 0 0)
+refusal-word b v h o q f e =
+    let j = judges-of b o q in
+    unpacked v (f .number) (f .place) (f .parameter) 0 0 h
+    (omega (arith, told-small (spoken-of b) _ (number-of j f e) .1))
     (omega (arith, near-declined j f e)) (omega (arith, few-declined j f e)) (omega arith) (omega arith)
 
-module _ (o : List ℕ) (t w : ℕ) (a : w ≡ countedAnswer o t) (q : Octets o) where
-  abbrev v : Verdict
-  v = verdictOf (rulesOf PresentLenient) o
+-- an unknown edition is 16
+pub no-edition : (e : ℕ) (o : List ℕ) (t w : ℕ) → w ≡ countedAnswer e o t → (T (edition e) → ⊥) →
+    Unpacked 0 16 0 0 0 0 w
+unfolding countedAnswer
+no-edition e o t w a n = plain-word 16 w (omega arith) (a ∙ pick-not _ _ _ n)
 
-  refused-is : (f : Fault) → v ≡ Declined f → w ≡ packed (f .number) (f .place) (f .parameter) 0 0
-  unfolding countedAnswer countedUnder
-  refused-is f e = a ∙ ap (λ (x : Verdict). countedUnder x o t) e
+module _ (e : ℕ) (k : T (edition e)) (o : List ℕ) (t w : ℕ) (a' : w ≡ countedAnswer e o t) (q : Octets o) where
+  abbrev b : Book
+  b = bookOf e lenient
+
+  abbrev v : Verdict
+  v = verdictOf (rulesOf b) o
+
+  a : w ≡ countedUnder e v o t
+  unfolding countedAnswer
+  a = a' ∙ pick-yes _ _ _ k
+
+  refused-is : (f : Fault) → v ≡ Declined f → w ≡ packed e (f .number) (f .place) (f .parameter) 0 0
+  unfolding countedUnder
+  refused-is f z = a ∙ ap (λ (x : Verdict). countedUnder e x o t) z
 
   refused-word : (x : Verdict) → v ≡ x → 1 ≤ message.told x .number →
-      Unpacked (message.told x .number) (message.told x .place) (message.told x .parameter) 0 0 w
+      Unpacked e (message.told x .number) (message.told x .place) (message.told x .parameter) 0 0 w
   unfolding message.told
-  refused-word (Accepted n) e l = absurd (omega arith)
-  refused-word (Declined f) e l =
-      subst (Unpacked (f .number) (f .place) (f .parameter) 0 0) (sym (refused-is f e)) (refusal-word o q f e)
+  refused-word (Accepted n) z l = absurd (omega arith)
+  refused-word (Declined f) z l =
+      subst (Unpacked e (f .number) (f .place) (f .parameter) 0 0) (sym (refused-is f z))
+      (refusal-word b e (edition-small e k) o q f z)
 
-  part-is : (m : Message) → LegalMessage (rulesOf PresentLenient) m → octets m ≡ o →
-      w ≡ partWord (countedAt (rulesOf PresentLenient) o t)
-  unfolding countedAnswer countedUnder
-  part-is m l e =
-      a ∙ ap (λ (x : Verdict). countedUnder x o t)
-      (accepted-iff (judges-of PresentLenient o q) (length o) .1 (refl, (m, l, e)))
+  part-is : (m : Message) → LegalMessage (rulesOf b) m → octets m ≡ o →
+      w ≡ partWord e (countedAt (rulesOf b) o t)
+  unfolding countedUnder
+  part-is m l z =
+      a ∙ ap (λ (x : Verdict). countedUnder e x o t)
+      (accepted-iff (judges-of b o q) (length o) .1 (refl, (m, l, z)))
 
-  counts-word : (m : Message) → LegalMessage (rulesOf PresentLenient) m → octets m ≡ o →
-      (x : List ℕ) (c : Counts (rulesOf PresentLenient) m t x) → Unpacked 0 0 0 (length x) (contentsAt (c .first)) w
+  counts-word : (m : Message) → LegalMessage (rulesOf b) m → octets m ≡ o →
+      (x : List ℕ) (c : Counts (rulesOf b) m t x) → Unpacked e 0 0 0 (length x) (contentsAt (c .first)) w
   unfolding partWord
-  counts-word m l e x c =
-      let p = ap (λ (z : List ℕ). countedAt (rulesOf PresentLenient) z t) (sym e)
-      ∙ counted-at (rulesOf PresentLenient) m t x c in
-      let i = counted-inside o (rulesOf PresentLenient) t _ _ p in
-      let n = accepted-size (rulesOf PresentLenient) o (m, l, e) .1 in
-      subst (Unpacked 0 0 0 (length x) (contentsAt (c .first))) (sym (part-is m l e ∙ ap partWord p))
-      (unpacked 0 0 0 (length x) (contentsAt (c .first)) (omega arith) (omega arith) (omega arith) (omega (arith, i, n))
+  counts-word m l y x c =
+      let p = ap (λ (z : List ℕ). countedAt (rulesOf b) z t) (sym y)
+      ∙ counted-at (rulesOf b) m t x c in
+      let i = counted-inside o (rulesOf b) t _ _ p in
+      let n = accepted-size (rulesOf b) o (m, l, y) .1 in
+      subst (Unpacked e 0 0 0 (length x) (contentsAt (c .first))) (sym (part-is m l y ∙ ap (partWord e) p))
+      (unpacked e 0 0 0 (length x) (contentsAt (c .first)) (edition-small e k) (omega arith) (omega arith) (omega arith) (omega (arith, i, n))
       (omega (arith, i, n)))
 
-  nowhere : (p : Part) → partOf o p ≡ none → partWord p ≡ packed 0 0 0 0 0
+  nowhere : (p : Part) → partOf o p ≡ none → partWord e p ≡ packed e 0 0 0 0 0
   unfolding partOf partWord
-  nowhere (At start n) e = clash cc
-  nowhere Nowhere e = refl
+  nowhere (At start n) z = clash cc
+  nowhere Nowhere z = refl
 
-  none-word : (m : Message) → LegalMessage (rulesOf PresentLenient) m → octets m ≡ o →
-      counted (rulesOf PresentLenient) m t ≡ none → Unpacked 0 0 0 0 0 w
-  none-word m l e n =
-      let p = ap (λ (z : List ℕ). partOf z (countedAt (rulesOf PresentLenient) z t)) (sym e)
-      ∙ counted-part (rulesOf PresentLenient) m t ∙ n in
-      subst (Unpacked 0 0 0 0 0) (sym (part-is m l e ∙ nowhere _ p))
-      (unpacked 0 0 0 0 0 (omega arith) (omega arith) (omega arith) (omega arith) (omega arith))
+  none-word : (m : Message) → LegalMessage (rulesOf b) m → octets m ≡ o →
+      counted (rulesOf b) m t ≡ none → Unpacked e 0 0 0 0 0 w
+  none-word m l y n =
+      let p = ap (λ (z : List ℕ). partOf z (countedAt (rulesOf b) z t)) (sym y)
+      ∙ counted-part (rulesOf b) m t ∙ n in
+      subst (Unpacked e 0 0 0 0 0) (sym (part-is m l y ∙ nowhere _ p))
+      (unpacked e 0 0 0 0 0 (edition-small e k) (omega arith) (omega arith) (omega arith) (omega arith) (omega arith))
 
-  pub record-counts : RecordCounts o t w
+  pub record-counts : RecordCounts e o t w
   record-counts = record {
     verdict = v;
-    judged = judges-of PresentLenient o q;
+    judged = judges-of b o q;
     refused = refused-word v refl;
     counts = counts-word;
     none-counts = none-word;
   }
 
-module _ (o d c : List ℕ) (w : ℕ) (c' : List ℕ) (a : w ≡ captionAnswer o d c) (b : c' ≡ captionRecord o d c) where
+module _ (e : ℕ) (o d c : List ℕ) (w : ℕ) (c' : List ℕ) (a : w ≡ captionAnswer e o d c)
+    (b : c' ≡ captionRecord e o d c) where
   -- another size than 24 is 17, and the record stays
   pub no-part : (length c ≡ partSize → ⊥) → Seventeen c w c'
   unfolding captionAnswer captionRecord
@@ -116,30 +138,59 @@ module _ (o d c : List ℕ) (w : ℕ) (c' : List ℕ) (a : w ≡ captionAnswer o
       seventeen c w c' (a ∙ pick-not _ _ _ f) (b ∙ pick-not _ _ _ f)
 
   module _ (q : Octets o) (n : length c ≡ partSize) where
+    abbrev found-by : Finding
+    found-by = findIn e lenient o d
+
     abbrev r : Shown
-    r = findOf (rulesOf PresentLenient) o d
+    r = found-by .shown
 
-    found-small : (x : Shown) → ((f : Fault) → x ≡ found.Refused f →
-        (f .number < 256) × (f .place ≤ 258) × (f .parameter ≤ 85)) →
-        (told x .number < 256) × (told x .place ≤ 258) × (told x .parameter ≤ 85)
+    said : FindsBy e lenient o d found-by
+    said = finds-by e lenient o d q
+
+    -- by a book, number, place and parameter fit their octets
+    found-small : (v : Book) (x : Shown) → Finds (rulesOf v) o d x → (y : Shown) → x ≡ y →
+        (told y .number < 256) × (told y .place ≤ 258) × (told y .parameter ≤ 85)
     unfolding told
-    found-small (found.InMessage start k) h = (omega arith, omega arith, omega arith)
-    found-small (found.InDirectory start k) h = (omega arith, omega arith, omega arith)
-    found-small (found.Refused f) h = h f refl
+    found-small v x F (found.InMessage start k) z = (omega arith, omega arith, omega arith)
+    found-small v x F (found.InDirectory start k) z = (omega arith, omega arith, omega arith)
+    found-small v x F (found.Refused f) z =
+        let y = declined-so F f z in (
+          omega (arith, told-small (spoken-of v) _ (number-of (F .judged) f y) .1),
+          near-declined (F .judged) f y,
+          few-declined (F .judged) f y,
+        )
 
-    word-is : Unpacked (told r .number) (told r .place) (told r .parameter) 0 0 w
+    small : (told r .number < 256) × (told r .place ≤ 258) × (told r .parameter ≤ 85)
+    small = go (decide (known e lenient))
+      where
+        go : T (known e lenient) ⊎ (T (known e lenient) → ⊥) →
+            (told r .number < 256) × (told r .place ≤ 258) × (told r .parameter ≤ 85)
+        go (inl t) = found-small (bookOf e lenient) r (said .by-book t) r refl
+        go (inr n) =
+            let z = said .sixteen 0 0 .1 (refl, refl, n) in (
+              omega (arith, ap (λ (x : Told). x .number) z),
+              omega (arith, ap (λ (x : Told). x .place) z),
+              omega (arith, ap (λ (x : Told). x .parameter) z),
+            )
+
+    named-small : found-by .edition < 2
+    named-small = go (decide (told r .number =? 16)) (decide (known e lenient))
+      where
+        go : T (told r .number =? 16) ⊎ (T (told r .number =? 16) → ⊥) →
+            T (known e lenient) ⊎ (T (known e lenient) → ⊥) → found-by .edition < 2
+        go (inl x) t = omega (arith, said .names-none (eq-of _ _ x))
+        go (inr x) (inl t) =
+            omega (arith, said .names (λ z. x (of-eq _ _ z)), edition-small e (edition-of e lenient t))
+        go (inr x) (inr t) = absurd (x (of-eq _ _ (said .unknown t)))
+
+    word-is : Unpacked (found-by .edition) (told r .number) (told r .place) (told r .parameter) 0 0 w
     unfolding captionAnswer foundWord
     word-is =
-        let x = finds PresentLenient o d q in
-        let k = found-small r (λ f e. let y = declined-so x f e in (
-          omega (arith, told-small (spoken-of PresentLenient) _ (number-of (x .judged) f y) .1),
-          near-declined (x .judged) f y,
-          few-declined (x .judged) f y,
-        )) in
-        subst (Unpacked (told r .number) (told r .place) (told r .parameter) 0 0)
+        let k = small in
+        subst (Unpacked (found-by .edition) (told r .number) (told r .place) (told r .parameter) 0 0)
         (sym (a ∙ pick-yes (length c =? partSize) _ badRecord (of-eq _ _ n)))
-        (unpacked (told r .number) (told r .place) (told r .parameter) 0 0 (k .0) (omega (arith, k .1))
-        (omega (arith, k .2)) (omega arith) (omega arith))
+        (unpacked (found-by .edition) (told r .number) (told r .place) (told r .parameter) 0 0 named-small (k .0)
+        (omega (arith, k .1)) (omega (arith, k .2)) (omega arith) (omega arith))
 
     cells-are : c' ≡ partFrom c r
     unfolding captionRecord
@@ -166,28 +217,30 @@ module _ (o d c : List ℕ) (w : ℕ) (c' : List ℕ) (a : w ≡ captionAnswer o
     slices-small a b (found.Refused f) = omega (arith, b)
 
     part-is-found : told r .number ≡ 0 → c' ≡ partRecord (told r .side) (told r .start) (told r .size)
-    part-is-found e =
-        let x = finds PresentLenient o d q in
-        cells-are
-        ∙ part-from r (some-number x) e
+    part-is-found e = cells-are ∙ part-from r (λ f z. subst Clear z (said .clear)) e
+
+    accepted : told r .number ≡ 0 → Accepts (rulesOf (bookOf e lenient)) o
+    accepted z = go (decide (known e lenient))
+      where
+        go : T (known e lenient) ⊎ (T (known e lenient) → ⊥) → Accepts (rulesOf (bookOf e lenient)) o
+        go (inl t) = said .by-book t .done .0 z
+        go (inr n) = absurd (omega (arith, z, said .unknown n))
 
     back : length d < 256 ^ 8 → told r .number ≡ 0 →
         (partSide c' ≡ told r .side) × (partStart c' ≡ told r .start) × (partLength c' ≡ told r .size)
-    back h e =
-        let x = finds PresentLenient o d q in
-        let i = slices-small h (accepted-size (rulesOf PresentLenient) o (x .done .0 e) .1) r in
+    back h z =
+        let i = slices-small h (accepted-size (rulesOf (bookOf e lenient)) o (accepted z) .1) r in
         subst (λ (z : List ℕ). (partSide z ≡ told r .side) × (partStart z ≡ told r .start)
-        × (partLength z ≡ told r .size)) (sym (part-is-found e))
+        × (partLength z ≡ told r .size)) (sym (part-is-found z))
         (part-back (told r .side) (told r .start) (told r .size)
-        (omega (arith, i, x .inside)) (omega (arith, i, x .inside)))
+        (omega (arith, i, said .inside)) (omega (arith, i, said .inside)))
 
-    pub record-finds : RecordFinds o d c w c'
+    pub record-finds : RecordFinds e o d c w c'
     unfolding partFrom
     record-finds =
-        let x = finds PresentLenient o d q in
         record {
-          found = r;
-          finds = x;
+          finding = found-by;
+          finds = said;
           word = word-is;
           part = part-is-found;
           read-back = back;

@@ -8,12 +8,11 @@ use native.Mathlib.Numerals.{add-one}
 use native.Mathlib.Omega.{arith}
 use lib.ListN.{length, length-set, take, drop, set, getD}
 use lib.Seq.{take-all, take-suc, take-suc-set, drop-drop}
-use Rattle.rules.specs.Table.{rulesOf}
-use Rattle.rules.specs.declared.Book.the-variants.{PresentLenient}
+use Rattle.rules.specs.Editions.{lenient}
 use Rattle.rules.proofs.Returns.{pick-t, pick-f, via}
 use Rattle.desk.specs.declared.Desk.{Desk}
-use Rattle.desk.specs.declared.Outcome.{Outcome}
-use Rattle.desk.specs.Settle.{settleOf}
+use Rattle.desk.specs.declared.Settling.{Settling}
+use Rattle.desk.specs.Settle.{settleIn}
 use Rattle.rules.specs.Laying.{laidAt}
 use Rattle.rules.proofs.Laying.{laid-front, laid-length, rest-whole}
 use Rattle.desk.specs.References.{placeCount}
@@ -124,18 +123,17 @@ first-four (p ∷ q ∷ r ∷ []) h a b x y = absurd (omega arith)
 first-four (p ∷ q ∷ r ∷ s ∷ cells) h a b x y = refl
 
 -- ---- settling
-module _ (c o : List ℕ) (b : Bool) (p : b ≡ isRecord c) where
-  pub settles-known : b ≡ true → (d : Desk) (x : Outcome) (w : ℕ) (last : List ℕ) → d ≡ deskIn c →
-      x ≡ settleOf (rulesOf PresentLenient) d o → w ≡ deskWord (x .answer) → last ≡ deskRecord (x .desk) →
-      (w ≡ settleAnswer c o) × (last ≡ settleRecord c o)
+module _ (v : ℕ) (c o : List ℕ) (b : Bool) (p : b ≡ isRecord c) where
+  pub settles-known : b ≡ true → (d : Desk) (x : Settling) (w : ℕ) (last : List ℕ) → d ≡ deskIn c →
+      x ≡ settleIn v lenient d o → w ≡ deskWord (x .edition) (x .outcome .answer) →
+      last ≡ deskRecord (x .outcome .desk) → (w ≡ settleAnswer v c o) × (last ≡ settleRecord v c o)
   unfolding settleAnswer settleRecord
   settles-known t d x w last q k f g =
-      let e : x ≡ settleOf (rulesOf PresentLenient) (deskIn c) o =
-      k ∙ ap (λ (y : Desk). settleOf (rulesOf PresentLenient) y o) q in (
-        pick-t _ _ _ _ (via _ _ _ p t) (f ∙ ap (λ (y : Outcome). deskWord (y .answer)) e),
-        pick-t _ _ _ _ (via _ _ _ p t) (g ∙ ap (λ (y : Outcome). deskRecord (y .desk)) e),
+      let e : x ≡ settleIn v lenient (deskIn c) o = k ∙ ap (λ (y : Desk). settleIn v lenient y o) q in (
+        pick-t _ _ _ _ (via _ _ _ p t) (f ∙ ap (λ (y : Settling). deskWord (y .edition) (y .outcome .answer)) e),
+        pick-t _ _ _ _ (via _ _ _ p t) (g ∙ ap (λ (y : Settling). deskRecord (y .outcome .desk)) e),
       )
 
-  pub settles-unknown : b ≡ false → (w : ℕ) → w ≡ badRecord → (w ≡ settleAnswer c o) × (c ≡ settleRecord c o)
+  pub settles-unknown : b ≡ false → (w : ℕ) → w ≡ badRecord → (w ≡ settleAnswer v c o) × (c ≡ settleRecord v c o)
   unfolding settleAnswer settleRecord
   settles-unknown t w g = (pick-f _ _ _ _ (via _ _ _ p t) g, pick-f _ _ _ _ (via _ _ _ p t) refl)

@@ -10,10 +10,11 @@ use lib.Dec.{T}
 use Rattle.rules.specs.Tests.{_≤?_, _=?_}
 use Rattle.rules.proofs.Tests.{pick-yes, pick-not, of-eq, eq-of, le-of, not-le, decide, clash}
 use Rattle.rules.specs.Octets.{Octets}
-use Rattle.rules.specs.Table.{rulesOf}
-use Rattle.rules.specs.declared.Book.the-variants.{PresentLenient}
-use Rattle.rules.proofs.ContentLaw.{sound-rules}
-use Rattle.rules.specs.Message.{Accepts}
+use Rattle.rules.specs.Table.{Rules}
+use Rattle.rules.specs.Editions.{lenient, edition, bookOf}
+use Rattle.rules.proofs.Editions.{book-edition, by-lenient}
+use Rattle.rules.proofs.ContentLaw.{SoundRules, sound-rules}
+use Rattle.rules.specs.Message.{Message, Accepts}
 use Rattle.rules.specs.declared.Fault.{Fault}
 use Rattle.draft.specs.declared.Draft.{Draft}
 use Rattle.draft.specs.Draft.{noEntry}
@@ -26,15 +27,16 @@ use Rattle.reader.specs.Told.{told}
 use Rattle.reader.specs.Reads.{Reads, texts}
 use Rattle.reader.proofs.Answered.{reads-of, near, area-enough}
 use Rattle.reader.proofs.Told.{short-iff, drafted-as, texts-accepted, some-number}
-use Rattle.firmware.specs.Word.{Unpacked, unpacked, Seventeen, seventeen}
+use Rattle.firmware.specs.Word.{Unpacked, unpacked, Sixteen, sixteen, Seventeen, seventeen}
 use Rattle.firmware.specs.DraftRecord.{draftRecord, entryIn}
 use Rattle.firmware.proofs.DraftRecord.{entry-back, draft-inside}
-use Rattle.firmware.specs.Exports.{badRecord, packedWord, recordFrom, readAnswer, readRecord, readTexts}
+use Rattle.firmware.specs.Exports.{badRecord, noEdition, rulesBy, packedWord, recordFrom, readAnswer, readRecord, readTexts}
+use Rattle.firmware.proofs.RecordHears.{edition-small}
 use Rattle.firmware.specs.RecordReads.{RecordReads}
 use Rattle.firmware.specs.Sizes.{draftSize}
 
-module _ (o c t : List ℕ) (w : ℕ) (c' t' : List ℕ) (a : w ≡ readAnswer o c t) (b : c' ≡ readRecord o c t)
-    (d : t' ≡ readTexts o c t) where
+module _ (v : ℕ) (o c t : List ℕ) (w : ℕ) (c' t' : List ℕ) (a : w ≡ readAnswer v o c t)
+    (b : c' ≡ readRecord v o c t) (d : t' ≡ readTexts v o c t) where
   pub unread : (length c ≡ draftSize → ⊥) → Seventeen c w c' × (t' ≡ t)
   unfolding readAnswer readRecord readTexts
   unread n =
@@ -44,34 +46,50 @@ module _ (o c t : List ℕ) (w : ℕ) (c' t' : List ℕ) (a : w ≡ readAnswer o
         d ∙ pick-not (length c =? draftSize) _ t f,
       )
 
-  module _ (q : Octets o) (n : length c ≡ draftSize) where
-    abbrev p : Packed
-    p = packOf (rulesOf PresentLenient) o (length t)
+  pub no-edition : length c ≡ draftSize → (T (edition v) → ⊥) → Sixteen c w c' × (t' ≡ t)
+  unfolding readAnswer readRecord readTexts
+  no-edition n k =
+      let f = of-eq (length c) draftSize n in (
+        sixteen c w c' (a ∙ pick-yes (length c =? draftSize) _ badRecord f ∙ pick-not (edition v) _ noEdition k)
+            (b ∙ pick-yes (length c =? draftSize) _ c f ∙ pick-not (edition v) _ c k),
+        d ∙ pick-yes (length c =? draftSize) _ t f ∙ pick-not (edition v) _ t k,
+      )
 
-    word-is : Unpacked (told p .number) (told p .place) (told p .parameter) (told p .size) 0 w
+  module _ (q : Octets o) (n : length c ≡ draftSize) (known : T (edition v)) where
+    abbrev R : Rules
+    R = rulesBy v
+
+    S : SoundRules R
+    S = sound-rules (bookOf v lenient)
+
+    abbrev p : Packed
+    p = packOf R o (length t)
+
+    word-is : Unpacked v (told p .number) (told p .place) (told p .parameter) (told p .size) 0 w
     unfolding readAnswer packedWord
     word-is =
-        let k = near (rulesOf PresentLenient) (sound-rules PresentLenient) o t q in
-        subst (Unpacked (told p .number) (told p .place) (told p .parameter) (told p .size) 0)
-        (sym (a ∙ pick-yes (length c =? draftSize) _ badRecord (of-eq _ _ n)))
-        (unpacked (told p .number) (told p .place) (told p .parameter) (told p .size) 0 (omega (arith, k .number))
+        let k = near R S o t q in
+        subst (Unpacked v (told p .number) (told p .place) (told p .parameter) (told p .size) 0)
+        (sym (a ∙ pick-yes (length c =? draftSize) _ badRecord (of-eq _ _ n) ∙ pick-yes (edition v) _ noEdition known))
+        (unpacked v (told p .number) (told p .place) (told p .parameter) (told p .size) 0 (edition-small v known)
+        (omega (arith, k .number))
         (omega (arith, k .place)) (omega (arith, k .parameter)) (omega (arith, k .size)) (omega arith))
 
-    cells-are : c' ≡ recordFrom o c p
+    cells-are : c' ≡ recordFrom R o c p
     unfolding readRecord
-    cells-are = b ∙ pick-yes (length c =? draftSize) _ c (of-eq _ _ n)
+    cells-are = b ∙ pick-yes (length c =? draftSize) _ c (of-eq _ _ n) ∙ pick-yes (edition v) _ c known
 
-    texts-are : t' ≡ areaAfter (rulesOf PresentLenient) o t
+    texts-are : t' ≡ areaAfter R o t
     unfolding readTexts
-    texts-are = d ∙ pick-yes (length c =? draftSize) _ t (of-eq _ _ n)
+    texts-are = d ∙ pick-yes (length c =? draftSize) _ t (of-eq _ _ n) ∙ pick-yes (edition v) _ t known
 
     abbrev r : Reading
-    r = readOf (rulesOf PresentLenient) o (length t)
+    r = readOf R o (length t)
 
-    reads-is : Reads (rulesOf PresentLenient) o t r t'
+    reads-is : Reads R o t r t'
     reads-is =
-        subst (Reads (rulesOf PresentLenient) o t r) (sym texts-are)
-        (reads-of (rulesOf PresentLenient) (sound-rules PresentLenient) o t q)
+        subst (Reads R o t r) (sym texts-are)
+        (reads-of R S o t q)
 
     texts-answer : (x : Packed) → r .answer ≡ x → told x .number ≡ 0 → (k : ℕ) × (r .answer ≡ Texts k)
     unfolding told
@@ -85,53 +103,58 @@ module _ (o c t : List ℕ) (w : ℕ) (c' t' : List ℕ) (a : w ≡ readAnswer o
 
     record-of : (k : ℕ) → r .answer ≡ Texts k → c' ≡ draftRecord (r .draft)
     unfolding readOf draftFrom recordFrom
-    record-of k e = cells-are ∙ ap (recordFrom o c) e
-        ∙ sym (ap (λ (x : Packed). draftRecord (draftFrom (rulesOf PresentLenient) o x)) e)
+    record-of k e = cells-are ∙ ap (recordFrom R o c) e
+        ∙ sym (ap (λ (x : Packed). draftRecord (draftFrom R o x)) e)
+
+    of-edition : (m : Message) → draftOf R m .edition ≡ v
+    unfolding draftOf
+    of-edition m = book-edition v lenient (by-lenient v known)
 
     -- an accepted message that was read had room for its texts, which are 253 octets at most
     back : (k : ℕ) → r .answer ≡ Texts k →
-        (getD c' 0 0 ≡ r .draft .kind) × (getD c' 1 0 ≡ r .draft .count)
+        (getD c' 0 0 ≡ r .draft .kind) × (getD c' 1 0 ≡ r .draft .count) × (getD c' 2 0 ≡ v)
         × ((i : ℕ) → entryIn c' i ≡ getD (r .draft .entries) i noEntry)
     unfolding draftRecord
     back k e =
         go (texts-accepted reads-is k e)
-        (decide (length (texts (rulesOf PresentLenient) (texts-accepted reads-is k e .0)) ≤? length t))
+        (decide (length (texts R (texts-accepted reads-is k e .0)) ≤? length t))
       where
-        of-draft : (x : Draft) → r .draft ≡ x →
+        of-draft : (x : Draft) → r .draft ≡ x → x .edition ≡ v →
             ((i : ℕ) → entryIn (draftRecord x) i ≡ getD (x .entries) i noEntry) →
-            (getD c' 0 0 ≡ r .draft .kind) × (getD c' 1 0 ≡ r .draft .count)
+            (getD c' 0 0 ≡ r .draft .kind) × (getD c' 1 0 ≡ r .draft .count) × (getD c' 2 0 ≡ v)
             × ((i : ℕ) → entryIn c' i ≡ getD (r .draft .entries) i noEntry)
-        of-draft x z f =
+        of-draft x z u f =
             let g = record-of k e ∙ ap draftRecord z in (
               ap (λ (l : List ℕ). getD l 0 0) g
                   ∙ sym (ap (λ (y : Draft). y .kind) z),
               ap (λ (l : List ℕ). getD l 1 0) g
                   ∙ sym (ap (λ (y : Draft). y .count) z),
+              ap (λ (l : List ℕ). getD l 2 0) g ∙ u,
               λ i. ap (λ (l : List ℕ). entryIn l i) g ∙ f i
                   ∙ sym (ap (λ (y : Draft). getD (y .entries) i noEntry) z),
             )
 
-        go : (w : Accepts (rulesOf PresentLenient) o) →
-            T (length (texts (rulesOf PresentLenient) (w .0)) ≤? length t)
-            ⊎ (T (length (texts (rulesOf PresentLenient) (w .0)) ≤? length t) → ⊥) →
-            (getD c' 0 0 ≡ r .draft .kind) × (getD c' 1 0 ≡ r .draft .count)
+        go : (w : Accepts R o) →
+            T (length (texts R (w .0)) ≤? length t)
+            ⊎ (T (length (texts R (w .0)) ≤? length t) → ⊥) →
+            (getD c' 0 0 ≡ r .draft .kind) × (getD c' 1 0 ≡ r .draft .count) × (getD c' 2 0 ≡ v)
             × ((i : ℕ) → entryIn c' i ≡ getD (r .draft .entries) i noEntry)
         go (m, l, z) (inl h) =
             let x = drafted-as reads-is m l z (le-of _ _ h) in
-            of-draft (draftOf (rulesOf PresentLenient) m) (ap (λ (y : Reading). y .draft) (x .0))
-            (λ i. entry-back (draftOf (rulesOf PresentLenient) m) i (texts (rulesOf PresentLenient) m)
-            (omega (arith, area-enough (rulesOf PresentLenient) m l)) (draft-inside (rulesOf PresentLenient) m i))
+            of-draft (draftOf R m) (ap (λ (y : Reading). y .draft) (x .0)) (of-edition m)
+            (λ i. entry-back (draftOf R m) i (texts R m)
+            (omega (arith, area-enough R m l)) (draft-inside R m i))
         go (m, l, z) (inr h) =
-            let x = short-iff reads-is (length (texts (rulesOf PresentLenient) m)) .1 (m, l, z, refl, not-le _ _ h) in
+            let x = short-iff reads-is (length (texts R m)) .1 (m, l, z, refl, not-le _ _ h) in
             clash (cc (e, x))
 
-    pub record-reads : RecordReads o c t w c' t'
+    pub record-reads : RecordReads v o c t w c' t'
     unfolding readOf draftFrom recordFrom
     record-reads = record {
       reading = r;
       reads = reads-is;
       word = word-is;
       drafted = λ z. let e = texts-answer _ refl z in record-of (e .0) (e .1);
-      refused = λ l. cells-are ∙ ap (recordFrom o c) (refused-answer _ refl l .1);
+      refused = λ l. cells-are ∙ ap (recordFrom R o c) (refused-answer _ refl l .1);
       read-back = λ z. let e = texts-answer _ refl z in back (e .0) (e .1);
     }

@@ -1,7 +1,7 @@
 -- A desk's record is settled on as promised: the desk that it holds is settled, and the record of what that leaves is
 -- written.
 -- Assumes nothing.
-use Prim.Native.Nat.{ℕ, _≤_}
+use Prim.Native.Nat.{ℕ, _≤_, _<_}
 use mathlib.Core.Path.{_≡_, refl, sym, _∙_, ap, subst}
 use mathlib.Core.Logic.{_⊎_, inl, inr, _↔_, Iff·trans}
 use mathlib.Core.Bool.{Bool}
@@ -14,10 +14,11 @@ use Rattle.rules.specs.Tests.{_=?_}
 use Rattle.rules.proofs.Tests.{pick-yes, pick-not, decide, of-eq, eq-of}
 use Rattle.rules.specs.Octets.{Octets}
 use Rattle.rules.specs.Table.{rulesOf}
-use Rattle.rules.specs.declared.Book.the-variants.{PresentLenient}
+use Rattle.rules.specs.Editions.{lenient, edition, known, bookOf}
+use Rattle.rules.proofs.Editions.{edition-of, by-lenient}
+use Rattle.rules.specs.declared.Book.{Book}
 use Rattle.message.specs.Judges.{verdictNumber}
 use Rattle.message.proofs.Judges.{told-small, near-declined, few-declined, verdict-lenient}
-use Rattle.rules.proofs.ContentLaw.{lenient-others}
 use Rattle.rules.specs.declared.Fault.{Fault}
 use Rattle.rules.specs.Refusals.{noted}
 use Rattle.rules.specs.Language.{languageOf}
@@ -26,34 +27,36 @@ use Rattle.desk.specs.declared.Desk.{Desk}
 use Rattle.desk.specs.declared.Answer.{Answer}
 use Rattle.desk.specs.declared.Answer.the-variants.{Done, Refused}
 use Rattle.desk.specs.declared.Outcome.{Outcome}
+use Rattle.desk.specs.declared.Settling.{Settling}
 use Rattle.desk.proofs.Holding.{all-free}
-use Rattle.desk.specs.Told.{told}
-use Rattle.desk.specs.Settle.{newDesk, settleOf}
+use Rattle.desk.specs.Told.{Told, told, refusal, Clear}
+use Rattle.desk.specs.Settle.{newDesk, settleIn}
 use Rattle.desk.specs.History.{saidUnder, said, later, lastSaid, Call, OpenBy, Names}
 use Rattle.desk.proofs.Words as words
 use Rattle.desk.proofs.History.{History, open-by-last}
-use Rattle.desk.proofs.Settles as settles
+use Rattle.desk.proofs.Editions as settles
 use Rattle.desk.proofs.Told.{unfit-iff, refused-iff, full-iff, done-iff, some-number, number-of, noted-at, refusal-leaves}
-use Rattle.desk.specs.Settles.{Settles}
+use Rattle.desk.specs.Settles.{Settles, SettlesBy}
 use Rattle.desk.specs.References.{placeCount}
 use Rattle.firmware.specs.DeskRecord.{isRecord, deskIn, deskRecord}
 use Rattle.firmware.proofs.DeskRecord.{Small, small-in, record-is, decode-encode, encode-decode}
 use Rattle.firmware.specs.Word as word
 use Rattle.firmware.specs.Word.{wordNumber, Unpacked, unpacked, Seventeen}
+use Rattle.firmware.proofs.Classes.{carries}
+use Rattle.firmware.proofs.RecordHears.{edition-small}
 use Rattle.firmware.specs.Exports.{badRecord, deskWord, newDeskAnswer, newDeskRecord, settleAnswer, settleRecord}
 use Rattle.firmware.specs.RecordSettles.{RecordSettles, IsDesk, RecordCall, saidIn, lastSaidIn, NamesIn, SaysIn}
 use Rattle.firmware.specs.Sizes.{deskSize}
 
--- ---- numbers, places and parameters are small: a word has room for them
-module _ (d : Desk) (o : List ℕ) (x : Outcome) (s : Settles (rulesOf PresentLenient) d o x) where
+-- ---- by a book, numbers, places and parameters are small: a word has room for them
+module _ (v : Book) (d : Desk) (o : List ℕ) (x : Outcome) (s : Settles (rulesOf v) d o x) where
   number-small : (a : Answer) → x .answer ≡ a → told a .number ≤ 21
   unfolding told
   number-small Done e = omega arith
   number-small (Refused f) e = go (number-of s f e)
     where
-      go : T (verdictNumber (languageOf PresentLenient) (f .number)) ⊎ ((f .number ≡ 17) ⊎ (f .number ≡ 21)) →
-          f .number ≤ 21
-      go (inl h) = omega (arith, told-small (spoken-of PresentLenient) _ h .1)
+      go : T (verdictNumber (languageOf v) (f .number)) ⊎ ((f .number ≡ 17) ⊎ (f .number ≡ 21)) → f .number ≤ 21
+      go (inl h) = omega (arith, told-small (spoken-of v) _ h .1)
       go (inr (inl h)) = omega (arith, h)
       go (inr (inr h)) = omega (arith, h)
 
@@ -62,8 +65,7 @@ module _ (d : Desk) (o : List ℕ) (x : Outcome) (s : Settles (rulesOf PresentLe
   near Done e = omega arith
   near (Refused f) e = go (number-of s f e)
     where
-      go : T (verdictNumber (languageOf PresentLenient) (f .number)) ⊎ ((f .number ≡ 17) ⊎ (f .number ≡ 21)) →
-          f .place ≤ 258
+      go : T (verdictNumber (languageOf v) (f .number)) ⊎ ((f .number ≡ 17) ⊎ (f .number ≡ 21)) → f .place ≤ 258
       go (inl h) = near-declined (s .judged) f (refused-iff s f (some-number s f e) h .0 e .1)
       go (inr (inl h)) = omega (arith, unfit-iff s (f .place) .0 (e ∙ ap Refused (noted-at s f e 17 h (inl refl))) .0)
       go (inr (inr h)) = omega (arith, full-iff s (f .place) .0 (e ∙ ap Refused (noted-at s f e 21 h (inr refl))) .0)
@@ -73,149 +75,224 @@ module _ (d : Desk) (o : List ℕ) (x : Outcome) (s : Settles (rulesOf PresentLe
   few Done e = omega arith
   few (Refused f) e = go (number-of s f e)
     where
-      go : T (verdictNumber (languageOf PresentLenient) (f .number)) ⊎ ((f .number ≡ 17) ⊎ (f .number ≡ 21)) →
-          f .parameter ≤ 85
+      go : T (verdictNumber (languageOf v) (f .number)) ⊎ ((f .number ≡ 17) ⊎ (f .number ≡ 21)) → f .parameter ≤ 85
       go (inl h) = few-declined (s .judged) f (refused-iff s f (some-number s f e) h .0 e .1)
       go (inr (inl h)) = omega (arith, ap (λ (g : Fault). g .parameter) (noted-at s f e 17 h (inl refl)))
       go (inr (inr h)) = omega (arith, ap (λ (g : Fault). g .parameter) (noted-at s f e 21 h (inr refl)))
 
-module _ (c o : List ℕ) (w : ℕ) (c' : List ℕ) (a : w ≡ settleAnswer c o) (b : c' ≡ settleRecord c o) where
+-- ---- by any edition
+module _ (v : ℕ) (d : Desk) (o : List ℕ) (x : Settling) (s : SettlesBy v lenient d o x) where
+  abbrev tells : Told
+  tells = told (x .outcome .answer)
+
+  -- what is told, with its number as it is
+  as-refusal : (k : ℕ) → tells .number ≡ k → tells ≡ refusal k (tells .place) (tells .parameter)
+  as-refusal k e = λ i. refusal (e i) (tells .place) (tells .parameter)
+
+  fields-small : (tells .number ≤ 21) × (tells .place ≤ 258) × (tells .parameter ≤ 85)
+  fields-small = go (decide (known v lenient))
+    where
+      of-number : (k : ℕ) → tells .number ≡ k → k ≤ 21 → (tells .place ≡ 0) × (tells .parameter ≡ 0) →
+          (tells .number ≤ 21) × (tells .place ≤ 258) × (tells .parameter ≤ 85)
+      of-number k e h z = (omega arith, omega (arith, z .0), omega (arith, z .1))
+
+      by-none : (tells .number ≡ 16) ⊎ (tells .number ≡ 17) →
+          (tells .number ≤ 21) × (tells .place ≤ 258) × (tells .parameter ≤ 85)
+      by-none (inl e) =
+          let z = s .sixteen _ _ .0 (as-refusal 16 e) in of-number 16 e (omega arith) (z .0, z .1)
+      by-none (inr e) =
+          let z = s .seventeen _ _ .0 (as-refusal 17 e) in of-number 17 e (omega arith) (z .0, z .1)
+
+      go : T (known v lenient) ⊎ (T (known v lenient) → ⊥) →
+          (tells .number ≤ 21) × (tells .place ≤ 258) × (tells .parameter ≤ 85)
+      go (inl t) =
+          let b = s .by-book t in (
+            number-small (bookOf v lenient) d o (x .outcome) b _ refl,
+            near (bookOf v lenient) d o (x .outcome) b _ refl,
+            few (bookOf v lenient) d o (x .outcome) b _ refl,
+          )
+      go (inr n) = by-none (s .unknown n)
+
+  named-small : x .edition < 2
+  named-small = go (decide (tells .number =? 16)) (decide (tells .number =? 17)) (decide (known v lenient))
+    where
+      go : T (tells .number =? 16) ⊎ (T (tells .number =? 16) → ⊥) →
+          T (tells .number =? 17) ⊎ (T (tells .number =? 17) → ⊥) →
+          T (known v lenient) ⊎ (T (known v lenient) → ⊥) → x .edition < 2
+      go (inl a) b k = omega (arith, s .names-none (inl (eq-of _ _ a)))
+      go (inr a) (inl b) k = omega (arith, s .names-none (inr (eq-of _ _ b)))
+      go (inr a) (inr b) (inl k) =
+          omega (
+            arith,
+            s .names (λ e. a (of-eq _ _ e)) (λ e. b (of-eq _ _ e)),
+            edition-small v (edition-of v lenient k),
+          )
+      go (inr a) (inr b) (inr k) = absurd (neither (s .unknown k))
+        where
+          neither : (tells .number ≡ 16) ⊎ (tells .number ≡ 17) → ⊥
+          neither (inl e) = a (of-eq _ _ e)
+          neither (inr e) = b (of-eq _ _ e)
+
+  -- the desk that settling leaves has places that a record holds
+  small-after : Small (d .places) → Small (x .outcome .desk .places)
+  small-after w = go (decide (known v lenient))
+    where
+      one-of : (tells .number ≡ 16) ⊎ (tells .number ≡ 17) → 1 ≤ tells .number
+      one-of (inl e) = omega arith
+      one-of (inr e) = omega arith
+
+      by-answer : Settles (rulesOf (bookOf v lenient)) d o (x .outcome) → (a : Answer) → x .outcome .answer ≡ a →
+          Small (x .outcome .desk .places)
+      by-answer b Done e =
+          let f = b .fits (done-iff b .0 e .0) in
+          record { long = b .as-many ∙ w .long; below = λ i. omega (arith, f .range i) }
+      by-answer b (Refused f) e = subst (λ (y : Desk). Small (y .places)) (sym (refusal-leaves b f e)) w
+
+      go : T (known v lenient) ⊎ (T (known v lenient) → ⊥) → Small (x .outcome .desk .places)
+      go (inl t) = by-answer (s .by-book t) _ refl
+      go (inr n) =
+          subst (λ (y : Desk). Small (y .places)) (sym (s .refusal-stays (one-of (s .unknown n)))) w
+
+module _ (v : ℕ) (c o : List ℕ) (w : ℕ) (c' : List ℕ) (a : w ≡ settleAnswer v c o) (b : c' ≡ settleRecord v c o) where
   pub seventeen : (T (isRecord c) → ⊥) → Seventeen c w c'
   unfolding settleAnswer settleRecord
   seventeen n = word.seventeen c w c' (a ∙ pick-not _ _ _ n) (b ∙ pick-not _ _ _ n)
 
+  abbrev result : Settling
+  result = settleIn v lenient (deskIn c) o
+
   settled-word : Octets o → T (isRecord c) →
-      Unpacked (told (settleOf (rulesOf PresentLenient) (deskIn c) o .answer) .number)
-      (told (settleOf (rulesOf PresentLenient) (deskIn c) o .answer) .place)
-      (told (settleOf (rulesOf PresentLenient) (deskIn c) o .answer) .parameter) 0 0 w
+      let k = told (result .outcome .answer) in
+      Unpacked (result .edition) (k .number) (k .place) (k .parameter) 0 0 w
   unfolding settleAnswer deskWord
   settled-word q t =
-      let x = settleOf (rulesOf PresentLenient) (deskIn c) o in
-      let s = settles.settles PresentLenient (deskIn c) o q in
-      subst (Unpacked (told (x .answer) .number) (told (x .answer) .place) (told (x .answer) .parameter) 0 0) (sym
-      (a ∙ pick-yes _ _ _ t))
-      (unpacked (told (x .answer) .number) (told (x .answer) .place) (told (x .answer) .parameter) 0 0
-      (omega (arith, number-small (deskIn c) o x s (x .answer) refl))
-      (omega (arith, near (deskIn c) o x s (x .answer) refl)) (omega (arith, few (deskIn c) o x s (x .answer) refl))
+      let s = settles.settles-by v lenient (deskIn c) o q in
+      let k = told (result .outcome .answer) in
+      let z = fields-small v (deskIn c) o result s in
+      subst (Unpacked (result .edition) (k .number) (k .place) (k .parameter) 0 0) (sym (a ∙ pick-yes _ _ _ t))
+      (unpacked (result .edition) (k .number) (k .place) (k .parameter) 0 0
+      (named-small v (deskIn c) o result s) (omega (arith, z .0)) (omega (arith, z .1)) (omega (arith, z .2))
       (omega arith) (omega arith))
 
-  pub record-settles : Octets o → T (isRecord c) → RecordSettles (deskIn c) o w c'
+  pub record-settles : Octets o → T (isRecord c) → RecordSettles v (deskIn c) o w c'
   unfolding settleRecord
   record-settles q t = record {
-    outcome = settleOf (rulesOf PresentLenient) (deskIn c) o;
-    settles = settles.settles PresentLenient (deskIn c) o q;
+    settling = result;
+    settles = settles.settles-by v lenient (deskIn c) o q;
     word = settled-word q t;
     cells = b ∙ pick-yes _ _ _ t;
   }
 
   module _ (q : Octets o) where
-    -- what the word's number says of the answer
-    word-number : (t : T (isRecord c)) (y : RecordSettles (deskIn c) o w c') (k : Answer) → y .outcome .answer ≡ k →
-        wordNumber w ≡ told k .number
-    word-number t y k e = y .word .number ∙ ap (λ (x : Answer). told x .number) e
-
     -- 17 exactly for a record of another size, with a code or number out of range, or with a reference twice
     pub seventeen-iff : (wordNumber w ≡ 17) ↔ (IsDesk c → ⊥)
-    unfolding told
     seventeen-iff = go (decide (isRecord c))
       where
-        desk : (t : T (isRecord c)) (y : RecordSettles (deskIn c) o w c') (k : Answer) → y .outcome .answer ≡ k →
-            (wordNumber w ≡ 17) ↔ (IsDesk c → ⊥)
-        desk t y Done e = (
-          λ x. absurd (omega (arith, x, word-number t y Done e)),
-          λ n. absurd (n (record { codes = t; places = done-iff (y .settles) .0 e .0 })),
-        )
-        desk t y (Refused f) e = (
-          λ x i. unfit-iff (y .settles) (f .place) .0
-              (e ∙ ap Refused (noted-at (y .settles) f e 17 (sym (word-number t y (Refused f) e) ∙ x) (inl refl))) .1
-              (i .places),
-          λ n. word-number t y (Refused (noted 17 0))
-              (unfit-iff (y .settles) 0 .1 (refl, λ i. n (record { codes = t; places = i }))),
-        )
-
         go : T (isRecord c) ⊎ (T (isRecord c) → ⊥) → (wordNumber w ≡ 17) ↔ (IsDesk c → ⊥)
-        go (inl t) = let y = record-settles q t in desk t y (y .outcome .answer) refl
+        go (inl t) =
+            let y = record-settles q t in
+            let s = y .settles in (
+              λ x i. s .seventeen _ _ .0
+                  (as-refusal v (deskIn c) o (y .settling) s 17 (sym (y .word .number) ∙ x)) .2 (i .places),
+              λ n. y .word .number ∙ ap (λ (z : Told). z .number)
+                  (s .seventeen 0 0 .1 (refl, refl, λ i. n (record { codes = t; places = i }))),
+            )
         go (inr n) = (λ _ i. n (i .codes), λ _. seventeen n .word .number)
 
-    -- no number but 0, 1 to 8, 17 and 21
-    pub numbers : (wordNumber w ≤ 8) ⊎ ((wordNumber w ≡ 17) ⊎ (wordNumber w ≡ 21))
-    unfolding told
-    numbers = go (decide (isRecord c))
+    -- 16 exactly for a desk's record and an unknown edition
+    pub sixteen-iff : (wordNumber w ≡ 16) ↔ (IsDesk c × (T (edition v) → ⊥))
+    sixteen-iff = go (decide (isRecord c))
       where
-        of-fault : (n : ℕ) (f : Fault) → n ≡ f .number →
-            T (verdictNumber (languageOf PresentLenient) (f .number)) ⊎ ((f .number ≡ 17) ⊎ (f .number ≡ 21)) →
-            (n ≤ 8) ⊎ ((n ≡ 17) ⊎ (n ≡ 21))
-        of-fault n f e (inl h) =
-            inl (omega (arith, e, verdict-lenient (rulesOf PresentLenient) _ lenient-others .0 h .1))
-        of-fault n f e (inr (inl h)) = inr (inl (e ∙ h))
-        of-fault n f e (inr (inr h)) = inr (inr (e ∙ h))
+        go : T (isRecord c) ⊎ (T (isRecord c) → ⊥) → (wordNumber w ≡ 16) ↔ (IsDesk c × (T (edition v) → ⊥))
+        go (inl t) =
+            let y = record-settles q t in
+            let s = y .settles in (
+              λ x.
+                  let z = s .sixteen _ _ .0
+                  (as-refusal v (deskIn c) o (y .settling) s 16 (sym (y .word .number) ∙ x)) in
+                  (record { codes = t; places = z .2 }, λ k. z .3 (by-lenient v k)),
+              λ n. y .word .number ∙ ap (λ (z : Told). z .number)
+                  (s .sixteen 0 0 .1 (refl, refl, n .0 .places, λ k. n .1 (edition-of v lenient k))),
+            )
+        go (inr n) = (λ x. absurd (omega (arith, x, seventeen n .word .number)), λ i. absurd (n (i .0 .codes)))
 
-        desk : (t : T (isRecord c)) (y : RecordSettles (deskIn c) o w c') (k : Answer) → y .outcome .answer ≡ k →
-            (wordNumber w ≤ 8) ⊎ ((wordNumber w ≡ 17) ⊎ (wordNumber w ≡ 21))
-        desk t y Done e = inl (omega (arith, word-number t y Done e))
-        desk t y (Refused f) e = of-fault (wordNumber w) f (word-number t y (Refused f) e) (number-of (y .settles) f e)
+    -- no number but 0, 1 to 8, 16, 17 and 21
+    abbrev Numbers : ℕ → Type 0
+    Numbers n = (n ≤ 8) ⊎ ((n ≡ 16) ⊎ ((n ≡ 17) ⊎ (n ≡ 21)))
 
-        go : T (isRecord c) ⊎ (T (isRecord c) → ⊥) → (wordNumber w ≤ 8) ⊎ ((wordNumber w ≡ 17) ⊎ (wordNumber w ≡ 21))
-        go (inl t) = let y = record-settles q t in desk t y (y .outcome .answer) refl
-        go (inr n) = inr (inl (seventeen n .word .number))
+    pub numbers : Numbers (wordNumber w)
+    unfolding told
+    numbers = go (decide (isRecord c)) (decide (known v lenient))
+      where
+        of-fault : (n : ℕ) (f : Fault) → n ≡ f .number → T (edition v) →
+            T (verdictNumber (languageOf (bookOf v lenient)) (f .number)) ⊎ ((f .number ≡ 17) ⊎ (f .number ≡ 21)) →
+            Numbers n
+        of-fault n f e k (inl h) =
+            inl (omega (arith, e, verdict-lenient (rulesOf (bookOf v lenient)) _ (carries v k) .0 h .1))
+        of-fault n f e k (inr (inl h)) = inr (inr (inl (e ∙ h)))
+        of-fault n f e k (inr (inr h)) = inr (inr (inr (e ∙ h)))
+
+        desk : (t : T (isRecord c)) (y : RecordSettles v (deskIn c) o w c') → T (known v lenient) → (k : Answer) →
+            y .settling .outcome .answer ≡ k → Numbers (wordNumber w)
+        desk t y l Done e = inl (omega (arith, y .word .number, ap (λ (x : Answer). told x .number) e))
+        desk t y l (Refused f) e =
+            of-fault (wordNumber w) f (y .word .number ∙ ap (λ (x : Answer). told x .number) e) (edition-of v lenient l)
+            (number-of (y .settles .by-book l) f e)
+
+        by-none : (n : ℕ) → (n ≡ 16) ⊎ (n ≡ 17) → Numbers n
+        by-none n (inl e) = inr (inl e)
+        by-none n (inr e) = inr (inr (inl e))
+
+        go : T (isRecord c) ⊎ (T (isRecord c) → ⊥) → T (known v lenient) ⊎ (T (known v lenient) → ⊥) →
+            Numbers (wordNumber w)
+        go (inl t) (inl l) = let y = record-settles q t in desk t y l _ refl
+        go (inl t) (inr l) =
+            let y = record-settles q t in subst Numbers (sym (y .word .number)) (by-none _ (y .settles .unknown l))
+        go (inr n) l = inr (inr (inl (seventeen n .word .number)))
 
     -- a refusal leaves the record as it was
     pub stays : Octets c → 1 ≤ wordNumber w → c' ≡ c
-    unfolding told
     stays k n = go (decide (isRecord c))
       where
-        refused : (t : T (isRecord c)) (y : RecordSettles (deskIn c) o w c') (x : Answer) →
-            y .outcome .answer ≡ x → c' ≡ c
-        refused t y Done e = absurd (omega (arith, word-number t y Done e))
-        refused t y (Refused f) e = y .cells ∙ ap deskRecord (refusal-leaves (y .settles) f e) ∙ encode-decode c k t
-
         go : T (isRecord c) ⊎ (T (isRecord c) → ⊥) → c' ≡ c
-        go (inl t) = let y = record-settles q t in refused t y (y .outcome .answer) refl
+        go (inl t) =
+            let y = record-settles q t in
+            y .cells ∙ ap deskRecord (y .settles .refusal-stays (omega (arith, y .word .number))) ∙ encode-decode c k t
         go (inr m) = seventeen m .cells
 
--- ---- settled twice running
--- the desk that settling leaves has places that a record holds
-small-after : (d : Desk) (o : List ℕ) (x : Outcome) → Settles (rulesOf PresentLenient) d o x → Small (d .places) →
-    Small (x .desk .places)
-small-after d o x s w = go (x .answer) refl
-  where
-    go : (a : Answer) → x .answer ≡ a → Small (x .desk .places)
-    go Done e =
-        let f = s .fits (done-iff s .0 e .0) in
-        record { long = s .as-many ∙ w .long; below = λ i. omega (arith, f .range i) }
-    go (Refused f) e = subst (λ (y : Desk). Small (y .places)) (sym (refusal-leaves s f e)) w
-
-pub again : (c o : List ℕ) → Octets c → Octets o → (w : ℕ) (c₁ : List ℕ) (w₂ : ℕ) (c₂ : List ℕ) →
-    w ≡ settleAnswer c o → c₁ ≡ settleRecord c o → w₂ ≡ settleAnswer c₁ o → c₂ ≡ settleRecord c₁ o →
+-- ---- settled twice running, by one edition, known or not
+pub again : (v : ℕ) (c o : List ℕ) → Octets c → Octets o → (w : ℕ) (c₁ : List ℕ) (w₂ : ℕ) (c₂ : List ℕ) →
+    w ≡ settleAnswer v c o → c₁ ≡ settleRecord v c o → w₂ ≡ settleAnswer v c₁ o → c₂ ≡ settleRecord v c₁ o →
     (w₂ ≡ w) × (c₂ ≡ c₁)
 unfolding settleAnswer settleRecord
-again c o k q w c₁ w₂ c₂ a b e f = go (decide (isRecord c))
+again v c o k q w c₁ w₂ c₂ a b e f = go (decide (isRecord c))
   where
     go : T (isRecord c) ⊎ (T (isRecord c) → ⊥) → (w₂ ≡ w) × (c₂ ≡ c₁)
     go (inl t) =
-        let x = settleOf (rulesOf PresentLenient) (deskIn c) o in
-        let z = small-after (deskIn c) o x (settles.settles PresentLenient (deskIn c) o q) (small-in c k) in
-        let i : c₁ ≡ deskRecord (x .desk) = b ∙ pick-yes _ _ _ t in
-        let r : T (isRecord c₁) = subst (λ (y : List ℕ). T (isRecord y)) (sym i) (record-is (x .desk) z) in
-        let j : settleOf (rulesOf PresentLenient) (deskIn c₁) o ≡ x =
-        ap (λ (y : Desk). settleOf (rulesOf PresentLenient) y o) (ap deskIn i ∙ decode-encode (x .desk) z)
-        ∙ settles.settled-twice PresentLenient (deskIn c) o q in (
-          e ∙ pick-yes _ _ _ r ∙ ap (λ (y : Outcome). deskWord (y .answer)) j ∙ sym (a ∙ pick-yes _ _ _ t),
-          f ∙ pick-yes _ _ _ r ∙ ap (λ (y : Outcome). deskRecord (y .desk)) j ∙ sym i,
+        let x = settleIn v lenient (deskIn c) o in
+        let z = small-after v (deskIn c) o x (settles.settles-by v lenient (deskIn c) o q) (small-in c k) in
+        let i : c₁ ≡ deskRecord (x .outcome .desk) = b ∙ pick-yes _ _ _ t in
+        let r : T (isRecord c₁) = subst (λ (y : List ℕ). T (isRecord y)) (sym i) (record-is (x .outcome .desk) z) in
+        let j : settleIn v lenient (deskIn c₁) o ≡ x =
+        ap (λ (y : Desk). settleIn v lenient y o) (ap deskIn i ∙ decode-encode (x .outcome .desk) z)
+        ∙ settles.settled-twice v lenient (deskIn c) o q in (
+          e ∙ pick-yes _ _ _ r ∙ ap (λ (y : Settling). deskWord (y .edition) (y .outcome .answer)) j
+              ∙ sym (a ∙ pick-yes _ _ _ t),
+          f ∙ pick-yes _ _ _ r ∙ ap (λ (y : Settling). deskRecord (y .outcome .desk)) j ∙ sym i,
         )
     go (inr n) =
         let i : c₁ ≡ c = b ∙ pick-not _ _ _ n in
-        (e ∙ ap (λ (y : List ℕ). settleAnswer y o) i ∙ sym a, f ∙ ap (λ (y : List ℕ). settleRecord y o) i ∙ sym b)
+        (e ∙ ap (λ (y : List ℕ). settleAnswer v y o) i ∙ sym a, f ∙ ap (λ (y : List ℕ). settleRecord v y o) i ∙ sym b)
 
 -- a record made new is that of a desk of which nothing is known and which holds no reference
 pub new : (c : List ℕ) (w : ℕ) (c' : List ℕ) → w ≡ newDeskAnswer c → c' ≡ newDeskRecord c → length c ≡ deskSize →
-    Unpacked 0 0 0 0 0 w × T (isRecord c') × (deskIn c' ≡ newDesk)
+    Unpacked 0 0 0 0 0 0 w × T (isRecord c') × (deskIn c' ≡ newDesk)
 unfolding newDeskAnswer newDeskRecord
 new c w c' a b n =
     let z : Small (newDesk .places) = record { long = refl; below = λ i. omega (arith, all-free placeCount i) } in
     let e : c' ≡ deskRecord newDesk = b ∙ pick-yes (length c =? deskSize) _ c (of-eq _ _ n) in (
-      subst (Unpacked 0 0 0 0 0) (sym (a ∙ pick-yes (length c =? deskSize) _ badRecord (of-eq _ _ n)))
-          (unpacked 0 0 0 0 0 (omega arith) (omega arith) (omega arith) (omega arith) (omega arith)),
+      subst (Unpacked 0 0 0 0 0 0) (sym (a ∙ pick-yes (length c =? deskSize) _ badRecord (of-eq _ _ n)))
+          (unpacked 0 0 0 0 0 0 (omega arith) (omega arith) (omega arith) (omega arith) (omega arith) (omega arith)),
       subst (λ (y : List ℕ). T (isRecord y)) (sym e) (record-is newDesk z),
       ap deskIn e ∙ decode-encode newDesk z,
     )
@@ -233,76 +310,75 @@ new-17 c w c' a b n =
 abbrev pub RecordHistory : List ℕ → List RecordCall → List ℕ → Type 0
 RecordHistory c [] c' = c ≡ c'
 RecordHistory c (x ∷ xs) c' =
-    Octets (x .octets) × (x .word ≡ settleAnswer c (x .octets)) × (x .cells ≡ settleRecord c (x .octets))
-    × RecordHistory (x .cells) xs c'
+    Octets (x .octets) × (x .word ≡ settleAnswer (x .edition) c (x .octets))
+    × (x .cells ≡ settleRecord (x .edition) c (x .octets)) × RecordHistory (x .cells) xs c'
 
 -- on a record that is one, a call says what the same call says on its desk
 module _ (c : List ℕ) (t : T (isRecord c)) (w : Small (deskIn c .places)) (x : RecordCall) (q : Octets (x .octets))
-    (a : x .word ≡ settleAnswer c (x .octets)) (b : x .cells ≡ settleRecord c (x .octets)) where
+    (a : x .word ≡ settleAnswer (x .edition) c (x .octets)) (b : x .cells ≡ settleRecord (x .edition) c (x .octets)) where
   abbrev as-call : Call
   as-call =
       record {
-        book = PresentLenient;
+        edition = x .edition;
+        way = lenient;
         octets = x .octets;
-        outcome = settleOf (rulesOf PresentLenient) (deskIn c) (x .octets);
+        settled = settleIn (x .edition) lenient (deskIn c) (x .octets);
       }
 
-  number-is : wordNumber (x .word) ≡ told (as-call .outcome .answer) .number
-  number-is = settled-word c (x .octets) (x .word) (x .cells) a b q t .number
+  said-so : SettlesBy (x .edition) lenient (deskIn c) (x .octets) (as-call .settled)
+  said-so = settles.settles-by (x .edition) lenient (deskIn c) (x .octets) q
 
-  no-number : (f : Fault) →
-      T (verdictNumber (languageOf PresentLenient) (f .number)) ⊎ ((f .number ≡ 17) ⊎ (f .number ≡ 21)) →
-      f .number ≡ 0 → ⊥
-  no-number f (inl h) z = omega (arith, told-small (spoken-of PresentLenient) _ h .0, z)
-  no-number f (inr (inl h)) z = omega (arith, h, z)
-  no-number f (inr (inr h)) z = omega (arith, h, z)
+  number-is : wordNumber (x .word) ≡ told (as-call .settled .outcome .answer) .number
+  number-is = settled-word (x .edition) c (x .octets) (x .word) (x .cells) a b q t .number
+
+  no-number : (f : Fault) → as-call .settled .outcome .answer ≡ Refused f → f .number ≡ 0 → ⊥
+  no-number f e z = let l = subst Clear e (said-so .clear) in omega (arith, l, z)
 
   same-word : (r : ℕ) → saidIn r x ≡ said r as-call
   unfolding saidIn said saidUnder told
-  same-word r = go (as-call .outcome .answer) refl
+  same-word r = go (as-call .settled .outcome .answer) refl
     where
-      go : (k : Answer) → as-call .outcome .answer ≡ k →
-          saidIn r x ≡ saidUnder (rulesOf PresentLenient) r (x .octets) (as-call .outcome .answer)
+      go : (k : Answer) → as-call .settled .outcome .answer ≡ k →
+          saidIn r x ≡ saidUnder (rulesOf (bookOf (x .edition) lenient)) r (x .octets) (as-call .settled .outcome .answer)
       go Done e =
           pick-yes _ _ _ (of-eq _ _ (number-is ∙ ap (λ (x : Answer). told x .number) e))
-          ∙ ap (saidUnder (rulesOf PresentLenient) r (x .octets)) (sym e)
+          ∙ ap (saidUnder (rulesOf (bookOf (x .edition) lenient)) r (x .octets)) (sym e)
       go (Refused f) e =
-          pick-not _ _ _ (λ z. no-number f (number-of (settles.settles PresentLenient (deskIn c) (x .octets) q) f e)
+          pick-not _ _ _ (λ z. no-number f e
           (sym (ap (λ (x : Answer). told x .number) e) ∙ sym number-is ∙ eq-of _ _ z))
-          ∙ ap (saidUnder (rulesOf PresentLenient) r (x .octets)) (sym e)
+          ∙ ap (saidUnder (rulesOf (bookOf (x .edition) lenient)) r (x .octets)) (sym e)
 
-  after-is : x .cells ≡ deskRecord (as-call .outcome .desk)
+  after-is : x .cells ≡ deskRecord (as-call .settled .outcome .desk)
   unfolding settleRecord
   after-is = b ∙ pick-yes _ _ _ t
 
-  after-small : Small (as-call .outcome .desk .places)
-  after-small =
-      small-after (deskIn c) (x .octets) (as-call .outcome) (settles.settles PresentLenient (deskIn c) (x .octets) q) w
+  after-small : Small (as-call .settled .outcome .desk .places)
+  after-small = small-after (x .edition) (deskIn c) (x .octets) (as-call .settled) said-so w
 
-  after-desk : deskIn (x .cells) ≡ as-call .outcome .desk
-  after-desk = ap deskIn after-is ∙ decode-encode (as-call .outcome .desk) after-small
+  after-desk : deskIn (x .cells) ≡ as-call .settled .outcome .desk
+  after-desk = ap deskIn after-is ∙ decode-encode (as-call .settled .outcome .desk) after-small
 
   after-record : T (isRecord (x .cells))
-  after-record = subst (λ (y : List ℕ). T (isRecord y)) (sym after-is) (record-is (as-call .outcome .desk) after-small)
+  after-record =
+      subst (λ (y : List ℕ). T (isRecord y)) (sym after-is) (record-is (as-call .settled .outcome .desk) after-small)
 
   -- number 0 exactly where the desk's own call is done
-  call-done : (as-call .outcome .answer ≡ Done) ↔ (wordNumber (x .word) ≡ 0)
+  call-done : (as-call .settled .outcome .answer ≡ Done) ↔ (wordNumber (x .word) ≡ 0)
   unfolding told
   call-done = (
     λ e. number-is ∙ ap (λ (x : Answer). told x .number) e,
-    λ e. go (as-call .outcome .answer) refl (sym number-is ∙ e),
+    λ e. go (as-call .settled .outcome .answer) refl (sym number-is ∙ e),
   )
     where
-      go : (k : Answer) → as-call .outcome .answer ≡ k → told (as-call .outcome .answer) .number ≡ 0 →
-          as-call .outcome .answer ≡ Done
+      go : (k : Answer) → as-call .settled .outcome .answer ≡ k →
+          told (as-call .settled .outcome .answer) .number ≡ 0 → as-call .settled .outcome .answer ≡ Done
       go Done e z = e
-      go (Refused f) e z =
-          absurd (no-number f (number-of (settles.settles PresentLenient (deskIn c) (x .octets) q) f e)
-          (sym (ap (λ (x : Answer). told x .number) e) ∙ z))
+      go (Refused f) e z = absurd (no-number f e (sym (ap (λ (x : Answer). told x .number) e) ∙ z))
 
   names-iff : (s r : ℕ) → Names as-call s r ↔ NamesIn x s r
   names-iff s r = (
     λ n. record {
+      by-known = edition-of (x .edition) lenient (n .by-known);
       m = n .m;
       legal = n .legal;
       is = n .is;
@@ -314,6 +390,7 @@ module _ (c : List ℕ) (t : T (isRecord c)) (w : Small (deskIn c .places)) (x :
       reference = n .reference;
     },
     λ n. record {
+      by-known = by-lenient (x .edition) (n .by-known);
       m = n .m;
       legal = n .legal;
       is = n .is;

@@ -11,7 +11,7 @@ use Rattle.firmware.proofs.anthercup_counted.Reads as counted
 use Rattle.firmware.proofs.anthercup_caption.Reads as caption
 
 pub anthercup-reset-settled : (κs : _) (a : _) (r r' : _) (s s' : _) → reset.Post κs a r s →
-    reset.Post κs a r' s' → (r ≡ r') × (s .0 .now ≡ s' .0 .now)
+    reset.Post κs a r' s' → (r ≡ r') × (s .1 .0 .now ≡ s' .1 .0 .now)
 anthercup-reset-settled κs a r r' s s' p q = (p .0 ∙ sym (q .0), p .1 ∙ sym (q .1))
 
 pub anthercup-listen-settled : (κs : _) (a : _) (r r' : _) (s s' : _) → listen.Post κs a r s →
@@ -19,7 +19,7 @@ pub anthercup-listen-settled : (κs : _) (a : _) (r r' : _) (s s' : _) → liste
 anthercup-listen-settled κs a r r' s s' p q = (p .0 ∙ sym (q .0), p .1 ∙ sym (q .1))
 
 pub anthercup-read-settled : (κs : _) (a : _) (r r' : _) (s s' : _) → read.Post κs a r s → read.Post κs a r' s' →
-    (r ≡ r') × (s .1 .0 .now ≡ s' .1 .0 .now) × (s .1 .1 .0 .now ≡ s' .1 .1 .0 .now)
+    (r ≡ r') × (s .1 .1 .0 .now ≡ s' .1 .1 .0 .now) × (s .1 .1 .1 .0 .now ≡ s' .1 .1 .1 .0 .now)
 anthercup-read-settled κs a r r' s s' p q = (p .0 ∙ sym (q .0), p .1 .0 ∙ sym (q .1 .0), p .1 .1 ∙ sym (q .1 .1))
 
 pub anthercup-new-desk-settled : (κs : _) (a : _) (r r' : _) (s s' : _) → new-desk.Post κs a r s →
@@ -27,7 +27,7 @@ pub anthercup-new-desk-settled : (κs : _) (a : _) (r r' : _) (s s' : _) → new
 anthercup-new-desk-settled κs a r r' s s' p q = (p .0 ∙ sym (q .0), p .1 ∙ sym (q .1))
 
 pub anthercup-settle-settled : (κs : _) (a : _) (r r' : _) (s s' : _) → settle.Post κs a r s →
-    settle.Post κs a r' s' → (r ≡ r') × (s .0 .now ≡ s' .0 .now)
+    settle.Post κs a r' s' → (r ≡ r') × (s .1 .0 .now ≡ s' .1 .0 .now)
 anthercup-settle-settled κs a r r' s s' p q = (p .0 ∙ sym (q .0), p .1 ∙ sym (q .1))
 
 pub anthercup-counted-settled : (κs : _) (a : _) (r r' : _) (s s' : _) → counted.Post κs a r s →
@@ -35,5 +35,5 @@ pub anthercup-counted-settled : (κs : _) (a : _) (r r' : _) (s s' : _) → coun
 anthercup-counted-settled κs a r r' s s' p q = p ∙ sym q
 
 pub anthercup-caption-settled : (κs : _) (a : _) (r r' : _) (s s' : _) → caption.Post κs a r s →
-    caption.Post κs a r' s' → (r ≡ r') × (s .1 .1 .0 .now ≡ s' .1 .1 .0 .now)
+    caption.Post κs a r' s' → (r ≡ r') × (s .1 .1 .1 .0 .now ≡ s' .1 .1 .1 .0 .now)
 anthercup-caption-settled κs a r r' s s' p q = (p .0 ∙ sym (q .0), p .1 ∙ sym (q .1))

@@ -1,6 +1,6 @@
--- The draft's record, 688 octets: the message type, the number of entries, six octets of 0; then 85 entries of eight
--- octets: the type, the kind of value, and six octets of value. What is not used is 0 (document 01: a record that is
--- only written is judged by its size alone).
+-- The draft's record, 688 octets: the message type, the number of entries, the edition, five octets of 0; then 85
+-- entries of eight octets: the type, the kind of value, and six octets of value. What is not used is 0 (document 01: a
+-- record that is only written is judged by its size alone).
 -- Assumes nothing.
 use Prim.Native.Nat.{ℕ, _+_, _*_, _/_, _%_}
 use mathlib.Core.List.{List, [], _∷_, _++_}
@@ -40,7 +40,7 @@ entriesCells (e ∷ es) = entryCells e ++ entriesCells es
 
 -- the record of a draft
 unfoldable pub draftRecord : Draft → List ℕ
-draftRecord d = d .kind ∷ d .count ∷ replicate 6 0 ++ entriesCells (d .entries)
+draftRecord d = d .kind ∷ d .count ∷ d .edition ∷ replicate 5 0 ++ entriesCells (d .entries)
 
 -- ---- what the header's readers read back
 unfoldable pub valueOf : Numbers → Value

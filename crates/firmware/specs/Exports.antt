@@ -1,12 +1,12 @@
 -- What the exports answer, and what they leave in a record (document 01: 17 comes first; a record that is only
--- written is judged by its size alone).
+-- written is judged by its size alone; document 02, Q-5: then 16, where the edition is unknown).
 -- Assumes nothing.
 use Prim.Native.Nat.{ℕ}
 use mathlib.Core.List.{List}
 use lib.ListN.{length}
 use Rattle.rules.specs.Tests.{_=?_, pick}
-use Rattle.rules.specs.Table.{rulesOf}
-use Rattle.rules.specs.declared.Book.the-variants.{PresentLenient}
+use Rattle.rules.specs.Table.{Rules, rulesOf}
+use Rattle.rules.specs.Editions.{lenient, edition, bookOf}
 use Rattle.listener.specs.declared.Listener.{Listener}
 use Rattle.listener.specs.declared.Heard.{Heard}
 use Rattle.listener.specs.Told.{told}
@@ -22,14 +22,15 @@ use Rattle.message.specs.Parts.{countedAt}
 use Rattle.caption.specs.declared.Shown.{Shown}
 use Rattle.caption.specs.declared.Shown.the-variants as found
 use Rattle.caption.specs.Told as caption
-use Rattle.caption.specs.Caption.{findOf}
+use Rattle.caption.specs.declared.Finding.{Finding}
+use Rattle.caption.specs.Caption.{findIn}
 use Rattle.reader.specs.declared.Packed.{Packed}
 use Rattle.reader.specs.declared.Packed.the-variants.{Texts, Refused}
 use Rattle.reader.specs.Read.{packOf, areaAfter}
 use Rattle.reader.specs.Told as reader
 use Rattle.desk.specs.declared.Answer as desk
 use Rattle.desk.specs.Told as settled
-use Rattle.desk.specs.Settle.{newDesk, settleOf}
+use Rattle.desk.specs.Settle.{newDesk, settleIn}
 use Rattle.firmware.specs.DeskRecord.{isRecord, deskIn, deskRecord}
 use Rattle.firmware.specs.DraftRecord.{draftRecord}
 use Rattle.firmware.specs.PartRecord.{partRecord}
@@ -40,20 +41,27 @@ use Rattle.firmware.specs.Record.{decodeOf, recordOf}
 use Rattle.firmware.specs.Word.{packed}
 use Rattle.firmware.specs.Sizes.{listenerSize, draftSize, deskSize, partSize}
 
--- number 17 at place 0, and 0 in every other field
+-- 16 and 17 stand at place 0, with 0 in every other field
 abbrev pub badRecord : ℕ
-badRecord = packed 17 0 0 0 0
+badRecord = packed 0 17 0 0 0 0
 
-unfoldable pub resetAnswer : List ℕ → ℕ
-resetAnswer c = pick (length c =? listenerSize) (packed 0 0 0 0 0) badRecord
+abbrev pub noEdition : ℕ
+noEdition = packed 0 16 0 0 0 0
 
-unfoldable pub resetRecord : List ℕ → List ℕ
-resetRecord c = pick (length c =? listenerSize) (recordOf (newListener PresentLenient)) c
+-- the rules of an edition in which types without a row are carried
+abbrev pub rulesBy : ℕ → Rules
+rulesBy e = rulesOf (bookOf e lenient)
+
+unfoldable pub resetAnswer : ℕ → List ℕ → ℕ
+resetAnswer e c = pick (length c =? listenerSize) (pick (edition e) (packed e 0 0 0 0 0) noEdition) badRecord
+
+unfoldable pub resetRecord : ℕ → List ℕ → List ℕ
+resetRecord e c = pick (length c =? listenerSize) (pick (edition e) (recordOf (newListener e lenient)) c) c
 
 -- what a call of the listener answers, as a word
 unfoldable pub wordOf : Heard → ℕ
 wordOf h =
-    packed (told (h .answer) .number) (told (h .answer) .place) (told (h .answer) .parameter)
+    packed (h .edition) (told (h .answer) .number) (told (h .answer) .place) (told (h .answer) .parameter)
     (told (h .answer) .size) (h .taken)
 
 unfoldable pub heardWordOf : Listener → List ℕ → HeardWord
@@ -75,59 +83,66 @@ listenRecord c o = recorded (decodeOf c) c o
 
 -- ---- the whole read: the record is only written, so its size alone is judged; the answer's size is the text octets
 -- laid down
-unfoldable pub packedWord : Packed → ℕ
-packedWord p =
-    packed (reader.told p .number) (reader.told p .place) (reader.told p .parameter) (reader.told p .size) 0
+unfoldable pub packedWord : ℕ → Packed → ℕ
+packedWord e p =
+    packed e (reader.told p .number) (reader.told p .place) (reader.told p .parameter) (reader.told p .size) 0
 
-unfoldable pub readAnswer : List ℕ → List ℕ → List ℕ → ℕ
-readAnswer o c t = pick (length c =? draftSize) (packedWord (packOf (rulesOf PresentLenient) o (length t))) badRecord
+unfoldable pub readAnswer : ℕ → List ℕ → List ℕ → List ℕ → ℕ
+readAnswer e o c t =
+    pick (length c =? draftSize) (pick (edition e) (packedWord e (packOf (rulesBy e) o (length t))) noEdition)
+    badRecord
 
 -- the record of the message's draft; as it was with a refusal
-unfoldable pub recordFrom : List ℕ → List ℕ → Packed → List ℕ
-recordFrom o c (Texts n) = draftRecord (draftOf (rulesOf PresentLenient) (messageIn o))
-recordFrom o c (Refused f) = c
+unfoldable pub recordFrom : Rules → List ℕ → List ℕ → Packed → List ℕ
+recordFrom R o c (Texts n) = draftRecord (draftOf R (messageIn o))
+recordFrom R o c (Refused f) = c
 
-unfoldable pub readRecord : List ℕ → List ℕ → List ℕ → List ℕ
-readRecord o c t = pick (length c =? draftSize) (recordFrom o c (packOf (rulesOf PresentLenient) o (length t))) c
+unfoldable pub readRecord : ℕ → List ℕ → List ℕ → List ℕ → List ℕ
+readRecord e o c t =
+    pick (length c =? draftSize) (pick (edition e) (recordFrom (rulesBy e) o c (packOf (rulesBy e) o (length t))) c) c
 
-unfoldable pub readTexts : List ℕ → List ℕ → List ℕ → List ℕ
-readTexts o c t = pick (length c =? draftSize) (areaAfter (rulesOf PresentLenient) o t) t
+unfoldable pub readTexts : ℕ → List ℕ → List ℕ → List ℕ → List ℕ
+readTexts e o c t = pick (length c =? draftSize) (pick (edition e) (areaAfter (rulesBy e) o t) t) t
 
 -- ---- the desk
 unfoldable pub newDeskAnswer : List ℕ → ℕ
-newDeskAnswer c = pick (length c =? deskSize) (packed 0 0 0 0 0) badRecord
+newDeskAnswer c = pick (length c =? deskSize) (packed 0 0 0 0 0 0) badRecord
 
 unfoldable pub newDeskRecord : List ℕ → List ℕ
 newDeskRecord c = pick (length c =? deskSize) (deskRecord newDesk) c
 
--- number, place and parameter of an answer as a word
-unfoldable pub deskWord : desk.Answer → ℕ
-deskWord a = packed (settled.told a .number) (settled.told a .place) (settled.told a .parameter) 0 0
+-- the edition named, number, place and parameter of an answer as a word
+unfoldable pub deskWord : ℕ → desk.Answer → ℕ
+deskWord e a = packed e (settled.told a .number) (settled.told a .place) (settled.told a .parameter) 0 0
 
 -- a record that is a desk's: word and record of that desk's settling; any other is 17 and stays
-unfoldable pub settleAnswer : List ℕ → List ℕ → ℕ
-settleAnswer c o = pick (isRecord c) (deskWord (settleOf (rulesOf PresentLenient) (deskIn c) o .answer)) badRecord
+unfoldable pub settleAnswer : ℕ → List ℕ → List ℕ → ℕ
+settleAnswer e c o =
+    pick (isRecord c)
+    (deskWord (settleIn e lenient (deskIn c) o .edition) (settleIn e lenient (deskIn c) o .outcome .answer)) badRecord
 
-unfoldable pub settleRecord : List ℕ → List ℕ → List ℕ
-settleRecord c o = pick (isRecord c) (deskRecord (settleOf (rulesOf PresentLenient) (deskIn c) o .desk)) c
+unfoldable pub settleRecord : ℕ → List ℕ → List ℕ → List ℕ
+settleRecord e c o = pick (isRecord c) (deskRecord (settleIn e lenient (deskIn c) o .outcome .desk)) c
 
 -- ---- what counts: the size is the length of the contents that count, and their start stands in octets 5 and 6; 0
 -- and 0 where none count
-unfoldable pub partWord : Part → ℕ
-partWord (At start n) = packed 0 0 0 n start
-partWord Nowhere = packed 0 0 0 0 0
+unfoldable pub partWord : ℕ → Part → ℕ
+partWord e (At start n) = packed e 0 0 0 n start
+partWord e Nowhere = packed e 0 0 0 0 0
 
 -- octets that the whole read declines get its number, place and parameter
-unfoldable pub countedUnder : Verdict → List ℕ → ℕ → ℕ
-countedUnder (Accepted n) o t = partWord (countedAt (rulesOf PresentLenient) o t)
-countedUnder (Declined f) o t = packed (f .number) (f .place) (f .parameter) 0 0
+unfoldable pub countedUnder : ℕ → Verdict → List ℕ → ℕ → ℕ
+countedUnder e (Accepted n) o t = partWord e (countedAt (rulesBy e) o t)
+countedUnder e (Declined f) o t = packed e (f .number) (f .place) (f .parameter) 0 0
 
-unfoldable pub countedAnswer : List ℕ → ℕ → ℕ
-countedAnswer o t = countedUnder (verdictOf (rulesOf PresentLenient) o) o t
+unfoldable pub countedAnswer : ℕ → List ℕ → ℕ → ℕ
+countedAnswer e o t = pick (edition e) (countedUnder e (verdictOf (rulesBy e) o) o t) noEdition
 
 -- ---- the caption: the record is only written, so its size alone is judged
-unfoldable pub foundWord : Shown → ℕ
-foundWord r = packed (caption.told r .number) (caption.told r .place) (caption.told r .parameter) 0 0
+unfoldable pub foundWord : Finding → ℕ
+foundWord r =
+    packed (r .edition) (caption.told (r .shown) .number) (caption.told (r .shown) .place)
+    (caption.told (r .shown) .parameter) 0 0
 
 -- the record of the part that is found; as it was with a refusal
 unfoldable pub partFrom : List ℕ → Shown → List ℕ
@@ -135,8 +150,8 @@ partFrom c (found.InMessage start n) = partRecord 0 start n
 partFrom c (found.InDirectory start n) = partRecord 1 start n
 partFrom c (found.Refused f) = c
 
-unfoldable pub captionAnswer : List ℕ → List ℕ → List ℕ → ℕ
-captionAnswer o d c = pick (length c =? partSize) (foundWord (findOf (rulesOf PresentLenient) o d)) badRecord
+unfoldable pub captionAnswer : ℕ → List ℕ → List ℕ → List ℕ → ℕ
+captionAnswer e o d c = pick (length c =? partSize) (foundWord (findIn e lenient o d)) badRecord
 
-unfoldable pub captionRecord : List ℕ → List ℕ → List ℕ → List ℕ
-captionRecord o d c = pick (length c =? partSize) (partFrom c (findOf (rulesOf PresentLenient) o d)) c
+unfoldable pub captionRecord : ℕ → List ℕ → List ℕ → List ℕ → List ℕ
+captionRecord e o d c = pick (length c =? partSize) (partFrom c (findIn e lenient o d .shown)) c

@@ -3,18 +3,23 @@
 use Prim.Native.Nat.{ℕ, suc, _+_, _≤_, _<_}
 use mathlib.Core.Path.{_≡_}
 use mathlib.Core.Logic.{_↔_}
-use mathlib.Core.List.{List, _++_}
-use lib.ListN.{length, take}
+use mathlib.Core.List.{List, _∷_, _++_}
+use lib.ListN.{length, take, drop, getD}
 use lib.Dec.{T}
 use Rattle.rules.specs.Endings.{Ending, Spoilt, Numbered}
-use Rattle.rules.specs.Language.{Language, languageOf}
+use Rattle.rules.specs.Language.{Language}
+use Rattle.rules.specs.Editions.{edition}
+use Rattle.listener.specs.Answers.{InRange}
 use Rattle.listener.specs.declared.Listener.{Listener}
 use Rattle.firmware.specs.declared.Decoded.the-variants.{Known}
 use Rattle.firmware.specs.Record.{decodeOf}
-use Rattle.firmware.specs.Word.{packed, wordNumber, wordPlace, wordParameter, wordSize, wordTaken}
+use Rattle.firmware.specs.Word.{packed, wordEdition, wordNumber, wordPlace, wordParameter, wordSize, wordTaken}
 
--- The record's listener had taken the octets h since its reset, was given the run o, and the call answered w.
-pub record RecordHears (L : Language) (h o : List ℕ) (w : ℕ) : Type 0 where
+-- The record's listener had taken the octets h since its reset to the edition e, was given the run o, and the call
+-- answered w.
+pub record RecordHears (L : Language) (e : ℕ) (h o : List ℕ) (w : ℕ) : Type 0 where
+  -- the answer names the edition e
+  pub names : wordEdition w ≡ e
   -- neither number nor size: it waits, exactly when some ending would still complete a message
   pub waits : ((wordNumber w ≡ 0) × (wordSize w ≡ 0)) ↔ Ending (L .Accepts) (h ++ o)
   -- a size: exactly that of the first octets that are accepted
@@ -31,20 +36,30 @@ pub record RecordHears (L : Language) (h o : List ℕ) (w : ℕ) : Type 0 where
   pub no-place : wordNumber w ≡ 0 → wordPlace w ≡ 0
   pub no-parameter : wordNumber w ≡ 0 → wordParameter w ≡ 0
   pub no-size : 1 ≤ wordNumber w → wordSize w ≡ 0
-  pub whole : w ≡ packed (wordNumber w) (wordPlace w) (wordParameter w) (wordSize w) (wordTaken w)
+  pub whole : w ≡ packed (wordEdition w) (wordNumber w) (wordPlace w) (wordParameter w) (wordSize w) (wordTaken w)
   -- it has its answer after 258 octets at the latest
   pub answers-by-258 : wordNumber w ≡ 0 → wordSize w ≡ 0 → length (h ++ o) < 258
 
--- a record stands for a listener in range
-pub record Sound (c : List ℕ) : Type 0 where
+-- a record stands for a listener in range; its edition is octet 11
+pub record Stands (c : List ℕ) : Type 0 where
   pub listener : Listener
   pub known : decodeOf c ≡ Known listener
-  pub in-range : T (languageOf (listener .book) .inRange (listener .state))
+  pub in-range : InRange listener
+
+-- and its edition is known
+pub record Sound (c : List ℕ) : Type 0 where
+  pub stands : Stands c
+  pub edition : T (edition (getD c 11 0))
+
+-- the record c with another number in octet 11
+abbrev pub withEdition : ℕ → List ℕ → List ℕ
+withEdition e c = take 11 c ++ (e ∷ drop 12 c)
 
 -- two calls on a run cut in two end as one call on the whole: the same record and answer, and the octets taken
 -- together
 pub record SameEnd (w w₁ w₂ : ℕ) (d d₂ : List ℕ) : Type 0 where
   pub left : d ≡ d₂
+  pub edition : wordEdition w ≡ wordEdition w₂
   pub number : wordNumber w ≡ wordNumber w₂
   pub place : wordPlace w ≡ wordPlace w₂
   pub parameter : wordParameter w ≡ wordParameter w₂

@@ -7,7 +7,7 @@ use mathlib.Core.List.{List}
 use mathlib.Core.Option.{none}
 use lib.ListN.{length}
 use Rattle.rules.specs.Table.{rulesOf}
-use Rattle.rules.specs.declared.Book.the-variants.{PresentLenient}
+use Rattle.rules.specs.Editions.{lenient, bookOf}
 use Rattle.rules.specs.Message.{Message, octets, LegalMessage}
 use Rattle.rules.specs.Counting.{counted, Counts}
 use Rattle.rules.specs.Language.{languageOf}
@@ -15,35 +15,42 @@ use Rattle.message.specs.declared.Verdict.{Verdict}
 use Rattle.message.specs.Told as message
 use Rattle.message.specs.Judges.{Judges}
 use Rattle.message.specs.Places.{contentsAt}
-use Rattle.caption.specs.declared.Shown.{Shown}
+use Rattle.caption.specs.declared.Finding.{Finding}
 use Rattle.caption.specs.Told.{told}
-use Rattle.caption.specs.Finds.{Finds}
+use Rattle.caption.specs.Finds.{FindsBy}
 use Rattle.firmware.specs.Word.{Unpacked}
 use Rattle.firmware.specs.PartRecord.{partRecord, partSide, partStart, partLength}
 
--- the octets o and a type t went in, and the word w came back
-pub record RecordCounts (o : List ℕ) (t w : ℕ) : Type 0 where
+-- by a known edition, the octets o and a type t went in, and the word w came back
+pub record RecordCounts (e : ℕ) (o : List ℕ) (t w : ℕ) : Type 0 where
   -- octets that are no message: number, place and parameter are the whole read's, and the other fields 0
   pub verdict : Verdict
-  pub judged : Judges (languageOf PresentLenient) o verdict
+  pub judged : Judges (languageOf (bookOf e lenient)) o verdict
   pub refused : 1 ≤ message.told verdict .number →
-      Unpacked (message.told verdict .number) (message.told verdict .place) (message.told verdict .parameter) 0 0 w
+      Unpacked e (message.told verdict .number) (message.told verdict .place) (message.told verdict .parameter) 0 0 w
   -- of a message: the length of the contents that count, and where they start
-  pub counts : (m : Message) → LegalMessage (rulesOf PresentLenient) m → octets m ≡ o →
-      (v : List ℕ) (c : Counts (rulesOf PresentLenient) m t v) → Unpacked 0 0 0 (length v) (contentsAt (c .first)) w
+  pub counts : (m : Message) → LegalMessage (rulesOf (bookOf e lenient)) m → octets m ≡ o →
+      (v : List ℕ) (c : Counts (rulesOf (bookOf e lenient)) m t v) →
+      Unpacked e 0 0 0 (length v) (contentsAt (c .first)) w
   -- 0 in every field where none count
-  pub none-counts : (m : Message) → LegalMessage (rulesOf PresentLenient) m → octets m ≡ o →
-      counted (rulesOf PresentLenient) m t ≡ none → Unpacked 0 0 0 0 0 w
+  pub none-counts : (m : Message) → LegalMessage (rulesOf (bookOf e lenient)) m → octets m ≡ o →
+      counted (rulesOf (bookOf e lenient)) m t ≡ none → Unpacked e 0 0 0 0 0 w
 
--- the octets o, the directory d and a record c of 24 octets went in; the word w came back, and c' is what the record
--- then held
-pub record RecordFinds (o d c : List ℕ) (w : ℕ) (c' : List ℕ) : Type 0 where
-  pub found : Shown
-  pub finds : Finds (rulesOf PresentLenient) o d found
-  pub word : Unpacked (told found .number) (told found .place) (told found .parameter) 0 0 w
+-- by any edition, the octets o, the directory d and a record c of 24 octets went in; the word w came back, and c' is
+-- what the record then held
+pub record RecordFinds (e : ℕ) (o d c : List ℕ) (w : ℕ) (c' : List ℕ) : Type 0 where
+  pub finding : Finding
+  pub finds : FindsBy e lenient o d finding
+  pub word :
+      let a = told (finding .shown) in
+      Unpacked (finding .edition) (a .number) (a .place) (a .parameter) 0 0 w
   -- side, start and length of the part; as it was with a refusal
-  pub part : told found .number ≡ 0 → c' ≡ partRecord (told found .side) (told found .start) (told found .size)
-  pub refused : 1 ≤ told found .number → c' ≡ c
+  pub part :
+      let t = told (finding .shown) in
+      t .number ≡ 0 → c' ≡ partRecord (t .side) (t .start) (t .size)
+  pub refused : 1 ≤ told (finding .shown) .number → c' ≡ c
   -- and the header's readers read them back; every slice has fewer than 2^64 octets
-  pub read-back : length d < 256 ^ 8 → told found .number ≡ 0 →
-      (partSide c' ≡ told found .side) × (partStart c' ≡ told found .start) × (partLength c' ≡ told found .size)
+  pub read-back :
+      let t = told (finding .shown) in
+      length d < 256 ^ 8 → t .number ≡ 0 →
+      (partSide c' ≡ t .side) × (partStart c' ≡ t .start) × (partLength c' ≡ t .size)

@@ -9,45 +9,48 @@ use mathlib.Core.Option.{Option, none, some}
 use lib.Dec.{T}
 use Rattle.rules.specs.Tests.{_=?_, pick}
 use Rattle.rules.specs.Table.{rulesOf}
-use Rattle.rules.specs.declared.Book.the-variants.{PresentLenient}
+use Rattle.rules.specs.Editions.{lenient, edition, bookOf}
 use Rattle.rules.specs.Message as message
 use Rattle.rules.specs.Message.{octets, LegalMessage}
 use Rattle.rules.specs.Counting.{counted}
 use Rattle.desk.specs.declared.Desk.{Desk}
 use Rattle.desk.specs.declared.Answer.the-variants.{Done}
-use Rattle.desk.specs.declared.Outcome.{Outcome}
+use Rattle.desk.specs.declared.Settling.{Settling}
 use Rattle.desk.specs.History.{saidUnder, later}
 use Rattle.desk.specs.Holding.{Fit}
 use Rattle.desk.specs.Told.{told}
-use Rattle.desk.specs.Settles.{Settles}
+use Rattle.desk.specs.Settles.{SettlesBy}
 use Rattle.firmware.specs.DeskRecord.{isRecord, deskIn, deskRecord}
 use Rattle.firmware.specs.Word.{wordNumber, Unpacked}
 use Rattle.rules.specs.Octets.{referenceOf}
 
--- a record that is the desk d's: the word has what that desk's settling tells, the record is that of the
--- desk it leaves
-pub record RecordSettles (d : Desk) (o : List ℕ) (w : ℕ) (c' : List ℕ) : Type 0 where
-  pub outcome : Outcome
-  pub settles : Settles (rulesOf PresentLenient) d o outcome
+-- by any edition, a record that is the desk d's: the word has what that desk's settling tells, 16 too, the record is
+-- that of the desk it leaves
+pub record RecordSettles (e : ℕ) (d : Desk) (o : List ℕ) (w : ℕ) (c' : List ℕ) : Type 0 where
+  pub settling : Settling
+  pub settles : SettlesBy e lenient d o settling
   pub word :
-      Unpacked (told (outcome .answer) .number) (told (outcome .answer) .place) (told (outcome .answer) .parameter) 0 0
-      w
-  pub cells : c' ≡ deskRecord (outcome .desk)
+      let a = told (settling .outcome .answer) in
+      Unpacked (settling .edition) (a .number) (a .place) (a .parameter) 0 0 w
+  pub cells : c' ≡ deskRecord (settling .outcome .desk)
 
 -- size and codes are right, every place is in range, and no reference stands twice
 pub record IsDesk (c : List ℕ) : Type 0 where
   pub codes : T (isRecord c)
   pub places : Fit (deskIn c .places)
 
--- one call on a desk's record: the octets settled, the word that came back, and the record as it then was
+-- one call on a desk's record: the edition told, the octets settled, the word that came back, and the record as it then
+-- was
 pub record RecordCall : Type 0 where
+  pub edition : ℕ
   pub octets : List ℕ
   pub word : ℕ
   pub cells : List ℕ
 
 -- what a call says of the reference r: with number 0, what a notice that is done says; else nothing
 unfoldable pub saidIn : ℕ → RecordCall → Option Bool
-saidIn r x = pick (wordNumber (x .word) =? 0) (saidUnder (rulesOf PresentLenient) r (x .octets) Done) none
+saidIn r x =
+    pick (wordNumber (x .word) =? 0) (saidUnder (rulesOf (bookOf (x .edition) lenient)) r (x .octets) Done) none
 
 -- the last word of some calls on r, after the word b
 unfoldable pub lastSaidIn : ℕ → List RecordCall → Option Bool → Option Bool
@@ -55,16 +58,17 @@ lastSaidIn r [] b = b
 lastSaidIn r (x ∷ xs) b = lastSaidIn r xs (later (saidIn r x) b)
 
 -- ---- over the written rules
--- the call got number 0, with a notice m whose 0DH counts with the state s and the reference r
+-- the call got number 0, by a known edition, with a notice m whose 0DH counts with the state s and the reference r
 pub record NamesIn (x : RecordCall) (s r : ℕ) : Type 0 where
+  pub by-known : T (edition (x .edition))
   pub m : message.Message
-  pub legal : LegalMessage (rulesOf PresentLenient) m
+  pub legal : LegalMessage (rulesOf (bookOf (x .edition) lenient)) m
   pub is : octets m ≡ x .octets
   pub notice : m .kind ≡ 0x82
   pub done : wordNumber (x .word) ≡ 0
   pub high : ℕ
   pub low : ℕ
-  pub counts : counted (rulesOf PresentLenient) m 0x0D ≡ some (s ∷ high ∷ low ∷ [])
+  pub counts : counted (rulesOf (bookOf (x .edition) lenient)) m 0x0D ≡ some (s ∷ high ∷ low ∷ [])
   pub reference : referenceOf high low ≡ r
 
 -- what a call says of r: open exactly with FFH, not open exactly with 00H

@@ -3,12 +3,12 @@
 use draft::Entry;
 use draft::Value;
 use reader::Taken;
+use rules::Book;
 ghost use mathlib.Core.Path.{_≡_};
 ghost use mathlib.Core.List.{_++_};
 ghost use Prim.Native.Nat.{_≤_};
 ghost use lib.ListN.{length, replicate};
 ghost use Rattle.rules.specs.Table.{rulesOf};
-ghost use Rattle.rules.specs.declared.Book.the-variants as book;
 ghost use Rattle.rules.specs.Laying.{laid};
 ghost use Rattle.draft.specs.Packing.{draftOf, textsOf};
 ghost use Rattle.message.specs.Parameters.{parametersIn, messageIn};
@@ -106,18 +106,18 @@ struct Filled {
 }
 
 // The entries of the message's parameters, each at its place, and their texts one behind the other, in one walk.
-fn lay_entries(octets: &[u8], cells: &mut [u8], texts: &mut [u8]) -> Filled
-    requires { ⌜ (now cells ≡ replicate draftSize 0) × (textSize (rulesOf book.PresentLenient) (now octets) ≤ length (now texts)) ⌝ }
-    ensures count { λ r. ⌜ r .count ≡ draftOf (rulesOf book.PresentLenient) (messageIn (now (octets .entry))) .count ⌝ }
-    ensures used { λ r. ⌜ r .used ≡ textSize (rulesOf book.PresentLenient) (now (octets .entry)) ⌝ }
-    ensures cells { λ r. ⌜ now (cells .exit) ≡ replicate 8 0 ++ record-of.entriesCells (draftOf (rulesOf book.PresentLenient) (messageIn (now (octets .entry))) .entries) ⌝ }
-    ensures texts { λ r. ⌜ now (texts .exit) ≡ laid (textsOf (rulesOf book.PresentLenient) (parametersIn (now (octets .entry)))) (now (texts .entry)) ⌝ }
+fn lay_entries(book: Book, octets: &[u8], cells: &mut [u8], texts: &mut [u8]) -> Filled
+    requires { ⌜ (now cells ≡ replicate draftSize 0) × (textSize (rulesOf book) (now octets) ≤ length (now texts)) ⌝ }
+    ensures count { λ r. ⌜ r .count ≡ draftOf (rulesOf book) (messageIn (now (octets .entry))) .count ⌝ }
+    ensures used { λ r. ⌜ r .used ≡ textSize (rulesOf book) (now (octets .entry)) ⌝ }
+    ensures cells { λ r. ⌜ now (cells .exit) ≡ replicate 8 0 ++ record-of.entriesCells (draftOf (rulesOf book) (messageIn (now (octets .entry))) .entries) ⌝ }
+    ensures texts { λ r. ⌜ now (texts .exit) ≡ laid (textsOf (rulesOf book) (parametersIn (now (octets .entry)))) (now (texts .entry)) ⌝ }
 {
     let mut at: usize = 2;
     let mut used: usize = 0;
     let mut count: usize = 0;
     while count < rules::MOST {
-        let taken = reader::entry(rules::Book::PresentLenient, octets, at, used);
+        let taken = reader::entry(book, octets, at, used);
         match taken {
             Taken::Next { entry, text, place } => {
                 lay_entry(&mut cells[8 + 8 * count..], entry);
@@ -137,15 +137,16 @@ fn lay_entries(octets: &[u8], cells: &mut [u8], texts: &mut [u8]) -> Filled
 }
 
 // The record of a message's draft, whatever it held, and the texts; how many text octets there are.
-pub(crate) fn lay_draft(octets: &[u8], cells: &mut [u8], texts: &mut [u8]) -> usize
-    requires { ⌜ (length (now cells) ≡ draftSize) × (textSize (rulesOf book.PresentLenient) (now octets) ≤ length (now texts)) ⌝ }
-    ensures used { λ r. ⌜ r ≡ textSize (rulesOf book.PresentLenient) (now (octets .entry)) ⌝ }
-    ensures cells { λ r. ⌜ now (cells .exit) ≡ record-of.draftRecord (draftOf (rulesOf book.PresentLenient) (messageIn (now (octets .entry)))) ⌝ }
-    ensures texts { λ r. ⌜ now (texts .exit) ≡ laid (textsOf (rulesOf book.PresentLenient) (parametersIn (now (octets .entry)))) (now (texts .entry)) ⌝ }
+pub(crate) fn lay_draft(book: Book, octets: &[u8], cells: &mut [u8], texts: &mut [u8]) -> usize
+    requires { ⌜ (length (now cells) ≡ draftSize) × (textSize (rulesOf book) (now octets) ≤ length (now texts)) ⌝ }
+    ensures used { λ r. ⌜ r ≡ textSize (rulesOf book) (now (octets .entry)) ⌝ }
+    ensures cells { λ r. ⌜ now (cells .exit) ≡ record-of.draftRecord (draftOf (rulesOf book) (messageIn (now (octets .entry)))) ⌝ }
+    ensures texts { λ r. ⌜ now (texts .exit) ≡ laid (textsOf (rulesOf book) (parametersIn (now (octets .entry)))) (now (texts .entry)) ⌝ }
 {
     clear(cells);
-    let filled = lay_entries(octets, cells, texts);
+    let filled = lay_entries(book, octets, cells, texts);
     cells[0] = message::octet(octets, 0);
     cells[1] = filled.count as u8;
+    cells[2] = rules::edition_of(book);
     filled.used
 }

@@ -12,7 +12,6 @@ use message::Part;
 use message::Verdict;
 use parts::PART;
 use reader::Fitting;
-use rules::Book;
 use rules::Fault;
 use rules::Spot;
 use rules::Stage;
@@ -21,10 +20,11 @@ ghost use mathlib.Core.Path.{_≡_};
 ghost use Prim.Native.Nat.{_+_, _*_, _≤_};
 ghost use lib.ListN.{length};
 ghost use Rattle.rules.specs.Table.{rulesOf};
-ghost use Rattle.rules.specs.declared.Book.the-variants as book;
+ghost use Rattle.rules.specs.Editions.{lenient, bookOf};
 ghost use Rattle.listener.specs.Told.{told};
 ghost use Rattle.message.specs.Parts.{countedAt};
-ghost use Rattle.caption.specs.Caption.{findOf};
+ghost use Rattle.message.specs.Verdict.{verdictOf};
+ghost use Rattle.caption.specs.Caption.{findIn};
 ghost use Rattle.reader.specs.Read.{packOf, areaAfter};
 ghost use Rattle.firmware.specs.Record as record-of;
 ghost use Rattle.firmware.specs.Word as word;
@@ -100,12 +100,13 @@ fn fields_of(cells: &[u8]) -> Fields
     }
 }
 
-fn known(ok: bool, state: State) -> Decoded
-    ensures { λ r. ⌜ r ≡ record-of.known ok state ⌝ }
+fn known(edition: u8, ok: bool, state: State) -> Decoded
+    ensures { λ r. ⌜ r ≡ record-of.known edition ok state ⌝ }
 {
     if ok {
         Decoded::Known(Listener {
-            book: Book::PresentLenient,
+            edition,
+            way: rules::LENIENT,
             state,
         })
     } else {
@@ -115,21 +116,34 @@ fn known(ok: bool, state: State) -> Decoded
 
 // Before a parameter: the message type, L, a parameter type or the checksum is to come. What is unused sums up to
 // `idle`, and must be 0.
-fn opening_of(stage: u8, q: Spot, room: u8, idle: u64) -> Decoded
+fn opening_of(edition: u8, stage: u8, q: Spot, room: u8, idle: u64) -> Decoded
     requires { ⌜ idle ≤ 10000000000 ⌝ }
-    ensures { λ r. ⌜ r ≡ record-of.openingOf stage q room idle ⌝ }
+    ensures { λ r. ⌜ r ≡ record-of.openingOf edition stage q room idle ⌝ }
 {
     if stage == 0 {
-        known(idle + room as u64 == 0, State::Waiting(Stage::Kind, q))
+        known(
+            edition,
+            idle + room as u64 == 0,
+            State::Waiting(Stage::Kind, q),
+        )
     } else if stage == 1 {
-        known(idle + room as u64 == 0, State::Waiting(Stage::Size, q))
+        known(
+            edition,
+            idle + room as u64 == 0,
+            State::Waiting(Stage::Size, q),
+        )
     } else {
-        known(idle == 0, State::Waiting(Stage::Header { room }, q))
+        known(
+            edition,
+            idle == 0,
+            State::Waiting(Stage::Header { room }, q),
+        )
     }
 }
 
 // In a parameter: its length or an octet of its contents is to come.
 fn parameter_of(
+    edition: u8,
     stage: u8,
     q: Spot,
     code: u8,
@@ -140,36 +154,39 @@ fn parameter_of(
     idle: u64,
 ) -> Decoded
     requires { ⌜ idle ≤ 10000000000 ⌝ }
-    ensures { λ r. ⌜ r ≡ record-of.parameterState stage q code length index memory room idle ⌝ }
+    ensures { λ r. ⌜ r ≡ record-of.parameterState edition stage q code length index memory room idle ⌝ }
 {
-    if rules::LAST_PRESENT < code {
-        return Decoded::Unknown;
-    }
-    let class = rules::class_coded(code);
-    if stage == 3 {
-        known(
-            length as u64 + index as u64 + memory as u64 + idle == 0,
-            State::Waiting(Stage::Length { class, room }, q),
-        )
+    if rules::code_in(edition, code) {
+        let class = rules::class_coded(code);
+        if stage == 3 {
+            known(
+                edition,
+                length as u64 + index as u64 + memory as u64 + idle == 0,
+                State::Waiting(Stage::Length { class, room }, q),
+            )
+        } else {
+            let stage = Stage::Content {
+                class,
+                length,
+                index,
+                memory,
+                room,
+            };
+            known(edition, idle == 0, State::Waiting(stage, q))
+        }
     } else {
-        let stage = Stage::Content {
-            class,
-            length,
-            index,
-            memory,
-            room,
-        };
-        known(idle == 0, State::Waiting(stage, q))
+        Decoded::Unknown
     }
 }
 
 // A message or a refusal.
-fn ended_of(stage: u8, place: u16, number: u8, parameter: u8, idle: u64) -> Decoded
+fn ended_of(edition: u8, stage: u8, place: u16, number: u8, parameter: u8, idle: u64) -> Decoded
     requires { ⌜ idle ≤ 10000000000 ⌝ }
-    ensures { λ r. ⌜ r ≡ record-of.endedOf stage place number parameter idle ⌝ }
+    ensures { λ r. ⌜ r ≡ record-of.endedOf edition stage place number parameter idle ⌝ }
 {
     if stage == 5 {
         known(
+            edition,
             idle + number as u64 + parameter as u64 == 0,
             State::Message(place),
         )
@@ -179,14 +196,14 @@ fn ended_of(stage: u8, place: u16, number: u8, parameter: u8, idle: u64) -> Deco
             place,
             parameter,
         };
-        known(idle == 0, State::Refused(fault))
+        known(edition, idle == 0, State::Refused(fault))
     } else {
         Decoded::Unknown
     }
 }
 
-fn state_of(f: Fields) -> Decoded
-    ensures { λ r. ⌜ r ≡ record-of.stateOf f ⌝ }
+fn state_of(edition: u8, f: Fields) -> Decoded
+    ensures { λ r. ⌜ r ≡ record-of.stateOf edition f ⌝ }
 {
     let inner = f.class as u64 + f.length as u64 + f.index as u64 + f.memory as u64;
     let q = Spot {
@@ -195,10 +212,17 @@ fn state_of(f: Fields) -> Decoded
         parameter: f.parameter,
     };
     if f.stage <= 2 {
-        opening_of(f.stage, q, f.room, inner + f.number as u64 + f.spare as u64)
+        opening_of(
+            edition,
+            f.stage,
+            q,
+            f.room,
+            inner + f.number as u64 + f.spare as u64,
+        )
     } else if f.stage <= 4 {
         let idle = f.number as u64 + f.spare as u64;
         parameter_of(
+            edition,
             f.stage,
             q,
             f.class,
@@ -210,7 +234,7 @@ fn state_of(f: Fields) -> Decoded
         )
     } else {
         let idle = inner + f.sum as u64 + f.room as u64 + f.spare as u64;
-        ended_of(f.stage, f.place, f.number, f.parameter, idle)
+        ended_of(edition, f.stage, f.place, f.number, f.parameter, idle)
     }
 }
 
@@ -218,11 +242,8 @@ fn decode(cells: &[u8]) -> Decoded
     ensures { λ r. ⌜ r ≡ record-of.decodeOf (now (cells .entry)) ⌝ }
 {
     if cells.len() == LISTENER {
-        if cells[11] == 0 {
-            state_of(fields_of(cells))
-        } else {
-            Decoded::Unknown
-        }
+        let edition = cells[11];
+        state_of(edition, fields_of(cells))
     } else {
         Decoded::Unknown
     }
@@ -303,9 +324,9 @@ fn fields_for(s: State) -> Fields
     }
 }
 
-fn lay(cells: &mut [u8], f: Fields)
+fn lay(cells: &mut [u8], edition: u8, f: Fields)
     requires { ⌜ length (now cells) ≡ listenerSize ⌝ }
-    ensures { λ _. ⌜ now (cells .exit) ≡ record-of.laidFields f ⌝ }
+    ensures { λ _. ⌜ now (cells .exit) ≡ record-of.laidFields edition f ⌝ }
 {
     let low = (f.place % 256) as u8;
     let high = (f.place / 256) as u8;
@@ -320,7 +341,7 @@ fn lay(cells: &mut [u8], f: Fields)
     cells[8] = f.room;
     cells[9] = f.number;
     cells[10] = f.parameter;
-    cells[11] = 0;
+    cells[11] = edition;
     cells[12] = 0;
     cells[13] = 0;
     cells[14] = 0;
@@ -332,26 +353,35 @@ fn encode(cells: &mut [u8], l: Listener)
     ensures { λ _. ⌜ now (cells .exit) ≡ record-of.recordOf l ⌝ }
 {
     let state = l.state;
-    lay(cells, fields_for(state));
+    lay(cells, l.edition, fields_for(state));
 }
 
-fn packed(number: u8, place: u16, parameter: u8, size: u16, taken: usize) -> u64
+// The edition is 0 or 1, and the parameter one of at most 85: so the two share an octet.
+fn packed(edition: u8, number: u8, place: u16, parameter: u8, size: u16, taken: usize) -> u64
     requires { ⌜ taken ≤ 258 ⌝ }
-    ensures { λ r. ⌜ r ≡ word.packed number place parameter size taken ⌝ }
+    ensures { λ r. ⌜ r ≡ word.packed edition number place parameter size taken ⌝ }
 {
     let low = number as u64 + 256 * (place as u64) + 16777216 * (size as u64);
-    low + 1099511627776 * (taken as u64) + 72057594037927936 * (parameter as u64)
+    let last = (parameter % 128) as u64 + 128 * ((edition % 2) as u64);
+    low + 1099511627776 * (taken as u64) + 72057594037927936 * last
 }
 
-fn word_of(a: Answer, taken: usize) -> u64
+fn word_of(edition: u8, a: Answer, taken: usize) -> u64
     requires { ⌜ taken ≤ 258 ⌝ }
-    ensures { λ r. ⌜ r ≡ word.packed (told a .number) (told a .place) (told a .parameter) (told a .size) taken ⌝ }
+    ensures { λ r. ⌜ r ≡ word.packed edition (told a .number) (told a .place) (told a .parameter) (told a .size) taken ⌝ }
 {
     match a {
-        Answer::Waits => packed(0, 0, 0, 0, taken),
-        Answer::Message(n) => packed(0, 0, 0, n, taken),
-        Answer::Refused(f) => packed(f.number, f.place, f.parameter, 0, taken),
+        Answer::Waits => packed(edition, 0, 0, 0, 0, taken),
+        Answer::Message(n) => packed(edition, 0, 0, 0, n, taken),
+        Answer::Refused(f) => packed(edition, f.number, f.place, f.parameter, 0, taken),
     }
+}
+
+// A refusal by number alone: at place 0, in no parameter, and no edition is named.
+fn plain(number: u8) -> u64
+    ensures { λ r. ⌜ r ≡ word.packed 0 number 0 0 0 0 ⌝ }
+{
+    packed(0, number, 0, 0, 0, 0)
 }
 
 // What a call leaves: the listener, and the answer as a word.
@@ -366,83 +396,109 @@ fn hear(l: Listener, octets: &[u8]) -> HeardWord
     let heard = listener::listen(l, octets);
     let listener = heard.listener;
     let answer = heard.answer;
-    let word = word_of(answer, heard.taken);
+    let word = word_of(heard.edition, answer, heard.taken);
     HeardWord { listener, word }
 }
 
 // The texts, and the record where they were laid down.
-fn read_into(octets: &[u8], cells: &mut [u8], texts: &mut [u8]) -> u64
+fn read_into(edition: u8, octets: &[u8], cells: &mut [u8], texts: &mut [u8]) -> u64
     requires { ⌜ length (now cells) ≡ draftSize ⌝ }
-    ensures answer { λ r. ⌜ r ≡ exports.packedWord (packOf (rulesOf book.PresentLenient) (now (octets .entry)) (length (now (texts .entry)))) ⌝ }
-    ensures cells { λ r. ⌜ now (cells .exit) ≡ exports.recordFrom (now (octets .entry)) (now (cells .entry)) (packOf (rulesOf book.PresentLenient) (now (octets .entry)) (length (now (texts .entry)))) ⌝ }
-    ensures texts { λ r. ⌜ now (texts .exit) ≡ areaAfter (rulesOf book.PresentLenient) (now (octets .entry)) (now (texts .entry)) ⌝ }
+    ensures answer { λ r. ⌜ r ≡ exports.packedWord edition (packOf (rulesOf (bookOf edition lenient)) (now (octets .entry)) (length (now (texts .entry)))) ⌝ }
+    ensures cells { λ r. ⌜ now (cells .exit) ≡ exports.recordFrom (rulesOf (bookOf edition lenient)) (now (octets .entry)) (now (cells .entry)) (packOf (rulesOf (bookOf edition lenient)) (now (octets .entry)) (length (now (texts .entry)))) ⌝ }
+    ensures texts { λ r. ⌜ now (texts .exit) ≡ areaAfter (rulesOf (bookOf edition lenient)) (now (octets .entry)) (now (texts .entry)) ⌝ }
 {
-    let fitting = reader::fits(Book::PresentLenient, octets, texts.len());
+    let book = rules::book_of(edition, rules::LENIENT);
+    let fitting = reader::fits(book, octets, texts.len());
     match fitting {
         Fitting::Fits => {
-            let used = drafts::lay_draft(octets, cells, texts);
-            packed(0, 0, 0, used as u16, 0)
+            let used = drafts::lay_draft(book, octets, cells, texts);
+            packed(edition, 0, 0, 0, used as u16, 0)
         }
-        Fitting::Refused { fault } => packed(fault.number, fault.place, fault.parameter, 0, 0),
+        Fitting::Refused { fault } => {
+            packed(edition, fault.number, fault.place, fault.parameter, 0, 0)
+        }
     }
 }
 
-fn desk_word(a: desk::Answer) -> u64
-    ensures { λ r. ⌜ r ≡ exports.deskWord a ⌝ }
+fn desk_word(edition: u8, a: desk::Answer) -> u64
+    ensures { λ r. ⌜ r ≡ exports.deskWord edition a ⌝ }
 {
     match a {
-        desk::Answer::Done => packed(0, 0, 0, 0, 0),
-        desk::Answer::Refused(f) => packed(f.number, f.place, f.parameter, 0, 0),
+        desk::Answer::Done => packed(edition, 0, 0, 0, 0, 0),
+        desk::Answer::Refused(f) => packed(edition, f.number, f.place, f.parameter, 0, 0),
     }
 }
 
 // In a message: the contents of a type that count, their length as the size, and their start in octets 5 and 6; 0 and
 // 0 where none count.
-fn counted_in(octets: &[u8], kind: u8) -> u64
+fn counted_in(edition: u8, octets: &[u8], kind: u8) -> u64
     requires { ⌜ length (now octets) ≤ 258 ⌝ }
-    ensures { λ r. ⌜ r ≡ exports.partWord (countedAt (rulesOf book.PresentLenient) (now (octets .entry)) kind) ⌝ }
+    ensures { λ r. ⌜ r ≡ exports.partWord edition (countedAt (rulesOf (bookOf edition lenient)) (now (octets .entry)) kind) ⌝ }
 {
-    let part = message::counted(Book::PresentLenient, octets, kind);
+    let book = rules::book_of(edition, rules::LENIENT);
+    let part = message::counted(book, octets, kind);
     match part {
-        Part::At { start, length: n } => packed(0, 0, 0, n as u16, start),
-        Part::Nowhere => packed(0, 0, 0, 0, 0),
+        Part::At { start, length: n } => packed(edition, 0, 0, 0, n as u16, start),
+        Part::Nowhere => packed(edition, 0, 0, 0, 0, 0),
+    }
+}
+
+// What counts by a known edition, or one of 1 to 8 with its place.
+fn counted_by(edition: u8, octets: &[u8], kind: u8) -> u64
+    ensures { λ r. ⌜ r ≡ exports.countedUnder edition (verdictOf (rulesOf (bookOf edition lenient)) (now (octets .entry))) (now (octets .entry)) kind ⌝ }
+{
+    let book = rules::book_of(edition, rules::LENIENT);
+    let verdict = message::judge(book, octets);
+    match verdict {
+        Verdict::Accepted { size: _ } => counted_in(edition, octets, kind),
+        Verdict::Declined { fault } => {
+            packed(edition, fault.number, fault.place, fault.parameter, 0, 0)
+        }
     }
 }
 
 // The record of the part that is found; as it was with a refusal.
-fn caption_into(octets: &[u8], directory: &[u8], cells: &mut [u8]) -> u64
+fn caption_into(edition: u8, octets: &[u8], directory: &[u8], cells: &mut [u8]) -> u64
     requires { ⌜ length (now cells) ≡ partSize ⌝ }
-    ensures answer { λ r. ⌜ r ≡ exports.foundWord (findOf (rulesOf book.PresentLenient) (now (octets .entry)) (now (directory .entry))) ⌝ }
-    ensures cells { λ r. ⌜ now (cells .exit) ≡ exports.partFrom (now (cells .entry)) (findOf (rulesOf book.PresentLenient) (now (octets .entry)) (now (directory .entry))) ⌝ }
+    ensures answer { λ r. ⌜ r ≡ exports.foundWord (findIn edition lenient (now (octets .entry)) (now (directory .entry))) ⌝ }
+    ensures cells { λ r. ⌜ now (cells .exit) ≡ exports.partFrom (now (cells .entry)) (findIn edition lenient (now (octets .entry)) (now (directory .entry)) .shown) ⌝ }
 {
-    let found = caption::find(Book::PresentLenient, octets, directory);
+    let finding = caption::find(edition, rules::LENIENT, octets, directory);
+    let named = finding.edition;
+    let found = finding.shown;
     match found {
         Shown::InMessage { start, length: n } => {
             parts::lay_part(cells, 0, start, n);
-            packed(0, 0, 0, 0, 0)
+            packed(named, 0, 0, 0, 0, 0)
         }
         Shown::InDirectory { start, length: n } => {
             parts::lay_part(cells, 1, start, n);
-            packed(0, 0, 0, 0, 0)
+            packed(named, 0, 0, 0, 0, 0)
         }
-        Shown::Refused(f) => packed(f.number, f.place, f.parameter, 0, 0),
+        Shown::Refused(f) => packed(named, f.number, f.place, f.parameter, 0, 0),
     }
 }
 
-// Makes the record that of a new listener, whatever it holds; another size than 16 is 17.
+// Makes the record that of a new listener of an edition, whatever it holds; another size than 16 is 17, an unknown
+// edition 16, and the record stays.
 #[no_mangle]
-pub extern "C" fn anthercup_reset(cells: &mut [u8]) -> u64
-    ensures { λ r. ⌜ (r ≡ exports.resetAnswer (now (cells .entry))) × (now (cells .exit) ≡ exports.resetRecord (now (cells .entry))) ⌝ }
+pub extern "C" fn anthercup_reset(edition: u8, cells: &mut [u8]) -> u64
+    ensures { λ r. ⌜ (r ≡ exports.resetAnswer edition (now (cells .entry))) × (now (cells .exit) ≡ exports.resetRecord edition (now (cells .entry))) ⌝ }
 {
     if cells.len() == LISTENER {
-        encode(cells, listener::reset(Book::PresentLenient));
-        packed(0, 0, 0, 0, 0)
+        if rules::is_edition(edition) {
+            encode(cells, listener::reset(edition, rules::LENIENT));
+            packed(edition, 0, 0, 0, 0, 0)
+        } else {
+            plain(16)
+        }
     } else {
-        packed(17, 0, 0, 0, 0)
+        plain(17)
     }
 }
 
-// Takes a run of octets. A record of another size, or with a code or number out of range, is 17 and stays as it is.
+// Takes a run of octets. A record of another size, or with a code or number out of range, is 17, one of an unknown
+// edition 16; both stay as they are.
 #[no_mangle]
 pub extern "C" fn anthercup_listen(cells: &mut [u8], octets: &[u8]) -> u64
     ensures { λ r. ⌜ (r ≡ exports.listenAnswer (now (cells .entry)) (now (octets .entry))) × (now (cells .exit) ≡ exports.listenRecord (now (cells .entry)) (now (octets .entry))) ⌝ }
@@ -455,22 +511,31 @@ pub extern "C" fn anthercup_listen(cells: &mut [u8], octets: &[u8]) -> u64
             encode(cells, listener);
             done.word
         }
-        Decoded::Unknown => packed(17, 0, 0, 0, 0),
+        Decoded::Unknown => plain(17),
     }
 }
 
 // A whole read: the draft's record and the texts, or one of 1 to 9 with its place and both as they were; a record of
-// another size than 688 is 17.
+// another size than 688 is 17, then an unknown edition 16.
 #[no_mangle]
-pub extern "C" fn anthercup_read(octets: &[u8], cells: &mut [u8], texts: &mut [u8]) -> u64
-    ensures answer { λ r. ⌜ r ≡ exports.readAnswer (now (octets .entry)) (now (cells .entry)) (now (texts .entry)) ⌝ }
-    ensures cells { λ r. ⌜ now (cells .exit) ≡ exports.readRecord (now (octets .entry)) (now (cells .entry)) (now (texts .entry)) ⌝ }
-    ensures texts { λ r. ⌜ now (texts .exit) ≡ exports.readTexts (now (octets .entry)) (now (cells .entry)) (now (texts .entry)) ⌝ }
+pub extern "C" fn anthercup_read(
+    edition: u8,
+    octets: &[u8],
+    cells: &mut [u8],
+    texts: &mut [u8],
+) -> u64
+    ensures answer { λ r. ⌜ r ≡ exports.readAnswer edition (now (octets .entry)) (now (cells .entry)) (now (texts .entry)) ⌝ }
+    ensures cells { λ r. ⌜ now (cells .exit) ≡ exports.readRecord edition (now (octets .entry)) (now (cells .entry)) (now (texts .entry)) ⌝ }
+    ensures texts { λ r. ⌜ now (texts .exit) ≡ exports.readTexts edition (now (octets .entry)) (now (cells .entry)) (now (texts .entry)) ⌝ }
 {
     if cells.len() == DRAFT {
-        read_into(octets, cells, texts)
+        if rules::is_edition(edition) {
+            read_into(edition, octets, cells, texts)
+        } else {
+            plain(16)
+        }
     } else {
-        packed(17, 0, 0, 0, 0)
+        plain(17)
     }
 }
 
@@ -481,52 +546,61 @@ pub extern "C" fn anthercup_new_desk(cells: &mut [u8]) -> u64
 {
     if cells.len() == DESK {
         desks::encode(cells, desk::new_desk());
-        packed(0, 0, 0, 0, 0)
+        plain(0)
     } else {
-        packed(17, 0, 0, 0, 0)
+        plain(17)
     }
 }
 
 // Settles a whole message on a desk. A record of another size, with a code or number out of range or with a reference
-// twice is 17; with it, with 1 to 8 and with 21, where a reference has no place, the record stays.
+// twice is 17; an unknown edition 16; with these, with 1 to 8 and with 21, where a reference has no place, the record
+// stays.
 #[no_mangle]
-pub extern "C" fn anthercup_settle(cells: &mut [u8], octets: &[u8]) -> u64
-    ensures { λ r. ⌜ (r ≡ exports.settleAnswer (now (cells .entry)) (now (octets .entry))) × (now (cells .exit) ≡ exports.settleRecord (now (cells .entry)) (now (octets .entry))) ⌝ }
+pub extern "C" fn anthercup_settle(edition: u8, cells: &mut [u8], octets: &[u8]) -> u64
+    ensures { λ r. ⌜ (r ≡ exports.settleAnswer edition (now (cells .entry)) (now (octets .entry))) × (now (cells .exit) ≡ exports.settleRecord edition (now (cells .entry)) (now (octets .entry))) ⌝ }
 {
     if desks::is_record(cells) {
         let found = desks::decode(cells);
-        let done = desk::settle(Book::PresentLenient, found, octets);
-        let after = done.desk;
-        let answer = done.answer;
+        let done = desk::settle(edition, rules::LENIENT, found, octets);
+        let named = done.edition;
+        let outcome = done.outcome;
+        let after = outcome.desk;
+        let answer = outcome.answer;
         desks::encode(cells, after);
-        desk_word(answer)
+        desk_word(named, answer)
     } else {
-        packed(17, 0, 0, 0, 0)
+        plain(17)
     }
 }
 
-// Where the contents of a type that count stand in a whole message, or one of 1 to 8 with its place.
+// Where the contents of a type that count stand in a whole message, or one of 1 to 8 with its place; an unknown
+// edition is 16.
 #[no_mangle]
-pub extern "C" fn anthercup_counted(octets: &[u8], kind: u8) -> u64
-    ensures { λ r. ⌜ r ≡ exports.countedAnswer (now (octets .entry)) kind ⌝ }
+pub extern "C" fn anthercup_counted(edition: u8, octets: &[u8], kind: u8) -> u64
+    ensures { λ r. ⌜ r ≡ exports.countedAnswer edition (now (octets .entry)) kind ⌝ }
 {
-    let verdict = message::judge(Book::PresentLenient, octets);
-    match verdict {
-        Verdict::Accepted { size: _ } => counted_in(octets, kind),
-        Verdict::Declined { fault } => packed(fault.number, fault.place, fault.parameter, 0, 0),
+    if rules::is_edition(edition) {
+        counted_by(edition, octets, kind)
+    } else {
+        plain(16)
     }
 }
 
 // The caption of a whole message: the part's record, or one of 1 to 8 with its place and the record as it was; a
-// record of another size than 24 is 17.
+// record of another size than 24 is 17, then an unknown edition 16.
 #[no_mangle]
-pub extern "C" fn anthercup_caption(octets: &[u8], directory: &[u8], cells: &mut [u8]) -> u64
-    ensures answer { λ r. ⌜ r ≡ exports.captionAnswer (now (octets .entry)) (now (directory .entry)) (now (cells .entry)) ⌝ }
-    ensures cells { λ r. ⌜ now (cells .exit) ≡ exports.captionRecord (now (octets .entry)) (now (directory .entry)) (now (cells .entry)) ⌝ }
+pub extern "C" fn anthercup_caption(
+    edition: u8,
+    octets: &[u8],
+    directory: &[u8],
+    cells: &mut [u8],
+) -> u64
+    ensures answer { λ r. ⌜ r ≡ exports.captionAnswer edition (now (octets .entry)) (now (directory .entry)) (now (cells .entry)) ⌝ }
+    ensures cells { λ r. ⌜ now (cells .exit) ≡ exports.captionRecord edition (now (octets .entry)) (now (directory .entry)) (now (cells .entry)) ⌝ }
 {
     if cells.len() == PART {
-        caption_into(octets, directory, cells)
+        caption_into(edition, octets, directory, cells)
     } else {
-        packed(17, 0, 0, 0, 0)
+        plain(17)
     }
 }

@@ -7,5 +7,6 @@ pub mod One
 pub mod Runs
 pub mod Told
 pub mod Hears
+pub mod Answers
 pub mod Going
 pub mod Headers

@@ -1,5 +1,6 @@
 -- What a call of the listener gives (document 01, Listening): the state after the octets, the answer, the octets
--- taken; 17 for a listener out of range.
+-- taken, and the edition that it names; 17 for a listener out of range, 16 for one whose edition or way is unknown
+-- (document 02, Q-5).
 -- Assumes nothing.
 use Prim.Native.Nat.{ℕ, suc, _+_, _≤_, _<_}
 use mathlib.Core.Path.{_≡_}
@@ -9,7 +10,7 @@ use lib.ListN.{length, drop}
 use lib.Dec.{T}
 use Rattle.rules.specs.Tests.{pick}
 use Rattle.rules.specs.Table.{Rules}
-use Rattle.rules.specs.declared.Book.{Book}
+use Rattle.rules.specs.Editions.{known, bookOf}
 use Rattle.rules.specs.Refusals.{noted}
 use Rattle.rules.specs.ContentJudge.{remember}
 use Rattle.rules.specs.Machine.{Machine, moved, step, run, start}
@@ -69,23 +70,35 @@ pub record Onward (R : Rules) (w : State) (o : List ℕ) (i : ℕ) (r : Ran) : T
   pub in-range : T (inRange R (r .state))
   pub same : runFrom (r .taken) (machine R) (r .state) (drop (r .taken) o) ≡ runFrom i (machine R) w (drop i o)
 
--- out of range: number 17, nothing taken, and the listener as it was
-abbrev pub outOfRange : Listener → Heard
-outOfRange l = record { listener = l; answer = Refused (noted 17 0); taken = 0 }
+-- a refusal that no octet causes: nothing taken, the listener as it was, and no edition named
+abbrev pub untaken : ℕ → Listener → Heard
+untaken k l = record { listener = l; answer = Refused (noted k 0); taken = 0; edition = 0 }
 
--- in range: its language's machine runs over the octets that it takes, and the answer tells where that ends
+-- out of range: 17; in range, but its edition or its way is unknown: 16
+abbrev pub outOfRange : Listener → Heard
+outOfRange l = untaken 17 l
+
+abbrev pub unknownNumbers : Listener → Heard
+unknownNumbers l = untaken 16 l
+
+-- in range: its language's machine runs over the octets that it takes, and the answer tells where that ends, and
+-- names its edition
 abbrev pub stepped : Language → Listener → List ℕ → Heard
 stepped L l h = record {
-  listener = record { book = l .book; state = run (L .machine) (l .state) h };
+  listener = record { edition = l .edition; way = l .way; state = run (L .machine) (l .state) h };
   answer = answerOf (run (L .machine) (l .state) h);
   taken = taken (L .machine) (l .state) h;
+  edition = l .edition;
 }
 
 unfoldable pub heardIn : Language → Listener → List ℕ → Heard
-heardIn L l h = pick (L .inRange (l .state)) (stepped L l h) (outOfRange l)
+heardIn L l h =
+    pick (L .inRange (l .state)) (pick (known (l .edition) (l .way)) (stepped L l h) (unknownNumbers l))
+    (outOfRange l)
 
+-- by the book of its numbers
 abbrev pub heardOf : Listener → List ℕ → Heard
-heardOf l h = heardIn (languageOf (l .book)) l h
+heardOf l h = heardIn (languageOf (bookOf (l .edition) (l .way))) l h
 
-unfoldable pub newListener : Book → Listener
-newListener b = record { book = b; state = start (languageOf b .machine) }
+unfoldable pub newListener : ℕ → ℕ → Listener
+newListener e w = record { edition = e; way = w; state = start (languageOf (bookOf e w) .machine) }

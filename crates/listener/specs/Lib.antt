@@ -2,3 +2,4 @@
 pub mod Told
 pub mod Heard
 pub mod Hears
+pub mod Answers

@@ -22,8 +22,10 @@ ghost use Rattle.rules.specs.declared.Stage.the-variants as stage;
 ghost use Rattle.listener.specs.Heard.{answerOf, runOf, insideOf, Onward, heardOf, newListener};
 ghost use Rattle.listener.specs.Heard as heard;
 
+// Edition and way are the numbers told at its reset, known or not (document 02, Q-5).
 pub struct Listener {
-    pub book: Book,
+    pub edition: u8,
+    pub way: u8,
     pub state: State,
 }
 
@@ -33,11 +35,13 @@ pub enum Answer {
     Refused(Fault),
 }
 
-// The listener as it then stands, its answer, and how many octets of the run it took, the spoiling one counted.
+// The listener as it then stands, its answer, how many octets of the run it took, the spoiling one counted, and the
+// edition that the answer names: 0 with 16 and 17.
 pub struct Heard {
     pub listener: Listener,
     pub answer: Answer,
     pub taken: usize,
+    pub edition: u8,
 }
 
 // Where a run left a state, and how many octets it took.
@@ -549,12 +553,25 @@ fn answer_of(s: State) -> Answer
     }
 }
 
-// A new listener; a listener is reset by putting a new one in its place.
-pub fn reset(book: Book) -> Listener
-    ensures { λ r. ⌜ r ≡ newListener book ⌝ }
+// A refusal that no octet causes: nothing is taken, the listener comes back as it was, and no edition is named.
+fn untaken(l: Listener, number: u8) -> Heard
+    ensures { λ r. ⌜ r ≡ heard.untaken number l ⌝ }
+{
+    Heard {
+        listener: l,
+        answer: Answer::Refused(rules::noted(number, 0)),
+        taken: 0,
+        edition: 0,
+    }
+}
+
+// A new listener; a listener is reset by putting a new one in its place. It keeps the numbers told, unknown ones too.
+pub fn reset(edition: u8, way: u8) -> Listener
+    ensures { λ r. ⌜ r ≡ newListener edition way ⌝ }
 {
     Listener {
-        book,
+        edition,
+        way,
         state: State::Waiting(
             Stage::Kind,
             Spot {
@@ -566,28 +583,33 @@ pub fn reset(book: Book) -> Listener
     }
 }
 
-// Takes a run of octets, none included. A listener out of range gets 17 and comes back as it was.
+// Takes a run of octets, none included. A listener out of range gets 17, then one whose edition or way is unknown 16;
+// both come back as they were.
 pub fn listen(l: Listener, octets: &[u8]) -> Heard
     ensures { λ r. ⌜ r ≡ heardOf l (now (octets .entry)) ⌝ }
 {
-    let book = l.book;
+    let edition = l.edition;
+    let way = l.way;
     let state = l.state;
+    let book = rules::book_of(edition, way);
     if in_range(book, state) {
-        let ran = run(book, state, octets);
-        let now_at = ran.state;
-        Heard {
-            listener: Listener {
-                book,
-                state: now_at,
-            },
-            answer: answer_of(now_at),
-            taken: ran.taken,
+        if rules::is_known(edition, way) {
+            let ran = run(book, state, octets);
+            let now_at = ran.state;
+            Heard {
+                listener: Listener {
+                    edition,
+                    way,
+                    state: now_at,
+                },
+                answer: answer_of(now_at),
+                taken: ran.taken,
+                edition,
+            }
+        } else {
+            untaken(l, 16)
         }
     } else {
-        Heard {
-            listener: l,
-            answer: Answer::Refused(rules::noted(17, 0)),
-            taken: 0,
-        }
+        untaken(l, 17)
     }
 }

@@ -1,5 +1,5 @@
 // The listing of a message (document 01, What showmsg prints): a key=value line for each value that counts, in the
-// order of the table; or the two lines of a refusal. It comes back by value, in a buffer of the longest listing, so
+// order of the table; or the three lines of a refusal. It comes back by value, in a buffer of the longest listing, so
 // that it needs no refusal of its own.
 use message::Found;
 use message::Part;

@@ -22,7 +22,7 @@ use denote.Triple.Spec.{tripleOf}
 use denote.Triple.Clauses.{ensured, lasts}
 use Rattle.walker.specs.Moves.{seen}
 use Rattle.walker.specs.declared.Walker.{Walker}
-use Rattle.walker.specs.declared.Step.{Step}
+use Rattle.walker.specs.declared.Stepped.{Stepped}
 use Rattle.walker.proofs.Walker as T
 use Rattle.walker.proofs.look as sees
 
@@ -44,6 +44,6 @@ module _ {M : Type 1} (𝓤 : URA M) (H : Heap 𝓤) (A : Atoms 𝓤) (mem : Mem
       qed W (‵ (B (κ, tt) .own r (u ∷ [])) ∷ (‵ (flft κ q) ⊛ ‵ ftrue) ∷ []) ∵
       nothing ! $ move ! (1 ∷ 0 ∷ []) $ fjoin ! $ move ! (1 ∷ 0 ∷ []) $ join ! $ frame ! $ done !
 
-  pub sees-said : (κ : Lft) (r : Walker) (t : Step)
+  pub sees-said : (κ : Lft) (r : Walker) (t : Stepped)
       → ent 𝓤 (ensured 𝓤 H A sees.ended (sees.clauses 𝓤 H A mem run) (κ, tt) (r, tt) tt t) (fact 𝓤 (t ≡ seen r))
   sees-said κ r t = exE 𝓤 _ (λ ws. snd∗ 𝓤 (sem 𝓤 H A (lasts sees.ended (κ, tt) (r, tt) ws)) (fact 𝓤 (t ≡ seen r)))

@@ -1,8 +1,8 @@
 // Reading by value, walking, captions and drafts, run (document 01, Drafts and The caption): reads cases from standard
-// input, a message and a directory each behind its length in two octets, then the size of a text area in two octets,
-// and prints for each what `reader::read`, the walker, `caption` and `writer::write` answer, and whether the message
-// comes back from its draft. What it must print was written by the second reader, some rows by hand (tools/replay).
-// All is by the present edition, and types without a row are carried.
+// input, the numbers of an edition and a way, a message and a directory each behind its length in two octets, then the
+// size of a text area in two octets, and prints for each what `reader::read`, the walker, `caption` and `writer::write`
+// answer, with the edition that each names, and whether the message comes back from its draft. What it must print was
+// written by the second reader, some rows by hand (tools/replay).
 use caption::Shown;
 use draft::Draft;
 use draft::Entry;
@@ -11,10 +11,10 @@ use draft::Value;
 use libc::STDIN_FILENO;
 use libc::STDOUT_FILENO;
 use reader::Packed;
-use rules::Book;
 use rules::Fault;
 use rules::MOST;
 use walker::Step;
+use walker::Stepped;
 use walker::Walker;
 use writer::Written;
 ghost use mathlib.Core.Path.{_≡_};
@@ -31,6 +31,9 @@ const TEXTS: usize = 253;
 const HEARD: usize = 300;
 
 const LENT: usize = 200;
+
+// The number of no edition.
+const UNKNOWN: u8 = 2;
 
 // A code that is no side: with a refusal `caption` leaves it (document 01, The caption).
 const LENT_CODE: u8 = 7;
@@ -61,6 +64,11 @@ fn say_fault(text: &[u8], fault: Fault) {
     say_number(text, fault.number as u64);
     say_number(b" at ", fault.place as u64);
     say_number(b" in ", fault.parameter as u64);
+}
+
+// The edition that an answer names ends its line.
+fn say_edition(edition: u8) {
+    say_number(b" edition ", edition as u64);
     say(b"\n");
 }
 
@@ -123,49 +131,92 @@ fn other(x: u8) -> u8 {
     255 - x
 }
 
+// The same draft of another edition.
+fn moved_to(edition: u8, draft: Draft) -> Draft {
+    let kind = draft.kind;
+    let count = draft.count;
+    let entries = draft.entries;
+    Draft {
+        kind,
+        edition,
+        count,
+        entries,
+    }
+}
+
+// The other edition; the present one beside an unknown one.
+fn other_edition(edition: u8) -> u8 {
+    if edition == rules::PRESENT {
+        rules::OLD
+    } else {
+        rules::PRESENT
+    }
+}
+
+// Drafts of two editions are never equal, and one of an unknown edition equals none, itself included (document 02,
+// Q-5).
+fn say_editions(draft: Draft, texts: &[u8]) {
+    let other = moved_to(other_edition(draft.edition), draft);
+    say_whether(b"edition", draft::same(draft, texts, other, texts));
+    let unknown = moved_to(UNKNOWN, draft);
+    say_whether(b"unknown", draft::same(unknown, texts, unknown, texts));
+}
+
 // What was written is read again: it is the draft, no longer with another octet in its text area, and never the draft
 // with no entries (document 01, Drafts).
-fn say_again(draft: Draft, texts: &[u8], written: &[u8]) {
+fn say_again(way: u8, draft: Draft, texts: &[u8], written: &[u8]) {
     let mut area = [0u8; TEXTS];
-    let reading = reader::read(Book::PresentLenient, written, &mut area);
+    let reading = reader::read(draft.edition, way, written, &mut area);
     let again = reading.draft;
     say_whether(b"again", draft::same(draft, texts, again, &area));
     area[0] = other(area[0]);
     say_whether(b"spoilt", draft::same(draft, texts, again, &area));
     say_whether(
         b"empty",
-        draft::same(draft, texts, draft::empty(draft.kind), &area),
+        draft::same(draft, texts, draft::empty(draft.edition, draft.kind), &area),
     );
+    say_editions(draft, texts);
 }
 
-fn say_written(message: &[u8], draft: Draft, texts: &[u8], written: &[u8]) {
+fn say_written(way: u8, edition: u8, message: &[u8], draft: Draft, texts: &[u8], written: &[u8]) {
     say_number(b"write ", written.len() as u64);
+    say_number(b" edition ", edition as u64);
     say_whether(b"", rules::same_octets(written, message));
-    say_again(draft, texts, written);
+    say_again(way, draft, texts, written);
 }
 
 // The draft is written, and what is written read again.
-fn say_write(message: &[u8], draft: Draft, texts: &[u8]) {
+fn say_write(way: u8, message: &[u8], draft: Draft, texts: &[u8]) {
     let mut out = [0u8; LONGEST];
-    let answer = writer::write(Book::PresentLenient, draft, texts, &mut out);
+    let writing = writer::write(way, draft, texts, &mut out);
+    let edition = writing.edition;
+    let answer = writing.answer;
     match answer {
         Written::Message { size } => {
             let n = size as usize;
             if n <= LONGEST {
-                say_written(message, draft, texts, &out[..n]);
+                say_written(way, edition, message, draft, texts, &out[..n]);
             }
         }
-        Written::Declined { fault } => say_fault(b"write ", fault),
+        Written::Declined { fault } => {
+            say_fault(b"write ", fault);
+            say_edition(edition);
+        }
     }
 }
 
-fn say_draft(draft: Draft, octets: u16, texts: &[u8]) {
+fn say_draft(draft: Draft, octets: u16) {
     say(b"read ");
     say_octet(draft.kind);
     say_number(b" ", draft.count as u64);
     say_number(b" ", octets as u64);
+}
+
+// The edition that the read names, and the one that its draft holds.
+fn say_both(edition: u8, draft: Draft) {
+    say_number(b" edition ", edition as u64);
+    say_number(b" ", draft.edition as u64);
     say(b"\n");
-    say_entries(draft, texts);
 }
 
 // An entry whose text, where it has one, lies one octet further on.
@@ -193,6 +244,7 @@ fn further(entry: Entry) -> Entry {
 
 fn elsewhere(draft: Draft) -> Draft {
     let kind = draft.kind;
+    let edition = draft.edition;
     let count = draft.count;
     let mut entries = draft.entries;
     let mut i = 0;
@@ -203,68 +255,78 @@ fn elsewhere(draft: Draft) -> Draft {
     }
     Draft {
         kind,
+        edition,
         count,
         entries,
     }
 }
 
 // A draft's texts may lie anywhere in their area (document 01, Drafts): here they begin at its octet 1.
-fn say_elsewhere(message: &[u8]) {
+fn say_elsewhere(edition: u8, way: u8, message: &[u8]) {
     let mut area = [0u8; TEXTS + 1];
-    let reading = reader::read(Book::PresentLenient, message, &mut area[1..]);
+    let reading = reader::read(edition, way, message, &mut area[1..]);
     let draft = elsewhere(reading.draft);
-    say_write(message, draft, &area);
+    say_write(way, message, draft, &area);
 }
 
 // The whole read into an area that every message's texts fit.
-fn say_read(message: &[u8]) {
+fn say_read(edition: u8, way: u8, message: &[u8]) {
     let mut area = [0u8; TEXTS];
-    let reading = reader::read(Book::PresentLenient, message, &mut area);
+    let reading = reader::read(edition, way, message, &mut area);
+    let named = reading.edition;
     let answer = reading.answer;
     let draft = reading.draft;
     match answer {
         Packed::Texts { octets } => {
-            say_draft(draft, octets, &area);
-            say_write(message, draft, &area);
-            say_elsewhere(message);
+            say_draft(draft, octets);
+            say_both(named, draft);
+            say_entries(draft, &area);
+            say_write(way, message, draft, &area);
+            say_elsewhere(edition, way, message);
         }
-        Packed::Refused { fault } => say_fault(b"read ", fault),
+        Packed::Refused { fault } => {
+            say_fault(b"read ", fault);
+            say_both(named, draft);
+        }
     }
 }
 
 fn say_texts(answer: Packed) {
     match answer {
-        Packed::Texts { octets } => {
-            say_number(b": texts ", octets as u64);
-            say(b"\n");
-        }
+        Packed::Texts { octets } => say_number(b": texts ", octets as u64),
         Packed::Refused { fault } => say_fault(b": ", fault),
     }
 }
 
 // The whole read into an area of a stated size.
-fn say_room(message: &[u8], room: usize)
+fn say_room(edition: u8, way: u8, message: &[u8], room: usize)
     requires { ⌜ room ≤ 253 ⌝ }
 {
     let mut area = [0u8; TEXTS];
-    let reading = reader::read(Book::PresentLenient, message, &mut area[..room]);
+    let reading = reader::read(edition, way, message, &mut area[..room]);
     let answer = reading.answer;
     say_number(b"room ", room as u64);
     say_texts(answer);
+    say_edition(reading.edition);
 }
 
 // What a new walker sees.
-fn first(message: &[u8]) -> Step
-    ensures { λ r. ⌜ r ≡ seen (begun (message .entry)) ⌝ }
+fn first(edition: u8, way: u8, message: &[u8]) -> Stepped
+    ensures { λ r. ⌜ r ≡ seen (begun edition way (message .entry)) ⌝ }
 {
-    walker::look(walker::new(message))
+    walker::look(walker::new(edition, way, message))
 }
 
 // What a walker at a place sees when it has moved on.
-fn onward(message: &[u8], place: usize) -> Step
-    ensures { λ r. ⌜ r ≡ seen (advanced (record { message = message .entry; place = place })) ⌝ }
+fn onward(edition: u8, way: u8, message: &[u8], place: usize) -> Stepped
+    ensures { λ r. ⌜ r ≡ seen (advanced (record { message = message .entry; place = place; edition = edition; way = way })) ⌝ }
 {
-    walker::look(walker::next(Walker { message, place }))
+    walker::look(walker::next(Walker {
+        message,
+        place,
+        edition,
+        way,
+    }))
 }
 
 fn say_step(step: Step) {
@@ -279,20 +341,26 @@ fn say_step(step: Step) {
             say_octet(kind);
             say_number(b" ", start as u64);
             say_number(b" ", length as u64);
-            say(b"\n");
         }
-        Step::NoMore => say(b"step none\n"),
+        Step::NoMore => say(b"step none"),
         Step::Refused(fault) => say_fault(b"step ", fault),
     }
 }
 
+fn say_stepped(stepped: Stepped) {
+    let step = stepped.step;
+    say_step(step);
+    say_edition(stepped.edition);
+}
+
 // Each parameter, 85 at most, and twice what comes after the last.
-fn say_steps(message: &[u8]) {
-    let mut step = first(message);
+fn say_steps(edition: u8, way: u8, message: &[u8]) {
+    let mut stepped = first(edition, way, message);
     let mut place: usize = 2;
     let mut turns: usize = 0;
     while turns <= MOST {
-        say_step(step);
+        say_stepped(stepped);
+        let step = stepped.step;
         match step {
             Step::Parameter {
                 kind: _,
@@ -300,16 +368,16 @@ fn say_steps(message: &[u8]) {
                 length: _,
                 next,
             } => {
-                step = onward(message, place);
+                stepped = onward(edition, way, message, place);
                 place = next;
                 turns += 1;
             }
             Step::NoMore => {
-                say_step(onward(message, place));
+                say_stepped(onward(edition, way, message, place));
                 return;
             }
             Step::Refused(fault) => {
-                say_step(onward(message, place));
+                say_stepped(onward(edition, way, message, place));
                 return;
             }
         }
@@ -317,11 +385,12 @@ fn say_steps(message: &[u8]) {
 }
 
 // At how many places a parameter begins; where none does, the walker says so (document 01, Drafts).
-fn beginnings(message: &[u8]) -> usize {
+fn beginnings(edition: u8, way: u8, message: &[u8]) -> usize {
     let mut count: usize = 0;
     let mut place: usize = 0;
     while place < message.len() {
-        let step = walker::step_at(Book::PresentLenient, message, place);
+        let stepped = walker::step_at(edition, way, message, place);
+        let step = stepped.step;
         match step {
             Step::Parameter {
                 kind: _,
@@ -343,43 +412,44 @@ fn beginnings(message: &[u8]) -> usize {
     count
 }
 
-fn say_beginnings(message: &[u8]) {
-    say_number(b"begins ", beginnings(message) as u64);
+fn say_beginnings(edition: u8, way: u8, message: &[u8]) {
+    say_number(b"begins ", beginnings(edition, way, message) as u64);
     say(b"\n");
 }
 
 fn say_part(text: &[u8], start: usize, size: usize) {
     say_number(text, start as u64);
     say_number(b" ", size as u64);
-    say(b"\n");
 }
 
-fn say_find(message: &[u8], directory: &[u8]) {
-    let found = caption::find(Book::PresentLenient, message, directory);
+fn say_find(edition: u8, way: u8, message: &[u8], directory: &[u8]) {
+    let finding = caption::find(edition, way, message, directory);
+    let found = finding.shown;
     match found {
         Shown::InMessage { start, length } => say_part(b"find message ", start, length),
         Shown::InDirectory { start, length } => say_part(b"find directory ", start, length),
         Shown::Refused(fault) => say_fault(b"find ", fault),
     }
+    say_edition(finding.edition);
 }
 
-fn say_caption<'a>(message: &'a [u8], directory: &'a [u8]) {
+fn say_caption<'a>(edition: u8, way: u8, message: &'a [u8], directory: &'a [u8]) {
     let mut side = LENT_CODE;
-    let text = caption::caption(Book::PresentLenient, message, directory, &mut side);
+    let text = caption::caption(edition, way, message, directory, &mut side);
     say_number(b"caption ", side as u64);
     say(b"=");
     say_octets(text);
 }
 
-fn show<'a>(message: &'a [u8], directory: &'a [u8], room: usize)
+fn show<'a>(edition: u8, way: u8, message: &'a [u8], directory: &'a [u8], room: usize)
     requires { ⌜ room ≤ 253 ⌝ }
 {
-    say_read(message);
-    say_room(message, room);
-    say_steps(message);
-    say_beginnings(message);
-    say_find(message, directory);
-    say_caption(message, directory);
+    say_read(edition, way, message);
+    say_room(edition, way, message, room);
+    say_steps(edition, way, message);
+    say_beginnings(edition, way, message);
+    say_find(edition, way, message, directory);
+    say_caption(edition, way, message, directory);
 }
 
 fn fill(octets: &mut [u8], n: usize) -> usize
@@ -404,6 +474,10 @@ fn size() -> usize {
 
 // Says whether there was one more.
 fn next() -> bool {
+    let mut numbers = [0u8; 2];
+    if io::read_full(STDIN_FILENO, &mut numbers) < 2 {
+        return false;
+    }
     let n = size();
     if HEARD < n {
         return false;
@@ -420,7 +494,13 @@ fn next() -> bool {
     if TEXTS < room {
         return false;
     }
-    show(&message[..got], &directory[..lent], room);
+    show(
+        numbers[0],
+        numbers[1],
+        &message[..got],
+        &directory[..lent],
+        room,
+    );
     true
 }
 

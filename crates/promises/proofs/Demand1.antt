@@ -17,7 +17,9 @@ use Rattle.rules.specs.Tests.{_=?_, _≤?_, _or_, pick}
 use Rattle.rules.proofs.Tests.{either, clash, decide, eq-of, of-eq, not-le, le-of, left, right}
 use Rattle.rules.specs.Octets.{Octets}
 use Rattle.rules.specs.Contents.{someLength}
-use Rattle.rules.specs.Table.{rulesOf, classFault, whole}
+use Rattle.rules.specs.Table.{Rules, rulesOf, classFault, whole}
+use Rattle.rules.specs.Editions.{lenient, edition, known, bookOf}
+use Rattle.rules.proofs.Editions.{book-edition, edition-of, by-lenient}
 use Rattle.rules.specs.declared.Book.{Book}
 use Rattle.rules.specs.declared.Book.the-variants.{PresentStrict, PresentLenient, OldStrict, OldLenient}
 use Rattle.rules.specs.declared.Fault.{Fault}
@@ -29,13 +31,14 @@ use Rattle.rules.specs.Message.{Accepts}
 use Rattle.rules.specs.Counting.{counted}
 use Rattle.rules.proofs.Counting.{counted-iff}
 use Rattle.rules.proofs.Grammar.{spoken-of, spoilt-named}
-use Rattle.rules.proofs.ContentLaw.{lenient-others}
 use Rattle.rules.proofs.InRange.{inside, given-lenient, given-strict, no-parameter}
 use Rattle.listener.specs.declared.Listener.{Listener}
 use Rattle.listener.specs.declared.Heard.{Heard}
 use Rattle.listener.specs.declared.Answer.the-variants as listened
-use Rattle.listener.specs.Heard.{outOfRange}
-use Rattle.listener.proofs.Hears.{Ranged, ranged}
+use Rattle.listener.specs.Heard.{outOfRange, unknownNumbers}
+use Rattle.listener.specs.Answers.{InRange}
+use Rattle.listener.specs.Answers as answers
+use Rattle.listener.proofs.Hears.{B, Ranged, ranged, ways, in-range-number}
 use Rattle.listener.proofs.Promised as listener
 use Rattle.message.specs.declared.Verdict.{Verdict}
 use Rattle.message.specs.declared.Verdict.the-variants.{Accepted, Declined as Judged}
@@ -54,17 +57,22 @@ use Rattle.reader.specs.Told.{told}
 use Rattle.reader.specs.Reads.{readNumber, Reads}
 use Rattle.reader.proofs.Area.{refused-fitting}
 use Rattle.reader.proofs.Promised as reader
+use Rattle.writer.specs.declared.Writing.{Writing}
 use Rattle.writer.specs.declared.Written.{Written}
 use Rattle.writer.specs.declared.Written.the-variants.{Declined}
 use Rattle.writer.specs.Reasons.{Went, kind-is-none, no-entries, many-entries, bad-entry, too-long, too-tight, fits}
 use Rattle.writer.proofs.Reasons.{answer-iff}
 use Rattle.writer.proofs.Promised as writer
 use Rattle.desk.specs.declared.Desk.{Desk}
-use Rattle.desk.specs.declared.Outcome.{Outcome}
+use Rattle.desk.specs.declared.Settling.{Settling}
+use Rattle.desk.specs.declared.Answer as settled-answer
 use Rattle.desk.specs.declared.Answer.the-variants as settled
-use Rattle.desk.specs.Settles.{Settles}
+use Rattle.desk.specs.Told as settling-told
+use Rattle.desk.specs.Settles.{Settles, SettlesBy}
 use Rattle.desk.proofs.Promised as desk
 use Rattle.caption.specs.declared.Shown.{Shown}
+use Rattle.caption.specs.declared.Finding.{Finding}
+use Rattle.caption.specs.Finds.{FindsBy}
 use Rattle.caption.specs.declared.Shown.the-variants as found
 use Rattle.caption.specs.Caption as caption-of
 use Rattle.caption.specs.Told as shown
@@ -76,12 +84,13 @@ use Rattle.desk.proofs.Told as settling
 use Rattle.reader.proofs.Told.{spoilt-iff, early-iff, followed-iff, short-iff, noted-at, some-number, refused-so}
 use Rattle.caption.proofs.Promised as caption
 use Rattle.walker.specs.declared.Walker.{Walker}
-use Rattle.walker.specs.declared.Step.{Step}
+use Rattle.walker.specs.declared.Stepped.{Stepped}
 use Rattle.walker.specs.declared.Step.the-variants as step
 use Rattle.walker.specs.Moves.{Seen}
-use Rattle.walker.specs.Walks.{Walks}
+use Rattle.walker.specs.Walks.{WalksBy}
 use Rattle.walker.proofs.Promised as walker
-use Rattle.firmware.specs.Word.{wordNumber, Unpacked, Seventeen}
+use Rattle.firmware.specs.Word.{wordNumber, Unpacked, Sixteen, Seventeen}
+use Rattle.firmware.proofs.Classes.{carries}
 use Rattle.firmware.specs.RecordHears.{Sound}
 use Rattle.firmware.specs.RecordReads.{RecordReads}
 use Rattle.firmware.specs.RecordParts.{RecordCounts, RecordFinds}
@@ -102,34 +111,41 @@ Names f = T (named (f .number) (f .parameter))
 abbrev pub Verdict-like : Book → List ℕ → Fault → Type 0
 Verdict-like b o f = T (verdictNumber (languageOf b) (f .number)) × (f .place ≤ length o) × Names f
 
+-- 16 at 0, where the edition or the way is unknown (document 02, Q-5)
+abbrev pub Unknown : ℕ → ℕ → Fault → Type 0
+Unknown e w f = (T (known e w) → ⊥) × (f ≡ noted 16 0)
+
 -- the listener: 1 to 6, and 10 where its book is strict, at a place up to 257, in a parameter that it has; or, for one
--- out of range, 17 at 0, and it comes back as it was
+-- of unknown numbers, 16 at 0; or, for one out of range, 17 at 0; with these two it comes back as it was
 pub listen-refuses : (l : Listener) (o : List ℕ) (r : Heard) → listener.listen-gives l o r → Octets o →
     (f : Fault) → r .answer ≡ listened.Refused f →
-    (T (languageOf (l .book) .given (f .number)) × (f .place ≤ 257) × Names f)
-    ⊎ ((f ≡ noted 17 0) × (r ≡ outOfRange l))
-listen-refuses l o r h q f e = go (listener.numbers l o r h q f e) (decide (languageOf (l .book) .inRange (l .state)))
+    (T (languageOf (B l) .given (f .number)) × (f .place ≤ 257) × Names f)
+    ⊎ ((Unknown (l .edition) (l .way) f × (r ≡ unknownNumbers l)) ⊎ ((f ≡ noted 17 0) × (r ≡ outOfRange l)))
+listen-refuses l o r h q f e = go (ways l)
   where
-    near : T (languageOf (l .book) .inRange (l .state)) → Ranged (r .answer)
-    near t =
-        subst Ranged (sym (ap (λ (x : Heard). x .answer) (listener.by-the-rule l o r h t)))
-        (ranged (spoken-of (l .book)) _ (in-range-run (spoken-of (l .book)) (l .state) o q t))
-
-    told : Ranged (r .answer) → f .place ≤ 257
-    told g = subst Ranged e g .2
+    near : InRange l → answers.Known l → Ranged (r .answer)
+    near t k =
+        subst Ranged (sym (ap (λ (x : Heard). x .answer) (listener.by-the-rule l o r h t k)))
+        (ranged (spoken-of (B l)) _ (in-range-run (spoken-of (B l)) (l .state) o q t))
 
     fault-of : (x y : Fault) → listened.Refused x ≡ listened.Refused y → x ≡ y
     fault-of x y z = cc
 
-    go : T (languageOf (l .book) .given (f .number)) ⊎ (f ≡ noted 17 0) →
-        T (languageOf (l .book) .inRange (l .state)) ⊎ (T (languageOf (l .book) .inRange (l .state)) → ⊥) →
-        (T (languageOf (l .book) .given (f .number)) × (f .place ≤ 257) × Names f)
-        ⊎ ((f ≡ noted 17 0) × (r ≡ outOfRange l))
-    go (inl t) (inl k) = inl (t, told (near k), listener.names l o r h q k f e)
-    go (inr z) (inl k) = absurd (omega (arith, ap (λ (x : Fault). x .number) z, subst Ranged e (near k) .1))
-    go x (inr n) =
+    go : (InRange l × answers.Known l) ⊎ ((InRange l × (answers.Known l → ⊥)) ⊎ (InRange l → ⊥)) →
+        (T (languageOf (B l) .given (f .number)) × (f .place ≤ 257) × Names f)
+        ⊎ ((Unknown (l .edition) (l .way) f × (r ≡ unknownNumbers l)) ⊎ ((f ≡ noted 17 0) × (r ≡ outOfRange l)))
+    go (inl t) =
+        inl (
+          in-range-number l o q (t .0) (t .1) r (listener.listen-is l o r h) f e,
+          subst Ranged e (near (t .0) (t .1)) .2,
+          listener.names l o r h q (t .0) (t .1) f e,
+        )
+    go (inr (inl t)) =
+        let y = listener.of-unknown-numbers l o r h (t .0) (t .1) in
+        inr (inl ((t .1, fault-of f (noted 16 0) (sym e ∙ ap (λ (z : Heard). z .answer) y)), y))
+    go (inr (inr n)) =
         let y = listener.out-of-range l o r h n in
-        inr (fault-of f (noted 17 0) (sym e ∙ ap (λ (z : Heard). z .answer) y), y)
+        inr (inr (fault-of f (noted 17 0) (sym e ∙ ap (λ (z : Heard). z .answer) y), y))
 
 -- the whole read, and the texts alone: 1 to 8, and 10 where the book is strict, at one of the octets or at their end,
 -- in a parameter that it has; or 9 at the text octets that are needed; the area stays, and the draft is empty
@@ -179,12 +195,33 @@ read-so b o old r area x q f e =
     in-octets n (inl t) = by-number (verdict-number (languageOf b) _ t)
     in-octets n (inr t) = absurd (n (eq-of _ _ t))
 
-pub read-refuses : (b : Book) (o old : List ℕ) (r : Reading) (area : List ℕ) → reader.read-gives b o old r area →
+-- by known numbers by their book, the draft empty and of the edition told; by unknown ones 16, and no edition
+pub read-refuses : (e w : ℕ) (o old : List ℕ) (r : Reading) (area : List ℕ) → reader.read-gives e w o old r area →
     Octets o → (f : Fault) → r .answer ≡ packed.Refused f →
-    Unread b o old f area × (r .draft ≡ emptyOf 0)
-read-refuses b o old r area h q f e =
-    let x = reader.reads b o old r area h q in
-    (read-so b o old r area x q f e, refused-so x f e .1)
+    (T (known e w) × Unread (bookOf e w) o old f area × (r .draft ≡ emptyOf e 0))
+    ⊎ (Unknown e w f × (area ≡ old) × (r .draft ≡ emptyOf 0 0))
+read-refuses e w o old r area h q f z = go (decide (known e w))
+  where
+    fault-of : (x y : Fault) → packed.Refused x ≡ packed.Refused y → x ≡ y
+    fault-of x y k = cc
+
+    go : T (known e w) ⊎ (T (known e w) → ⊥) →
+        (T (known e w) × Unread (bookOf e w) o old f area × (r .draft ≡ emptyOf e 0))
+        ⊎ (Unknown e w f × (area ≡ old) × (r .draft ≡ emptyOf 0 0))
+    go (inl t) =
+        let x = reader.reads e w o old r area h t q in
+        inl (
+          t,
+          read-so (bookOf e w) o old r area x q f z,
+          refused-so x f z .1 ∙ ap (λ (v : ℕ). emptyOf v 0) (book-edition e w t),
+        )
+    go (inr n) =
+        let x = reader.read-none e w o old r area h n in
+        inr (
+          (n, fault-of f (noted 16 0) (sym z ∙ ap (λ (y : Reading). y .answer) (x .0))),
+          x .1,
+          ap (λ (y : Reading). y .draft) (x .0),
+        )
 
 pub pack-refuses : (b : Book) (o old : List ℕ) (w : Packed) (area : List ℕ) → reader.pack-gives b o old w area →
     Octets o → (f : Fault) → w ≡ packed.Refused f → Unread b o old f area
@@ -200,20 +237,13 @@ fits-refuses b o old w h q f e =
     let y = read-so b o old (x .0) (x .2 .0) (x .2 .1) q f (sym (refused-fitting (x .0 .answer) f (sym (x .1 ∙ e)))) in
     subst (Unread b o old f) (y .stays) y
 
--- the writer: 11 to 15, in no parameter; the output stays
-pub write-refuses : (b : Book) (d : Draft) (t old : List ℕ) (w : Written) (out : List ℕ) →
-    writer.write-gives b d t old w out → (f : Fault) → w ≡ Declined f →
-    From 11 15 (f .number) × (f .parameter ≡ 0) × (out ≡ old)
-write-refuses b d t old w out h f e = (
-  go w way e .0,
-  go w way e .1,
-  writer.refusal-keeps b d t
-      old w out h f e,
-)
+-- the writer: 11 to 15, in no parameter; or 16 at 0, where the draft's edition or the way is unknown; the output stays
+pub write-refuses : (w : ℕ) (d : Draft) (t old : List ℕ) (r : Writing) (out : List ℕ) →
+    writer.write-gives w d t old r out → (f : Fault) → r .answer ≡ Declined f →
+    ((T (known (d .edition) w) × From 11 15 (f .number) × (f .parameter ≡ 0)) ⊎ Unknown (d .edition) w f)
+    × (out ≡ old)
+write-refuses w d t old r out h f e = go (decide (known (d .edition) w))
   where
-    way : Went (rulesOf b) d t (length old) w
-    way = answer-iff b d t (length old) w .0 (writer.write-is b d t old w out h)
-
     fault-of : (x y : Fault) → Declined x ≡ Declined y → x ≡ y
     fault-of x y z = cc
 
@@ -224,37 +254,86 @@ write-refuses b d t old w out h f e = (
         let n = ap (λ (v : Fault). v .number) y in
         ((omega arith, omega arith), sym (ap (λ (v : Fault). v .parameter) y))
 
-    go : (x : Written) → Went (rulesOf b) d t (length old) x → x ≡ Declined f →
+    went : (x : Written) → Went (rulesOf (writer.bookFor d w)) d t (length old) x → x ≡ Declined f →
         From 11 15 (f .number) × (f .parameter ≡ 0)
-    go x (kind-is-none n) z = of-noted _ _ z (omega arith) (omega arith)
-    go x (no-entries k n) z = of-noted _ _ z (omega arith) (omega arith)
-    go x (many-entries k m) z = of-noted _ _ z (omega arith) (omega arith)
-    go x (bad-entry i m g) z = of-noted _ _ z (omega arith) (omega arith)
-    go x (too-long k m l) z = of-noted _ _ z (omega arith) (omega arith)
-    go x (too-tight k m l g) z = of-noted _ _ z (omega arith) (omega arith)
-    go x (fits k m l g) z = clash cc
+    went x (kind-is-none n) z = of-noted _ _ z (omega arith) (omega arith)
+    went x (no-entries k n) z = of-noted _ _ z (omega arith) (omega arith)
+    went x (many-entries k m) z = of-noted _ _ z (omega arith) (omega arith)
+    went x (bad-entry i m g) z = of-noted _ _ z (omega arith) (omega arith)
+    went x (too-long k m l) z = of-noted _ _ z (omega arith) (omega arith)
+    went x (too-tight k m l g) z = of-noted _ _ z (omega arith) (omega arith)
+    went x (fits k m l g) z = clash cc
 
--- the desk: 17 at 0, or as the verdict, or 21 at 0; it comes back as it was
-pub settle-refuses : (b : Book) (d : Desk) (o : List ℕ) (r : Outcome) → desk.settle-gives b d o r → Octets o →
-    (f : Fault) → r .answer ≡ settled.Refused f →
-    (Verdict-like b o f ⊎ ((f ≡ noted 17 0) ⊎ (f ≡ noted 21 0))) × (r .desk ≡ d)
-settle-refuses b d o r h q f e = (go (settling.number-of x f e), settling.refusal-leaves x f e)
+    go : T (known (d .edition) w) ⊎ (T (known (d .edition) w) → ⊥) →
+        ((T (known (d .edition) w) × From 11 15 (f .number) × (f .parameter ≡ 0)) ⊎ Unknown (d .edition) w f)
+        × (out ≡ old)
+    go (inl k) =
+        let way = answer-iff (writer.bookFor d w) d t (length old) (r .answer) .0
+        (writer.write-is w d t old r out h k) in
+        let x = went (r .answer) way e in
+        (inl (k, x .0, x .1), writer.refusal-keeps w d t old r out h k f e)
+    go (inr n) =
+        let x = writer.write-none w d t old r out h n in
+        (inr (n, fault-of f (noted 16 0) (sym e ∙ ap (λ (y : Writing). y .answer) (x .0))), x .1)
+
+-- the desk: 17 at 0, or 16 at 0, or as the verdict, or 21 at 0; it comes back as it was
+pub settle-refuses : (e w : ℕ) (d : Desk) (o : List ℕ) (r : Settling) → desk.settle-gives e w d o r → Octets o →
+    (f : Fault) → r .outcome .answer ≡ settled.Refused f →
+    ((T (known e w) × Verdict-like (bookOf e w) o f)
+    ⊎ (Unknown e w f ⊎ ((f ≡ noted 17 0) ⊎ (f ≡ noted 21 0)))) × (r .outcome .desk ≡ d)
+unfolding settling-told.told
+settle-refuses e w d o r h q f z = (go (decide (known e w)), x .refusal-stays (omega (arith, number)))
   where
-    x : Settles (rulesOf b) d o r
-    x = desk.settling b d o r h q
+    x : SettlesBy e w d o r
+    x = desk.settling e w d o r h q
 
-    go : T (verdictNumber (languageOf b) (f .number)) ⊎ ((f .number ≡ 17) ⊎ (f .number ≡ 21)) →
-        Verdict-like b o f ⊎ ((f ≡ noted 17 0) ⊎ (f ≡ noted 21 0))
-    go (inl t) =
-        let l = settling.some-number x f e in
-        let y = settling.refused-iff x f l t .0 e .1 in
-        inl (t, placed (languageOf b) o _ (x .judged) f y, names b o q _ (x .judged) f y)
-    go (inr (inl k)) =
-        let z = settling.noted-at x f e 17 k (inl refl) in
-        inr (inl (z ∙ ap (noted 17) (settling.unfit-iff x (f .place) .0 (e ∙ ap settled.Refused z) .0)))
-    go (inr (inr k)) =
-        let z = settling.noted-at x f e 21 k (inr refl) in
-        inr (inr (z ∙ ap (noted 21) (settling.full-iff x (f .place) .0 (e ∙ ap settled.Refused z) .0)))
+    number : 1 ≤ settling-told.told (r .outcome .answer) .number
+    number = subst (λ (a : settled-answer.Answer). 1 ≤ settling-told.told a .number) (sym z)
+        (subst settling-told.Clear z (x .clear))
+
+    told-is : (k : ℕ) → f .number ≡ k →
+        settling-told.told (r .outcome .answer) ≡ settling-told.refusal k (f .place) (f .parameter)
+    told-is k n = ap settling-told.told z ∙ (λ i. settling-told.refusal (n i) (f .place) (f .parameter))
+
+    at-zero : (k : ℕ) → f .number ≡ k → (f .place ≡ 0) × (f .parameter ≡ 0) → f ≡ noted k 0
+    at-zero k n y = let a = y .0 in let b = y .1 in λ i. record { place = a i; number = n i; parameter = b i }
+
+    by-book : T (known e w) → Settles (rulesOf (bookOf e w)) d o (r .outcome) →
+        T (verdictNumber (languageOf (bookOf e w)) (f .number)) ⊎ ((f .number ≡ 17) ⊎ (f .number ≡ 21)) →
+        (T (known e w) × Verdict-like (bookOf e w) o f) ⊎ (Unknown e w f ⊎ ((f ≡ noted 17 0) ⊎ (f ≡ noted 21 0)))
+    by-book k s (inl t) =
+        let l = settling.some-number s f z in
+        let y = settling.refused-iff s f l t .0 z .1 in
+        inl (
+          k,
+          (t, placed (languageOf (bookOf e w)) o _ (s .judged) f y, names (bookOf e w) o q _ (s .judged) f y),
+        )
+    by-book k s (inr (inl n)) =
+        let y = settling.noted-at s f z 17 n (inl refl) in
+        inr (inr (inl (y ∙ ap (noted 17) (settling.unfit-iff s (f .place) .0 (z ∙ ap settled.Refused y) .0))))
+    by-book k s (inr (inr n)) =
+        let y = settling.noted-at s f z 21 n (inr refl) in
+        inr (inr (inr (y ∙ ap (noted 21) (settling.full-iff s (f .place) .0 (z ∙ ap settled.Refused y) .0))))
+
+    by-none : (T (known e w) → ⊥) → (f .number ≡ 16) ⊎ (f .number ≡ 17) →
+        (T (known e w) × Verdict-like (bookOf e w) o f) ⊎ (Unknown e w f ⊎ ((f ≡ noted 17 0) ⊎ (f ≡ noted 21 0)))
+    by-none n (inl k) =
+        let y = x .sixteen _ _ .0 (told-is 16 k) in inr (inl (n, at-zero 16 k (y .0, y .1)))
+    by-none n (inr k) =
+        let y = x .seventeen _ _ .0 (told-is 17 k) in inr (inr (inl (at-zero 17 k (y .0, y .1))))
+
+    of-fault : (k : ℕ) → settling-told.told (r .outcome .answer) .number ≡ k → f .number ≡ k
+    of-fault k n = sym (ap (λ (a : settled-answer.Answer). settling-told.told a .number) z) ∙ n
+
+    numbers : (settling-told.told (r .outcome .answer) .number ≡ 16)
+        ⊎ (settling-told.told (r .outcome .answer) .number ≡ 17) → (f .number ≡ 16) ⊎ (f .number ≡ 17)
+    numbers (inl k) = inl (of-fault 16 k)
+    numbers (inr k) = inr (of-fault 17 k)
+
+    go : T (known e w) ⊎ (T (known e w) → ⊥) →
+        (T (known e w) × Verdict-like (bookOf e w) o f) ⊎ (Unknown e w f ⊎ ((f ≡ noted 17 0) ⊎ (f ≡ noted 21 0)))
+    go (inl k) = by-book k (x .by-book k) (settling.number-of (x .by-book k) f z)
+    go (inr n) = by-none n (numbers (x .unknown n))
 
 -- the verdict, the caption and the walker; nothing is lent for writing but the caption's code, which stays
 pub judge-refuses : (b : Book) (o : List ℕ) (v : Verdict) → message.judge-gives b o v → Octets o → (f : Fault) →
@@ -263,32 +342,70 @@ judge-refuses b o v h q f e =
     let x = message.verdicts b o v h q in
     (judging.number-of x f e, placed (languageOf b) o v x f e, names b o q v x f e)
 
-pub find-refuses : (b : Book) (o d : List ℕ) (r : Shown) → caption.find-gives b o d r → Octets o → (f : Fault) →
-    r ≡ found.Refused f → Verdict-like b o f
-find-refuses b o d r h q f e =
-    let x = caption.finding b o d r h q in
-    let y = finding.declined-so x f e in
-    (judging.number-of (x .judged) f y, placed (languageOf b) o _ (x .judged) f y, names b o q _ (x .judged) f y)
+pub find-refuses : (e w : ℕ) (o d : List ℕ) (r : Finding) → caption.find-gives e w o d r → Octets o → (f : Fault) →
+    r .shown ≡ found.Refused f → (T (known e w) × Verdict-like (bookOf e w) o f) ⊎ Unknown e w f
+find-refuses e w o d r h q f z = go (decide (known e w))
+  where
+    x : FindsBy e w o d r
+    x = caption.finding e w o d r h q
 
-pub caption-refuses : (b : Book) (o d : List ℕ) (r : Shown) → caption.find-gives b o d r →
-    (x : ℕ) (p : List ℕ) (y : ℕ) → caption.caption-gives b o d x p y → (f : Fault) → r ≡ found.Refused f → y ≡ x
+    go : T (known e w) ⊎ (T (known e w) → ⊥) → (T (known e w) × Verdict-like (bookOf e w) o f) ⊎ Unknown e w f
+    go (inl k) =
+        let s = x .by-book k in
+        let y = finding.declined-so s f z in
+        inl (
+          k,
+          (
+            judging.number-of (s .judged) f y,
+            placed (languageOf (bookOf e w)) o _ (s .judged) f y,
+            names (bookOf e w) o q _ (s .judged) f y,
+          ),
+        )
+    go (inr n) =
+        inr (n, same (sym z ∙ finding.told-refused _ 16 0 0 (omega arith) .0 (x .sixteen 0 0 .1 (refl, refl, n))))
+      where
+        same : found.Refused f ≡ found.Refused (noted 16 0) → f ≡ noted 16 0
+        same k = cc
+
+pub caption-refuses : (e w : ℕ) (o d : List ℕ) (r : Finding) → caption.find-gives e w o d r →
+    (x : ℕ) (p : List ℕ) (y : ℕ) → caption.caption-gives e w o d x p y → (f : Fault) → r .shown ≡ found.Refused f →
+    y ≡ x
 unfolding caption-of.codeOf
-caption-refuses b o d r h x p y k f e =
-    caption.same-part b o d r h x p y k .1 ∙ ap (λ (z : Shown). caption-of.codeOf z x) e
+caption-refuses e w o d r h x p y k f z =
+    caption.same-part e w o d r h x p y k .1 ∙ ap (λ (v : Shown). caption-of.codeOf v x) z
 
-step-so : (b : Book) (o : List ℕ) (at : ℕ) (r : Step) → Walks (rulesOf b) o at r → Octets o → (f : Fault) →
-    r ≡ step.Refused f → Verdict-like b o f
-step-so b o at r x q f e =
-    let y = walking.declined-so x f e in
-    (judging.number-of (x .judged) f y, placed (languageOf b) o _ (x .judged) f y, names b o q _ (x .judged) f y)
+step-so : (e w : ℕ) (o : List ℕ) (at : ℕ) (r : Stepped) → WalksBy e w o at r → Octets o → (f : Fault) →
+    r .step ≡ step.Refused f → (T (known e w) × Verdict-like (bookOf e w) o f) ⊎ Unknown e w f
+step-so e w o at r x q f z = go (decide (known e w))
+  where
+    go : T (known e w) ⊎ (T (known e w) → ⊥) → (T (known e w) × Verdict-like (bookOf e w) o f) ⊎ Unknown e w f
+    go (inl k) =
+        let s = x .by-book k in
+        let y = walking.declined-so s f z in
+        inl (
+          k,
+          (
+            judging.number-of (s .judged) f y,
+            placed (languageOf (bookOf e w)) o _ (s .judged) f y,
+            names (bookOf e w) o q _ (s .judged) f y,
+          ),
+        )
+    go (inr n) =
+        inr (n, same (sym z ∙ walking.told-refused _ 16 0 0 (omega arith) .0 (x .sixteen 0 0 .1 (refl, refl, n))))
+      where
+        same : step.Refused f ≡ step.Refused (noted 16 0) → f ≡ noted 16 0
+        same k = cc
 
-pub step-refuses : (b : Book) (o : List ℕ) (at : ℕ) (r : Step) → walker.step-gives b o at r → Octets o →
-    (f : Fault) → r ≡ step.Refused f → Verdict-like b o f
-step-refuses b o at r h q f e = step-so b o at r (walker.stepping b o at r h q) q f e
+pub step-refuses : (e w : ℕ) (o : List ℕ) (at : ℕ) (r : Stepped) → walker.step-gives e w o at r → Octets o →
+    (f : Fault) → r .step ≡ step.Refused f → (T (known e w) × Verdict-like (bookOf e w) o f) ⊎ Unknown e w f
+step-refuses e w o at r h q f z = step-so e w o at r (walker.stepping e w o at r h q) q f z
 
-pub look-refuses : (w : Walker) (r : Step) → Seen w r → Octets (now (w .message)) → (f : Fault) →
-    r ≡ step.Refused f → Verdict-like PresentLenient (now (w .message)) f
-look-refuses w r h q f e = step-so PresentLenient (now (w .message)) (w .place) r (walker.looking w r h q) q f e
+pub look-refuses : (v : Walker) (r : Stepped) → Seen v r → Octets (now (v .message)) → (f : Fault) →
+    r .step ≡ step.Refused f →
+    (T (known (v .edition) (v .way)) × Verdict-like (bookOf (v .edition) (v .way)) (now (v .message)) f)
+    ⊎ Unknown (v .edition) (v .way) f
+look-refuses v r h q f z =
+    step-so (v .edition) (v .way) (now (v .message)) (v .place) r (walker.looking v r h q) q f z
 
 -- the numbers that a listener gives by each book: 1 to 6, and 10 where types without a row are refused
 abbrev pub Given : Book → ℕ → Type 0
@@ -304,127 +421,159 @@ numbers-given OldLenient k = given-lenient (rulesOf OldLenient) k refl
 numbers-given PresentStrict k = given-strict (rulesOf PresentStrict) k refl
 numbers-given OldStrict k = given-strict (rulesOf OldStrict) k refl
 
--- by the book of the exports and programs the numbers are document 01's: 1 to 6, 1 to 8, 1 to 9, and 10 is none of
+-- by the books of the exports and programs the numbers are document 01's: 1 to 6, 1 to 8, 1 to 9, and 10 is none of
 -- them
-pub six-lenient : (k : ℕ) → T (languageOf PresentLenient .given k) ↔ From 1 6 k
-six-lenient k = given-lenient (rulesOf PresentLenient) k lenient-others
+module _ (e : ℕ) (k' : T (edition e)) where
+  abbrev R : Rules
+  R = rulesOf (bookOf e lenient)
 
-pub eight-lenient : (k : ℕ) → T (verdictNumber (languageOf PresentLenient) k) ↔ From 1 8 k
-eight-lenient k = verdict-lenient (rulesOf PresentLenient) k lenient-others
+  pub six-lenient : (k : ℕ) → T (languageOf (bookOf e lenient) .given k) ↔ From 1 6 k
+  six-lenient k = given-lenient R k (carries e k')
 
-pub nine-lenient : (k : ℕ) → T (readNumber (rulesOf PresentLenient) k) ↔ From 1 9 k
-unfolding readNumber
-nine-lenient k = (λ t. to (either _ _ t), λ d. of (d .0) (d .1) (decide (k ≤? 8)))
-  where
-    to : T (verdictNumber (languageOf PresentLenient) k) ⊎ T (k =? 9) → From 1 9 k
-    to (inl u) = let d = eight-lenient k .0 u in (d .0, omega (arith, d .1))
-    to (inr u) = let e = eq-of _ _ u in (omega arith, omega arith)
+  pub eight-lenient : (k : ℕ) → T (verdictNumber (languageOf (bookOf e lenient)) k) ↔ From 1 8 k
+  eight-lenient k = verdict-lenient R k (carries e k')
 
-    of : 1 ≤ k → k ≤ 9 → T (k ≤? 8) ⊎ (T (k ≤? 8) → ⊥) → T (verdictNumber (languageOf PresentLenient) k or k =? 9)
-    of a b (inl t) = left _ _ (eight-lenient k .1 (a, le-of _ _ t))
-    of a b (inr n) = let h = not-le _ _ n in right _ _ (of-eq _ _ (omega arith))
+  pub nine-lenient : (k : ℕ) → T (readNumber R k) ↔ From 1 9 k
+  unfolding readNumber
+  nine-lenient k = (λ t. to (either _ _ t), λ d. of (d .0) (d .1) (decide (k ≤? 8)))
+    where
+      to : T (verdictNumber (languageOf (bookOf e lenient)) k) ⊎ T (k =? 9) → From 1 9 k
+      to (inl u) = let d = eight-lenient k .0 u in (d .0, omega (arith, d .1))
+      to (inr u) = let e = eq-of _ _ u in (omega arith, omega arith)
 
--- ---- the exports, on any record at all: 17 comes first
--- listening: a sound record gets 0 or 1 to 6; any other 17, and stays
+      of : 1 ≤ k → k ≤ 9 → T (k ≤? 8) ⊎ (T (k ≤? 8) → ⊥) →
+          T (verdictNumber (languageOf (bookOf e lenient)) k or k =? 9)
+      of a b (inl t) = left _ _ (eight-lenient k .1 (a, le-of _ _ t))
+      of a b (inr n) = let h = not-le _ _ n in right _ _ (of-eq _ _ (omega arith))
+
+-- ---- the exports, on any record at all: 17 comes first, then 16
+-- listening: a sound record gets 0 or 1 to 6; any other 16 or 17, and stays
 pub anthercup-listen-refuses : (c o : List ℕ) (w : ℕ) (c' : List ℕ) → firmware.listen-gives c o w c' → Octets c →
-    Octets o → (Sound c × (wordNumber w ≤ 6)) ⊎ ((Sound c → ⊥) × Seventeen c w c')
-anthercup-listen-refuses c o w c' h k q = go (firmware.sound-or-seventeen c o w c' h k)
+    Octets o → (Sound c × (wordNumber w ≤ 6)) ⊎ ((Sound c → ⊥) × (Sixteen c w c' ⊎ Seventeen c w c'))
+anthercup-listen-refuses c o w c' h k q = go (firmware.sound-or-refused c o w c' h k)
   where
-    go : Sound c ⊎ Seventeen c w c' → (Sound c × (wordNumber w ≤ 6)) ⊎ ((Sound c → ⊥) × Seventeen c w c')
+    go : Sound c ⊎ (Sixteen c w c' ⊎ Seventeen c w c') →
+        (Sound c × (wordNumber w ≤ 6)) ⊎ ((Sound c → ⊥) × (Sixteen c w c' ⊎ Seventeen c w c'))
     go (inl s) = inl (s, firmware.numbers c o w c' h s q)
-    go (inr x) = inr (λ s. omega (arith, x .word .number, firmware.numbers c o w c' h s q), x)
+    go (inr (inl x)) = inr (λ s. omega (arith, x .word .number, firmware.numbers c o w c' h s q), inl x)
+    go (inr (inr x)) = inr (λ s. omega (arith, x .word .number, firmware.numbers c o w c' h s q), inr x)
 
--- resetting, and clearing a desk: by the record's size alone
-pub anthercup-reset-refuses : (c : List ℕ) (w : ℕ) (c' : List ℕ) → firmware.reset-gives c w c' →
-    (length c ≡ listenerSize → Unpacked 0 0 0 0 0 w) × ((length c ≡ listenerSize → ⊥) → Seventeen c w c')
-anthercup-reset-refuses c w c' h = (λ n. firmware.reset-is-new c w c' h n .0, λ n. firmware.reset-seventeen c w c' h n)
+-- resetting: by the record's size, then by the edition; clearing a desk: by the record's size alone
+pub anthercup-reset-refuses : (e : ℕ) (c : List ℕ) (w : ℕ) (c' : List ℕ) → firmware.reset-gives e c w c' →
+    (length c ≡ listenerSize → T (edition e) → Unpacked e 0 0 0 0 0 w)
+    × (length c ≡ listenerSize → (T (edition e) → ⊥) → Sixteen c w c')
+    × ((length c ≡ listenerSize → ⊥) → Seventeen c w c')
+anthercup-reset-refuses e c w c' h = (
+  λ n t. firmware.reset-is-new e c w c' h n t .0,
+  λ n t. firmware.reset-sixteen e c w c' h n t,
+  λ n. firmware.reset-seventeen e c w c' h n,
+)
 
 pub anthercup-new-desk-refuses : (c : List ℕ) (w : ℕ) (c' : List ℕ) → firmware.new-desk-gives c w c' →
-    (length c ≡ deskSize → Unpacked 0 0 0 0 0 w) × ((length c ≡ deskSize → ⊥) → Seventeen c w c')
+    (length c ≡ deskSize → Unpacked 0 0 0 0 0 0 w) × ((length c ≡ deskSize → ⊥) → Seventeen c w c')
 anthercup-new-desk-refuses c w c' h =
     (λ n. firmware.new-desk c w c' h n .0, λ n. firmware.new-desk-seventeen c w c' h n)
 
--- reading: 17 for a record of another size than 688, else 0 or 1 to 9; with a number record and texts stay
-pub anthercup-read-refuses : (o c t : List ℕ) (w : ℕ) (c' t' : List ℕ) → firmware.read-gives o c t w c' t' → Octets o →
-    (length c ≡ draftSize → (wordNumber w ≤ 9) × (1 ≤ wordNumber w → (c' ≡ c) × (t' ≡ t)))
+-- reading: 17 for a record of another size than 688, then 16 for an unknown edition, else 0 or 1 to 9; with a number
+-- record and texts stay
+pub anthercup-read-refuses : (e : ℕ) (o c t : List ℕ) (w : ℕ) (c' t' : List ℕ) →
+    firmware.read-gives e o c t w c' t' → Octets o →
+    (length c ≡ draftSize → T (edition e) → (wordNumber w ≤ 9) × (1 ≤ wordNumber w → (c' ≡ c) × (t' ≡ t)))
+    × (length c ≡ draftSize → (T (edition e) → ⊥) → Sixteen c w c' × (t' ≡ t))
     × ((length c ≡ draftSize → ⊥) → Seventeen c w c' × (t' ≡ t))
 unfolding told
-anthercup-read-refuses o c t w c' t' h q = (
-  λ n. let y = firmware.record-read o c t w c' t' h q n in
-      so y (y .reading .answer) refl,
-  λ n. firmware.read-seventeen o c t w c' t' h n,
+anthercup-read-refuses v o c t w c' t' h q = (
+  λ n k. let y = firmware.record-read v o c t w c' t' h q n k in so k y (y .reading .answer) refl,
+  λ n k. firmware.read-sixteen v o c t w c' t' h n k,
+  λ n. firmware.read-seventeen v o c t w c' t' h n,
 )
   where
-    so : (y : RecordReads o c t w c' t') (x : Packed) → y .reading .answer ≡ x →
+    so : T (edition v) → (y : RecordReads v o c t w c' t') (x : Packed) → y .reading .answer ≡ x →
         (wordNumber w ≤ 9) × (1 ≤ wordNumber w → (c' ≡ c) × (t' ≡ t))
-    so y (packed.Texts n) e =
+    so i y (packed.Texts n) e =
         let z = y .word .number ∙ ap (λ (x : Packed). told x .number) e in
         (omega (arith, z), λ k. absurd (omega (arith, z)))
-    so y (packed.Refused f) e =
+    so i y (packed.Refused f) e =
         let z = y .word .number ∙ ap (λ (x : Packed). told x .number) e in
         let k = refused-so (y .reads) f e in
         let m = ap (λ (x : Packed). told x .number) e in
         let l = some-number (y .reads) f e in
-        (omega (arith, z, nine-lenient _ .0 (k .2) .1), λ _. (y .refused (omega (arith, m, l)), k .0))
+        (omega (arith, z, nine-lenient v i _ .0 (k .2) .1), λ _. (y .refused (omega (arith, m, l)), k .0))
 
--- settling: 17 exactly for a record that is no desk's, else 0, 1 to 8 or 21; with a number the record stays
-pub anthercup-settle-refuses : (c o : List ℕ) (w : ℕ) (c' : List ℕ) → firmware.settle-gives c o w c' → Octets c →
-    Octets o →
-    ((wordNumber w ≤ 8) ⊎ ((wordNumber w ≡ 17) ⊎ (wordNumber w ≡ 21))) × ((wordNumber w ≡ 17) ↔ (IsDesk c → ⊥))
+-- settling: 17 exactly for a record that is no desk's, then 16 exactly for an unknown edition, else 0, 1 to 8 or 21;
+-- with a number the record stays
+pub anthercup-settle-refuses : (e : ℕ) (c o : List ℕ) (w : ℕ) (c' : List ℕ) → firmware.settle-gives e c o w c' →
+    Octets c → Octets o →
+    ((wordNumber w ≤ 8) ⊎ ((wordNumber w ≡ 16) ⊎ ((wordNumber w ≡ 17) ⊎ (wordNumber w ≡ 21))))
+    × ((wordNumber w ≡ 17) ↔ (IsDesk c → ⊥)) × ((wordNumber w ≡ 16) ↔ (IsDesk c × (T (edition e) → ⊥)))
     × (1 ≤ wordNumber w → c' ≡ c)
-anthercup-settle-refuses c o w c' h k q =
-    (firmware.settle-numbers c o w c' h q, firmware.seventeen-iff c o w c' h q, firmware.refusal-stays c o w c' h k q)
+anthercup-settle-refuses e c o w c' h k q = (
+  firmware.settle-numbers e c o w c' h q,
+  firmware.seventeen-iff e c o w c' h q,
+  firmware.sixteen-iff e c o w c' h q,
+  firmware.refusal-stays e c o w c' h k q,
+)
 
--- what counts: 0 or 1 to 8; nothing is lent for writing
-pub anthercup-counted-refuses : (o : List ℕ) (t w : ℕ) → firmware.counted-gives o t w → Octets o → wordNumber w ≤ 8
+-- what counts: 16 for an unknown edition, else 0 or 1 to 8; nothing is lent for writing
+pub anthercup-counted-refuses : (e : ℕ) (o : List ℕ) (t w : ℕ) → firmware.counted-gives e o t w → Octets o →
+    (T (edition e) → wordNumber w ≤ 8) × ((T (edition e) → ⊥) → Unpacked 0 16 0 0 0 0 w)
 unfolding verdict.told
-anthercup-counted-refuses o t w h q = go (x .verdict) refl
+anthercup-counted-refuses e o t w h q = (λ i. by-known i, λ n. firmware.counted-sixteen e o t w h n)
   where
-    x : RecordCounts o t w
-    x = firmware.counted-word o t w h q
+    by-known : T (edition e) → wordNumber w ≤ 8
+    by-known i = go (x .verdict) refl
+      where
+        x : RecordCounts e o t w
+        x = firmware.counted-word e o t w h q i
 
-    of-message : (d : Accepts (rulesOf PresentLenient) o) (v : Option (List ℕ)) →
-        counted (rulesOf PresentLenient) (d .0) t ≡ v → wordNumber w ≤ 8
-    of-message d none e = omega (arith, x .none-counts (d .0) (d .1) (d .2) e .number)
-    of-message d (some v) e =
-        omega (arith, x .counts (d .0) (d .1) (d .2) v (counted-iff (rulesOf PresentLenient) (d .0) t v .0 e) .number)
+        of-message : (d : Accepts (R e i) o) (v : Option (List ℕ)) → counted (R e i) (d .0) t ≡ v → wordNumber w ≤ 8
+        of-message d none z = omega (arith, x .none-counts (d .0) (d .1) (d .2) z .number)
+        of-message d (some v) z =
+            omega (arith, x .counts (d .0) (d .1) (d .2) v (counted-iff (R e i) (d .0) t v .0 z) .number)
 
-    go : (v : Verdict) → x .verdict ≡ v → wordNumber w ≤ 8
-    go (Accepted n) e = of-message (judging.accepted-iff (x .judged) n .0 e .1) _ refl
-    go (Judged f) e =
-        let z = ap (λ (y : Verdict). verdict.told y .number) e in
-        let l = judging.some-number (x .judged) f e in
-        omega (
-          arith,
-          z,
-          x .refused (omega (arith, z, l)) .number,
-          eight-lenient _ .0 (judging.number-of (x .judged) f e) .1,
-        )
+        go : (v : Verdict) → x .verdict ≡ v → wordNumber w ≤ 8
+        go (Accepted n) z = of-message (judging.accepted-iff (x .judged) n .0 z .1) _ refl
+        go (Judged f) y =
+            let z = ap (λ (y : Verdict). verdict.told y .number) y in
+            let l = judging.some-number (x .judged) f y in
+            omega (
+              arith,
+              z,
+              x .refused (omega (arith, z, l)) .number,
+              eight-lenient e i _ .0 (judging.number-of (x .judged) f y) .1,
+            )
 
--- the caption: 17 for a record of another size than 24, else 0 or 1 to 8; with a number the record stays
-pub anthercup-caption-refuses : (o d c : List ℕ) (w : ℕ) (c' : List ℕ) → firmware.caption-gives o d c w c' → Octets o →
-    (length c ≡ partSize → (wordNumber w ≤ 8) × (1 ≤ wordNumber w → c' ≡ c))
+-- the caption: 17 for a record of another size than 24, else 0, 1 to 8, or 16 exactly for an unknown edition; with a
+-- number the record stays
+pub anthercup-caption-refuses : (e : ℕ) (o d c : List ℕ) (w : ℕ) (c' : List ℕ) →
+    firmware.caption-gives e o d c w c' → Octets o →
+    (length c ≡ partSize →
+    ((T (edition e) × (wordNumber w ≤ 8)) ⊎ ((T (edition e) → ⊥) × (wordNumber w ≡ 16)))
+    × (1 ≤ wordNumber w → c' ≡ c))
     × ((length c ≡ partSize → ⊥) → Seventeen c w c')
 unfolding shown.told
-anthercup-caption-refuses o d c w c' h q = (
-  λ n. let y = firmware.record-caption o d c w c' h q n in
-      so y (y .found) refl,
-  λ n. firmware.caption-seventeen o d c w c' h n,
+anthercup-caption-refuses e o d c w c' h q = (
+  λ n.
+      let y = firmware.record-caption e o d c w c' h q n in
+      (so y (decide (edition e)), λ l. y .refused (omega (arith, y .word .number, l))),
+  λ n. firmware.caption-seventeen e o d c w c' h n,
 )
   where
-    so : (y : RecordFinds o d c w c') (x : Shown) → y .found ≡ x → (wordNumber w ≤ 8) × (1 ≤ wordNumber w → c' ≡ c)
-    so y (found.InMessage start n) e =
-        let z = y .word .number ∙ ap (λ (x : Shown). shown.told x .number) e in
-        (omega (arith, z), λ k. absurd (omega (arith, z)))
-    so y (found.InDirectory start n) e =
-        let z = y .word .number ∙ ap (λ (x : Shown). shown.told x .number) e in
-        (omega (arith, z), λ k. absurd (omega (arith, z)))
-    so y (found.Refused f) e =
-        let z = y .word .number ∙ ap (λ (x : Shown). shown.told x .number) e in (
-          omega (
-            arith,
-            z,
-            eight-lenient _ .0 (judging.number-of (y .finds .judged) f (finding.declined-so (y .finds) f e)) .1,
-          ),
-          λ l. y .refused (omega (arith, y .word .number, l)),
+    small : (y : RecordFinds e o d c w c') → T (edition e) → (x : Shown) → y .finding .shown ≡ x → wordNumber w ≤ 8
+    small y i (found.InMessage start n) z =
+        omega (arith, y .word .number, ap (λ (x : Shown). shown.told x .number) z)
+    small y i (found.InDirectory start n) z =
+        omega (arith, y .word .number, ap (λ (x : Shown). shown.told x .number) z)
+    small y i (found.Refused f) z =
+        let s = y .finds .by-book (by-lenient e i) in
+        omega (
+          arith,
+          y .word .number,
+          ap (λ (x : Shown). shown.told x .number) z,
+          eight-lenient e i _ .0 (judging.number-of (s .judged) f (finding.declined-so s f z)) .1,
         )
+
+    so : RecordFinds e o d c w c' → T (edition e) ⊎ (T (edition e) → ⊥) →
+        (T (edition e) × (wordNumber w ≤ 8)) ⊎ ((T (edition e) → ⊥) × (wordNumber w ≡ 16))
+    so y (inl i) = inl (i, small y i _ refl)
+    so y (inr n) = inr (n, y .word .number ∙ y .finds .unknown (λ k. n (edition-of e lenient k)))

@@ -11,9 +11,11 @@ use lib.Dec.{T}
 use Rattle.rules.specs.Octets.{Octets}
 use Rattle.rules.specs.Language.{languageOf}
 use Rattle.rules.specs.declared.Book.{Book}
-use Rattle.rules.specs.declared.Book.the-variants.{PresentLenient}
+use Rattle.rules.specs.Editions.{lenient, known, bookOf}
 use Rattle.rules.proofs.Grammar.{spoken-of}
-use Rattle.listener.specs.Heard.{newListener, stepped, outOfRange}
+use Rattle.listener.specs.Heard.{newListener, stepped, outOfRange, unknownNumbers}
+use Rattle.listener.specs.Answers.{Known, InRange}
+use Rattle.listener.proofs.Hears.{again}
 use Rattle.listener.specs.Hears.{Hears}
 use Rattle.listener.specs.declared.Listener.{Listener}
 use Rattle.listener.specs.declared.Heard.{Heard}
@@ -28,58 +30,61 @@ use Rattle.firmware.specs.Word.{packed as word-of, wordNumber, wordPlace, wordP
 use Rattle.firmware.specs.RecordHears.{RecordHears, SameEnd}
 use Rattle.firmware.proofs.Promised as firmware
 
-module _ (b : Book) (l : Listener) (h : List ℕ) (d : listener.HasHeard b l h) (o : List ℕ) (q : Octets o)
-    (r : Heard) (p : listener.listen-gives l o r) where
-  -- the listener heard h since its reset to the book b, in whatever runs, and then one more: it waits, has a message
-  -- or refuses exactly as that book's rules say of all these octets (`Hears`: waits, has-message, refuses,
+-- by a known edition and way
+module _ (e w : ℕ) (t : T (known e w)) (l : Listener) (h : List ℕ) (d : listener.HasHeard e w l h) (o : List ℕ)
+    (q : Octets o) (r : Heard) (p : listener.listen-gives l o r) where
+  -- the listener heard h since its reset to them, in whatever runs, and then one more: it waits, has a message or
+  -- refuses exactly as the rules of their book say of all these octets (`Hears`: waits, has-message, refuses,
   -- answers-by-258, and the octets taken)
-  pub waits-or-answers : Hears (languageOf b) h o r
-  waits-or-answers = listener.demand3 b l h d o q r p
+  pub waits-or-answers : Hears (languageOf (bookOf e w)) h o r
+  waits-or-answers = listener.demand3 e w t l h d o q r p
 
-  -- an answer, once given, stays the same with the same place and parameter: the next call, with any run, takes
-  -- nothing, says it again and leaves the listener
+  -- an answer, once given, stays the same with the same place, parameter and edition: the next call, with any run,
+  -- takes nothing, says it again and leaves the listener
   pub answer-stays : (heard.told (r .answer) ≡ heard.waiting → ⊥) → (o' : List ℕ) (r' : Heard) →
-      listener.listen-gives (r .listener) o' r' → r' ≡ record { listener = r .listener; answer = r .answer; taken = 0 }
-  answer-stays n o' r' k = listener.answer-stays b l h d o q r p n o' r' k
+      listener.listen-gives (r .listener) o' r' → r' ≡ again (r .listener) (r .answer)
+  answer-stays n o' r' k = listener.answer-stays e w t l h d o q r p n o' r' k
 
-  -- it never gets 17
+  -- it never gets 16 or 17
   pub never-17 :
       let k = heard.told (r .answer) .number in
-      1 ≤ k → T (languageOf b .given k)
-  never-17 n = listener.never-17 b l h d o q r p n
+      1 ≤ k → T (languageOf (bookOf e w) .given k)
+  never-17 n = listener.never-17 e w t l h d o q r p n
 
 module _ (l : Listener) (o : List ℕ) (r : Heard) (p : listener.listen-gives l o r) where
-  -- a listener in range that no octets lead to is stepped by the written rule: listener, answer and octets taken
-  pub by-the-rule : T (languageOf (l .book) .inRange (l .state)) → r ≡ stepped (languageOf (l .book)) l o
-  by-the-rule t = listener.by-the-rule l o r p t
+  -- a listener in range and of known numbers that no octets lead to is stepped by the written rule: listener, answer
+  -- and octets taken
+  pub by-the-rule : InRange l → Known l → r ≡ stepped (languageOf (bookOf (l .edition) (l .way))) l o
+  by-the-rule t k = listener.by-the-rule l o r p t k
 
-  -- one out of range gets 17 at 0, takes nothing and comes back as it was
-  pub out-of-range : (T (languageOf (l .book) .inRange (l .state)) → ⊥) → r ≡ outOfRange l
+  -- one of unknown numbers gets 16 at 0, one out of range 17 at 0: it takes nothing and comes back as it was
+  pub of-unknown-numbers : InRange l → (Known l → ⊥) → r ≡ unknownNumbers l
+  of-unknown-numbers t n = listener.of-unknown-numbers l o r p t n
+
+  pub out-of-range : (InRange l → ⊥) → r ≡ outOfRange l
   out-of-range n = listener.out-of-range l o r p n
 
--- any cutting ends as one run does
+-- any cutting ends as one run does, and names the same edition
 pub cut-anywhere : (l : Listener) (x y : List ℕ) (r r₁ r₂ : Heard) → listener.listen-gives l (x ++ y) r →
     listener.listen-gives l x r₁ → listener.listen-gives (r₁ .listener) y r₂ → Octets x →
     (r .listener ≡ r₂ .listener) × (r .answer ≡ r₂ .answer) × (r .taken ≡ r₁ .taken + r₂ .taken)
+    × (r .edition ≡ r₂ .edition)
 cut-anywhere l x y r r₁ r₂ p p₁ p₂ q = listener.cut-anywhere l x y r r₁ r₂ p p₁ p₂ q
 
--- a reset listener equals a new one, and its book is that of its reset after any calls
-pub reset-is-new : (b : Book) (l : Listener) → listener.reset-gives b l → l ≡ newListener b
-reset-is-new b l h = listener.reset-is-new b l h
+-- a reset listener equals a new one of the numbers told, known or not (that they stay its numbers: Editions)
+pub reset-is-new : (e w : ℕ) (l : Listener) → listener.reset-gives e w l → l ≡ newListener e w
+reset-is-new e w l h = listener.reset-is-new e w l h
 
-pub book-kept : (b : Book) (l : Listener) (h : List ℕ) → listener.HasHeard b l h → l .book ≡ b
-book-kept b l h d = listener.book-kept b l h d
-
--- ---- the exports, on a record that heard h since it was reset: the same, read off the word
-module _ (c h : List ℕ) (d : firmware.RecordHasHeard c h) (o : List ℕ) (q : Octets o) (w : ℕ) (c' : List ℕ)
+-- ---- the exports, on a record that heard h since it was reset to a known edition: the same, read off the word
+module _ (e : ℕ) (c h : List ℕ) (d : firmware.RecordHasHeard e c h) (o : List ℕ) (q : Octets o) (w : ℕ) (c' : List ℕ)
     (k : firmware.listen-gives c o w c') where
-  pub anthercup-waits-or-answers : RecordHears (languageOf PresentLenient) h o w
-  anthercup-waits-or-answers = firmware.demand3 c h d o q w c' k
+  pub anthercup-waits-or-answers : RecordHears (languageOf (bookOf e lenient)) e h o w
+  anthercup-waits-or-answers = firmware.demand3 e c h d o q w c' k
 
   pub anthercup-answer-stays : (((wordNumber w ≡ 0) × (wordSize w ≡ 0)) → ⊥) →
       (o' : List ℕ) (w' : ℕ) (c'' : List ℕ) → firmware.listen-gives c' o' w' c'' →
-      (w' ≡ word-of (wordNumber w) (wordPlace w) (wordParameter w) (wordSize w) 0) × (c'' ≡ c')
-  anthercup-answer-stays n o' w' c'' x = firmware.answer-stays c h d o q w c' k n o' w' c'' x
+      (w' ≡ word-of e (wordNumber w) (wordPlace w) (wordParameter w) (wordSize w) 0) × (c'' ≡ c')
+  anthercup-answer-stays n o' w' c'' x = firmware.answer-stays e c h d o q w c' k n o' w' c'' x
 
 pub anthercup-cut-anywhere : (c x y : List ℕ) (w w₁ w₂ : ℕ) (d d₁ d₂ : List ℕ) →
     firmware.listen-gives c (x ++ y) w d → firmware.listen-gives c x w₁ d₁ → firmware.listen-gives d₁ y w₂ d₂ →
@@ -87,7 +92,7 @@ pub anthercup-cut-anywhere : (c x y : List ℕ) (w w₁ w₂ : ℕ) (d d₁ d₂
 anthercup-cut-anywhere c x y w w₁ w₂ d d₁ d₂ h h₁ h₂ q a b = firmware.cut-anywhere c x y w w₁ w₂ d d₁ d₂ h h₁ h₂ q a b
 
 -- ---- a listener heard h since its reset, and then a run: what it says is what a whole read of all these octets by
--- the book of the reset says
+-- the edition and the way of the reset says
 pub record AsListened (b : Book) (o : List ℕ) (w : Answer) (x : Packed) : Type 0 where
   -- number, place, parameter and size tell both
   pub clear : read.Clear x × heard.Clear w
@@ -95,13 +100,14 @@ pub record AsListened (b : Book) (o : List ℕ) (w : Answer) (x : Packed) : Type
       (read.told x ≡ read.refusal k p n) ↔ (heard.told w ≡ heard.refusal k p n)
   pub waits : (read.told x ≡ read.refusal 8 (length o) 0) ↔ (heard.told w ≡ heard.waiting)
 
-pub as-listened : (b : Book) (l : Listener) (h : List ℕ) → listener.HasHeard b l h → (o : List ℕ) → Octets o →
-    (r : Heard) → listener.listen-gives l o r →
-    (old : List ℕ) (x : Reading) (area : List ℕ) → reader.read-gives b (h ++ o) old x area → Octets (h ++ o) →
-    AsListened b (h ++ o) (r .answer) (x .answer)
-as-listened b l h d o q r p old x area k q' =
-    let g = reader.reads b (h ++ o) old x area k q' in
-    let y = listener.demand3 b l h d o q r p in
+pub as-listened : (e w : ℕ) → T (known e w) → (l : Listener) (h : List ℕ) → listener.HasHeard e w l h →
+    (o : List ℕ) → Octets o → (r : Heard) → listener.listen-gives l o r →
+    (old : List ℕ) (x : Reading) (area : List ℕ) → reader.read-gives e w (h ++ o) old x area → Octets (h ++ o) →
+    AsListened (bookOf e w) (h ++ o) (r .answer) (x .answer)
+as-listened e w t l h d o q r p old x area k q' =
+    let b = bookOf e w in
+    let g = reader.reads e w (h ++ o) old x area k t q' in
+    let y = listener.demand3 e w t l h d o q r p in
     let v = g .early (length (h ++ o)) in
     record {
       clear = (g .clear, y .clear);

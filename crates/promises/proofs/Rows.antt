@@ -1,16 +1,17 @@
--- Document 01's rows marked P (Octets on each side of the line) and those of document 02, Q-2 and Q-3, one list under
--- one claim over the promises of `listen`, `read`, `write`, `settle` and `counted`, whatever outcomes they allow.
+-- Document 01's rows marked P (Octets on each side of the line) and those of document 02, Q-2, Q-3 and Q-5, one list
+-- under one claim over the promises of `listen`, `read`, `write`, `settle` and `counted`, whatever outcomes they allow.
 -- Assumes nothing.
 use Prim.Native.Nat.{ℕ}
 use mathlib.Core.Path.{_≡_, refl, _∙_, ap}
 use mathlib.Core.List.{List, [], _∷_}
 use mathlib.Core.Option.{Option, none, some}
 use lib.ListN.{length, replicate}
+use lib.Dec.{T}
 use Rattle.rules.specs.Tests.{_≤?_, _=?_, _and_, _or_, pick}
 use Rattle.rules.specs.Octets.{total, checksum}
 use Rattle.rules.specs.Contents.{within, inSet, digit, pairFits, pairsFit, someLength, shortMonth, days, monthOf}
 use Rattle.rules.specs.Table.{rulesOf, classFault, rowIn, rowOf, listedIn, listed, classOf, rivalOf, typeFault, formOf, whole}
-use Rattle.rules.specs.declared.Book.the-variants.{PresentLenient}
+use Rattle.rules.specs.Editions.{lenient, edition, known, bookOf, namedBy}
 use Rattle.rules.specs.Message.{body, octets, messageKind}
 use Rattle.rules.specs.ContentJudge.{opens, tensFit, onesFit, pairAt, dayFits, calendarAt, calendarKeep, columnAt, judgeOf}
 use Rattle.rules.specs.Refusals.{notedIn}
@@ -34,19 +35,20 @@ use Rattle.draft.specs.Meaning.{formNumber, kindOf, formIs, tens, ones, spelled
 use Rattle.draft.specs.Draft.{meaningOf, inside, parameterOf, parametersOf, messageOf}
 use Rattle.draft.specs.declared.Value.the-variants.{Date}
 use Rattle.draft.specs.declared.Draft.{Draft}
-use Rattle.writer.specs.declared.Written.{Written}
+use Rattle.writer.specs.declared.Writing.{Writing}
 use Rattle.writer.specs.Told.{Told, told, success, refusal}
-use Rattle.writer.specs.Writing.{legalEntry, legalBefore, sized, measuredOf, writeOf}
+use Rattle.writer.specs.Writing.{legalEntry, legalBefore, sized, measuredOf, writeOf, writeIn}
 use Rattle.writer.specs.Rows.{one}
 use Rattle.writer.proofs.Promised as writer
 use Rattle.desk.specs.declared.Desk.{Desk}
-use Rattle.desk.specs.declared.Outcome.{Outcome}
+use Rattle.desk.specs.declared.Settling.{Settling}
+use Rattle.desk.specs.Told as desk-told
 use Rattle.desk.proofs.Promised as desk
 use Rattle.desk.specs.declared.Answer.the-variants as settled
 use Rattle.desk.specs.declared.Waiting.the-variants as waiting
 use Rattle.desk.specs.declared.Lamp.the-variants as lamp
 use Rattle.desk.specs.References.{placeWith, absent, mayStand, placesFit, changeBy, isFull, placesAfter}
-use Rattle.desk.specs.Settle.{newDesk, waitingAfter, lampAfter, changeIn, changeOf, noticed, countedIn, settledNotice, settledMessage, settledUnder, refusedWith, settleOf}
+use Rattle.desk.specs.Settle.{newDesk, waitingAfter, lampAfter, changeIn, changeOf, noticed, countedIn, settledNotice, settledMessage, settledUnder, refusedWith, settleOf, settleIn}
 
 -- what a row says of its octets
 pub data Outcomes : Type 0 where
@@ -64,37 +66,46 @@ pub data Outcomes : Type 0 where
   writes : Draft → Told → Outcomes
 
 pub record Example : Type 0 where
+  pub edition : ℕ
   pub octets : List ℕ
   pub outcome : Outcomes
 
--- ---- when it is true: of every outcome that a promise allows, by the present, carrying book
-abbrev Heard-as : List ℕ → Answer → Type 0
-Heard-as o w = (r : Heard) → listener.listen-gives (newListener PresentLenient) o r → r .answer ≡ w
+-- ---- when it is true: of every outcome that a promise allows, by the row's edition, types without a row carried
+abbrev Heard-as : ℕ → List ℕ → Answer → Type 0
+Heard-as v o w = (r : Heard) → listener.listen-gives (newListener v lenient) o r → r .answer ≡ w
 
-abbrev Read-as : List ℕ → ℕ → ℕ → ℕ → Type 0
-Read-as o k p b =
-    (old : List ℕ) (r : Reading) (area : List ℕ) → reader.read-gives PresentLenient o old r area →
+abbrev Read-as : ℕ → List ℕ → ℕ → ℕ → ℕ → Type 0
+Read-as v o k p b =
+    (old : List ℕ) (r : Reading) (area : List ℕ) → reader.read-gives v lenient o old r area →
     r .answer ≡ packed.Refused (notedIn k p b)
 
-abbrev pub Holds : List ℕ → Outcomes → Type 0
-Holds o (heard w) = Heard-as o w
-Holds o (unread k p b) = Read-as o k p b
-Holds o (refused k p b) = Heard-as o (answer.Refused (notedIn k p b)) × Read-as o k p b
-Holds o (counts t v) = (p : Part) → message.counted-gives PresentLenient o t p → partOf o p ≡ v
-Holds o (settles d) =
-    (r : Outcome) → desk.settle-gives PresentLenient newDesk o r → r ≡ record { desk = d; answer = settled.Done }
-Holds o (writes d a) =
-    (octets (messageOf d []) ≡ o)
-    × ((old : List ℕ) (w : Written) (out : List ℕ) → length old ≡ length o →
-    writer.write-gives PresentLenient d [] old w out → told w ≡ a)
+abbrev pub Holds : ℕ → List ℕ → Outcomes → Type 0
+Holds v o (heard w) = Heard-as v o w
+Holds v o (unread k p b) = Read-as v o k p b
+Holds v o (refused k p b) = Heard-as v o (answer.Refused (notedIn k p b)) × Read-as v o k p b
+Holds v o (counts t c) = (p : Part) → message.counted-gives (bookOf v lenient) o t p → partOf o p ≡ c
+Holds v o (settles d) =
+    (r : Settling) → desk.settle-gives v lenient newDesk o r →
+    r ≡ record { edition = v; outcome = record { desk = d; answer = settled.Done } }
+Holds v o (writes d a) =
+    (octets (messageOf d []) ≡ o) × (d .edition ≡ v)
+    × ((old : List ℕ) (w : Writing) (out : List ℕ) → length old ≡ length o →
+    writer.write-gives lenient d [] old w out → told (w .answer) ≡ a)
 
 abbrev pub All : List Example → Type 0
 All [] = Unit {0}
-All (r ∷ rs) = Holds (r .octets) (r .outcome) × All rs
+All (r ∷ rs) = Holds (r .edition) (r .octets) (r .outcome) × All rs
 
 -- ---- the rows
 abbrev says : List ℕ → Outcomes → Example
-says o x = record { octets = o; outcome = x }
+says o x = record { edition = 0; octets = o; outcome = x }
+
+-- by the old edition, and by one that is none (document 02, Q-5)
+abbrev old : List ℕ → Outcomes → Example
+old o x = record { edition = 1; octets = o; outcome = x }
+
+abbrev unknown : List ℕ → Outcomes → Example
+unknown o x = record { edition = 2; octets = o; outcome = x }
 
 abbrev lamp-on : List ℕ
 lamp-on = 0x82 ∷ 0x03 ∷ 0x0B ∷ 0x01 ∷ 0xFF ∷ 0x70 ∷ []
@@ -108,6 +119,10 @@ no-caller = 0x80 ∷ 0x06 ∷ 0x04 ∷ 0x01 ∷ 0x50 ∷ 0x02 ∷ 0x01 ∷ 0x37 
 -- document 02, Q-2: a call message with a date alone, 0:00 on a day
 abbrev midnight : ℕ → ℕ → Draft
 midnight month day = one 0x01 (Date month day 0 0)
+
+abbrev old-midnight : ℕ → ℕ → Draft
+old-midnight month day =
+    record { kind = 0x80; edition = 1; count = 1; entries = midnight month day .entries }
 
 abbrev april-31 : List ℕ
 april-31 = 0x80 ∷ 0x0A ∷ 0x01 ∷ 0x08 ∷ 0x30 ∷ 0x34 ∷ 0x33 ∷ 0x31 ∷ 0x30 ∷ 0x30 ∷ 0x30 ∷ 0x30 ∷ 0xE5 ∷ []
@@ -152,132 +167,109 @@ documents =
     says (0x82 ∷ 0x06 ∷ 0x13 ∷ 0x01 ∷ 0x02 ∷ 0x13 ∷ 0x02 ∷ []) (refused 4 6 2) ∷
     says (0x80 ∷ 0x06 ∷ 0x05 ∷ 0x01 ∷ 0x00 ∷ 0x02 ∷ 0x01 ∷ 0x41 ∷ []) (refused 5 7 2) ∷
     says (0x82 ∷ 0x06 ∷ 0x13 ∷ 0x01 ∷ 0x02 ∷ 0x13 ∷ 0x01 ∷ 0x05 ∷ 0x48 ∷ []) (refused 6 8 0) ∷
+    old (0x80 ∷ 0x14 ∷ 0x02 ∷ 0x12 ∷ []) (heard answer.Waits) ∷
+    old (0x80 ∷ 0x15 ∷ 0x02 ∷ 0x13 ∷ []) (refused 4 3 1) ∷
+    says (0x80 ∷ 0x15 ∷ 0x02 ∷ 0x13 ∷ []) (heard answer.Waits) ∷
+    old (0x80 ∷ 0x03 ∷ 0x02 ∷ 0x01 ∷ 0x2A ∷ []) (refused 5 4 1) ∷
+    old (0x80 ∷ 0x03 ∷ 0x16 ∷ 0x01 ∷ 0x01 ∷ []) (refused 5 4 1) ∷
+    old (0x80 ∷ 0x03 ∷ 0x16 ∷ 0x01 ∷ 0x03 ∷ []) (heard answer.Waits) ∷
+    old (0x80 ∷ 0x07 ∷ 0x08 ∷ 0x05 ∷ 0x41 ∷ []) (heard answer.Waits) ∷
+    old lamp-on (settles (record { waiting = waiting.Unknown; lamp = lamp.On; places = replicate 16 0 })) ∷
+    old twice-waiting (counts 0x13 none) ∷
+    old twice-waiting (settles newDesk) ∷
+    old february-30 (writes (old-midnight 2 30) (refusal 12 0)) ∷
+    old (0x80 ∷ 0x06 ∷ 0x08 ∷ 0x01 ∷ 0x4F ∷ 0x07 ∷ 0x01 ∷ 0x41 ∷ 0xD9 ∷ []) (counts 0x07 (some (0x41 ∷ []))) ∷
+    says (0x80 ∷ 0x06 ∷ 0x08 ∷ 0x01 ∷ 0x4F ∷ 0x07 ∷ 0x01 ∷ 0x41 ∷ 0xD9 ∷ []) (counts 0x07 none) ∷
+    unknown [] (refused 16 0 0) ∷
+    unknown (0x81 ∷ []) (refused 16 0 0) ∷
     []
 
 -- ---- a row is true where its outcome is computed
-hears : (o : List ℕ) (w : Answer) → heardOf (newListener PresentLenient) o .answer ≡ w → Heard-as o w
-hears o w e r h = ap (λ (x : Heard). x .answer) (listener.listen-is (newListener PresentLenient) o r h) ∙ e
+hears : (v : ℕ) (o : List ℕ) (w : Answer) → heardOf (newListener v lenient) o .answer ≡ w → Heard-as v o w
+hears v o w e r h = ap (λ (x : Heard). x .answer) (listener.listen-is (newListener v lenient) o r h) ∙ e
 
-reads : (o : List ℕ) (k p b : ℕ) → verdictOf (rulesOf PresentLenient) o ≡ Declined (notedIn k p b) →
-    Read-as o k p b
+reads : (v : ℕ) (o : List ℕ) (k p b : ℕ) → T (known v lenient) →
+    verdictOf (rulesOf (bookOf v lenient)) o ≡ Declined (notedIn k p b) → Read-as v o k p b
 unfolding readOf packOf packFrom
-reads o k p b e old r area h =
-    ap (λ (x : Reading). x .answer) (reader.read-is PresentLenient o old r area h .0)
-    ∙ ap (packFrom (rulesOf PresentLenient) o (length old)) e
+reads v o k p b t e old r area h =
+    ap (λ (x : Reading). x .answer) (reader.read-is v lenient o old r area h t .0)
+    ∙ ap (packFrom (rulesOf (bookOf v lenient)) o (length old)) e
 
-finds : (o : List ℕ) (t : ℕ) (v : Option (List ℕ)) → partOf o (countedAt (rulesOf PresentLenient) o t) ≡ v →
-    Holds o (counts t v)
-finds o t v e p h = ap (partOf o) (message.counted-is PresentLenient o t p h) ∙ e
+unreadable-by : (v : ℕ) (o : List ℕ) → (T (known v lenient) → ⊥) → Read-as v o 16 0 0
+unreadable-by v o n old r area h = ap (λ (x : Reading). x .answer) (reader.read-none v lenient o old r area h n .0)
 
-leaves : (o : List ℕ) (d : Desk) →
-    settleOf (rulesOf PresentLenient) newDesk o ≡ (record { desk = d; answer = settled.Done }) → Holds o (settles d)
-leaves o d e r h = desk.settle-is PresentLenient newDesk o r h ∙ e
+finds : (v : ℕ) (o : List ℕ) (t : ℕ) (c : Option (List ℕ)) →
+    partOf o (countedAt (rulesOf (bookOf v lenient)) o t) ≡ c → Holds v o (counts t c)
+finds v o t c e p h = ap (partOf o) (message.counted-is (bookOf v lenient) o t p h) ∙ e
 
-written : (o : List ℕ) (d : Draft) (a : Told) → octets (messageOf d []) ≡ o →
-    told (writeOf (rulesOf PresentLenient) d [] (length o)) ≡ a → Holds o (writes d a)
-written o d a p e = (
+leaves : (v : ℕ) (o : List ℕ) (d : Desk) →
+    settleIn v lenient newDesk o ≡ (record { edition = v; outcome = record { desk = d; answer = settled.Done } }) →
+    Holds v o (settles d)
+leaves v o d e r h = desk.settle-is v lenient newDesk o r h ∙ e
+
+written : (v : ℕ) (o : List ℕ) (d : Draft) (a : Told) → octets (messageOf d []) ≡ o → d .edition ≡ v →
+    told (writeIn lenient d [] (length o) .answer) ≡ a → Holds v o (writes d a)
+written v o d a p q e = (
   p,
-  λ old w out l h. ap told (writer.write-is PresentLenient d [] old w out h)
-      ∙ ap (λ (n : ℕ). told (writeOf (rulesOf PresentLenient) d [] n)) l
+  q,
+  λ old w out l h. ap (λ (x : Writing). told (x .answer)) (writer.write-in lenient d [] old w out h)
+      ∙ ap (λ (n : ℕ). told (writeIn lenient d [] n .answer)) l
       ∙ e,
 )
 
+-- one row after another
+infixr 4 _also_
+abbrev _also_ : {A B : Type 0} → A → B → A × B
+a also b = (a, b)
+
 pub rows : All documents
-unfolding _≤?_ _=?_ _and_ _or_ pick total checksum body octets within inSet whole digit pairFits pairsFit monthOf formOf rowIn rowOf listedIn listed classOf rivalOf typeFault classFault someLength rulesOf messageKind opens tensFit onesFit pairAt shortMonth days dayFits calendarAt calendarKeep columnAt judgeOf step run roomFits rangePossible somePossible possible final fits contents after fault standsIn machine placeFits countFits inRange newListener heardIn answerOf taken stopped judged verdictOf parameterAt matched searchFrom countedAt partOf waitingAfter lampAfter changeIn changeOf noticed countedIn settledNotice settledMessage settledUnder refusedWith settleOf placeWith absent mayStand placesFit changeBy isFull placesAfter told writeOf measuredOf sized legalBefore legalEntry messageOf parametersOf parameterOf spelled meaningOf inside formIs formNumber kindOf tens ones
-rows = (
-  hears _ _ refl,
-  (
-    reads _ _ _ _ refl,
-    (
-      (hears _ _ refl, reads _ _ _ _ refl),
-      (
-        (hears _ _ refl, reads _ _ _ _ refl),
-        (
-          (hears _ _ refl, reads _ _ _ _ refl),
-          (
-            hears _ _ refl,
-            (
-              (hears _ _ refl, reads _ _ _ _ refl),
-              (
-                (hears _ _ refl, reads _ _ _ _ refl),
-                (
-                  (hears _ _ refl, reads _ _ _ _ refl),
-                  (
-                    hears _ _ refl,
-                    (
-                      leaves _ _ refl,
-                      (
-                        (hears _ _ refl, reads _ _ _ _ refl),
-                        (
-                          hears _ _ refl,
-                          (
-                            reads _ _ _ _ refl,
-                            (
-                              hears _ _ refl,
-                              (
-                                finds _ _ _ refl,
-                                (
-                                  leaves _ _ refl,
-                                  (
-                                    hears _ _ refl,
-                                    (
-                                      finds _ _ _ refl,
-                                      (
-                                        finds _ _ _ refl,
-                                        (
-                                          leaves _ _ refl,
-                                          (
-                                            (hears _ _ refl, reads _ _ _ _ refl),
-                                            (
-                                              (hears _ _ refl, reads _ _ _ _ refl),
-                                              (
-                                                hears _ _ refl,
-                                                (
-                                                  written _ _ _ refl refl,
-                                                  (
-                                                    written _ _ _ refl refl,
-                                                    (
-                                                      written _ _ _ refl refl,
-                                                      (
-                                                        (hears _ _ refl, reads _ _ _ _ refl),
-                                                        (
-                                                          (hears _ _ refl, reads _ _ _ _ refl),
-                                                          (
-                                                            (hears _ _ refl, reads _ _ _ _ refl),
-                                                            (
-                                                              (hears _ _ refl, reads _ _ _ _ refl),
-                                                              (
-                                                                (hears _ _ refl, reads _ _ _ _ refl),
-                                                                tt,
-                                                              ),
-                                                            ),
-                                                          ),
-                                                        ),
-                                                      ),
-                                                    ),
-                                                  ),
-                                                ),
-                                              ),
-                                            ),
-                                          ),
-                                        ),
-                                      ),
-                                    ),
-                                  ),
-                                ),
-                              ),
-                            ),
-                          ),
-                        ),
-                      ),
-                    ),
-                  ),
-                ),
-              ),
-            ),
-          ),
-        ),
-      ),
-    ),
-  ),
-)
+unfolding edition known bookOf namedBy writeIn settleIn desk-told.told _≤?_ _=?_ _and_ _or_ pick total checksum body octets within inSet whole digit pairFits pairsFit monthOf formOf rowIn rowOf listedIn listed classOf rivalOf typeFault classFault someLength rulesOf messageKind opens tensFit onesFit pairAt shortMonth days dayFits calendarAt calendarKeep columnAt judgeOf step run roomFits rangePossible somePossible possible final fits contents after fault standsIn machine placeFits countFits inRange newListener heardIn answerOf taken stopped judged verdictOf parameterAt matched searchFrom countedAt partOf waitingAfter lampAfter changeIn changeOf noticed countedIn settledNotice settledMessage settledUnder refusedWith settleOf placeWith absent mayStand placesFit changeBy isFull placesAfter told writeOf measuredOf sized legalBefore legalEntry messageOf parametersOf parameterOf spelled meaningOf inside formIs formNumber kindOf tens ones
+rows =
+    hears 0 _ _ refl also
+    reads 0 _ _ _ _ tt refl also
+    (hears 0 _ _ refl, reads 0 _ _ _ _ tt refl) also
+    (hears 0 _ _ refl, reads 0 _ _ _ _ tt refl) also
+    (hears 0 _ _ refl, reads 0 _ _ _ _ tt refl) also
+    hears 0 _ _ refl also
+    (hears 0 _ _ refl, reads 0 _ _ _ _ tt refl) also
+    (hears 0 _ _ refl, reads 0 _ _ _ _ tt refl) also
+    (hears 0 _ _ refl, reads 0 _ _ _ _ tt refl) also
+    hears 0 _ _ refl also
+    leaves 0 lamp-on (record { waiting = waiting.Unknown; lamp = lamp.On; places = replicate 16 0 }) refl also
+    (hears 0 _ _ refl, reads 0 _ _ _ _ tt refl) also
+    hears 0 _ _ refl also
+    reads 0 _ _ _ _ tt refl also
+    hears 0 _ _ refl also
+    finds 0 _ _ _ refl also
+    leaves 0 twice-waiting (record { waiting = waiting.Number 2; lamp = lamp.Unknown; places = replicate 16 0 }) refl also
+    hears 0 _ _ refl also
+    finds 0 _ _ _ refl also
+    finds 0 _ _ _ refl also
+    leaves 0 no-caller newDesk refl also
+    (hears 0 _ _ refl, reads 0 _ _ _ _ tt refl) also
+    (hears 0 _ _ refl, reads 0 _ _ _ _ tt refl) also
+    hears 0 _ _ refl also
+    written 0 _ _ _ refl refl refl also
+    written 0 _ _ _ refl refl refl also
+    written 0 _ _ _ refl refl refl also
+    (hears 0 _ _ refl, reads 0 _ _ _ _ tt refl) also
+    (hears 0 _ _ refl, reads 0 _ _ _ _ tt refl) also
+    (hears 0 _ _ refl, reads 0 _ _ _ _ tt refl) also
+    (hears 0 _ _ refl, reads 0 _ _ _ _ tt refl) also
+    (hears 0 _ _ refl, reads 0 _ _ _ _ tt refl) also
+    hears 1 _ _ refl also
+    (hears 1 _ _ refl, reads 1 _ _ _ _ tt refl) also
+    hears 0 _ _ refl also
+    (hears 1 _ _ refl, reads 1 _ _ _ _ tt refl) also
+    (hears 1 _ _ refl, reads 1 _ _ _ _ tt refl) also
+    hears 1 _ _ refl also
+    hears 1 _ _ refl also
+    leaves 1 lamp-on (record { waiting = waiting.Unknown; lamp = lamp.On; places = replicate 16 0 }) refl also
+    finds 1 _ _ _ refl also
+    leaves 1 twice-waiting newDesk refl also
+    written 1 _ _ _ refl refl refl also
+    finds 1 _ _ _ refl also
+    finds 0 _ _ _ refl also
+    (hears 2 _ _ refl, unreadable-by 2 _ (λ t. t)) also
+    (hears 2 _ _ refl, unreadable-by 2 _ (λ t. t)) also
+    tt

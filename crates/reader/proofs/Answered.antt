@@ -145,12 +145,16 @@ module _ (R : Rules) (S : SoundRules R) where
       packs =
           whole-is o room v (length o) (accepted m l e) (omega (arith, size-of m o l e)) ∙ ap Texts (size-of m o l e)
 
-      reads : readOf R o room ≡ (record { answer = Texts (length (texts R m)); draft = draftOf R m })
+      reads : readOf R o room ≡ (record {
+        edition = R .edition;
+        answer = Texts (length (texts R m));
+        draft = draftOf R m;
+      })
       unfolding readOf draftFrom
       reads =
           let z : draftFrom R o (packOf R o room) ≡ draftOf R m =
           ap (draftFrom R o) packs ∙ ap (draftOf R) (in-octets m o l e) in
-          λ i. record { answer = packs i; draft = z i }
+          λ i. record { edition = R .edition; answer = packs i; draft = z i }
 
       area-is : areaAfter R o old ≡ laid (texts R m) old
       unfolding areaAfter areaFrom
@@ -162,7 +166,7 @@ module _ (R : Rules) (S : SoundRules R) where
       stands = draft-stands R m (drop (length (texts R m)) old) l
 
     refused-all : (f : Fault) → packOf R o room ≡ Refused f →
-        (areaAfter R o old ≡ old) × (readOf R o room .draft ≡ emptyOf 0)
+        (areaAfter R o old ≡ old) × (readOf R o room .draft ≡ emptyOf (R .edition) 0)
     unfolding areaAfter areaFrom readOf draftFrom
     refused-all f e = (ap (areaFrom R o old) e, ap (draftFrom R o) e)
 
@@ -242,7 +246,7 @@ module _ (R : Rules) (S : SoundRules R) where
     told-only (Refused f) e z = absurd (omega (arith, z, subst Clear e clear))
 
     told-all : (p : Packed) → packOf R o room ≡ p → 1 ≤ told p .number →
-        (areaAfter R o old ≡ old) × (readOf R o room .draft ≡ emptyOf 0) × T (readNumber R (told p .number))
+        (areaAfter R o old ≡ old) × (readOf R o room .draft ≡ emptyOf (R .edition) 0) × T (readNumber R (told p .number))
     unfolding told
     told-all (Texts n) e l = absurd (omega arith)
     told-all (Refused f) e l = (refused-all f e .0, refused-all f e .1, refused-number f e)
@@ -251,6 +255,7 @@ module _ (R : Rules) (S : SoundRules R) where
     unfolding readOf
     reads-of = record {
       clear = clear;
+      names = refl;
       spoilt =
           λ k p b l. Iff·trans (told-refused _ k p b (spoken R S .numbers k l .0))
           (Iff·trans (declined (notedIn k p b) (given-apart (spoken R S) _ l .2))

@@ -189,10 +189,10 @@ module _ (R : Rules) (o : List ℕ) where
                 ap (λ (k : ℕ). replicate k noEntry) z));
           }
 
-    pub filled-end : (d : Draft) → d .kind ≡ getD o 0 0 → d .count ≡ count → d .entries ≡ entries →
-        untaken o count at ≡ [] → d ≡ draftOf R (messageIn o)
+    pub filled-end : (d : Draft) → d .kind ≡ getD o 0 0 → d .edition ≡ R .edition → d .count ≡ count →
+        d .entries ≡ entries → untaken o count at ≡ [] → d ≡ draftOf R (messageIn o)
     unfolding draftOf messageIn entriesOf
-    filled-end d k c s e =
+    filled-end d k v c s e =
         let t : take count entries ≡ entriesOf R 0 (parametersIn o) =
         sym (append-nil (take count entries))
         ∙ ap (λ (ps : List Parameter). take count entries ++ entriesOf R used ps) (sym e) ∙ w .front in
@@ -203,20 +203,21 @@ module _ (R : Rules) (o : List ℕ) where
         let b : d .entries ≡ entriesOf R 0 (parametersIn o) ++ replicate (most - length (parametersIn o)) noEntry =
         s ∙ sym (take-append-drop count entries)
         ∙ ap₂ _++_ t (w .rest ∙ ap (λ (m : ℕ). replicate (most - m) noEntry) n) in
-        λ i. record { kind = k i; count = a i; entries = b i }
+        λ i. record { kind = k i; edition = v i; count = a i; entries = b i }
 
 -- ---- what becomes of the octets, and the draft to it
 module _ (R : Rules) (o : List ℕ) (room : ℕ) (p : Packed) (d : Draft) (e : p ≡ packOf R o room) where
-  reads : d ≡ draftFrom R o p → (record { answer = p; draft = d }) ≡ readOf R o room
+  reads : (v : ℕ) → v ≡ R .edition → d ≡ draftFrom R o p →
+      (record { edition = v; answer = p; draft = d }) ≡ readOf R o room
   unfolding readOf
-  reads q = let z = q ∙ ap (draftFrom R o) e in λ i. record { answer = e i; draft = z i }
+  reads v h q = let z = q ∙ ap (draftFrom R o) e in λ i. record { edition = h i; answer = e i; draft = z i }
 
-  pub reads-whole : (n : ℕ) → p ≡ packed.Texts n → d ≡ draftOf R (messageIn o) →
-      (record { answer = p; draft = d }) ≡ readOf R o room
+  pub reads-whole : (v n : ℕ) → v ≡ R .edition → p ≡ packed.Texts n → d ≡ draftOf R (messageIn o) →
+      (record { edition = v; answer = p; draft = d }) ≡ readOf R o room
   unfolding draftFrom
-  reads-whole n q f = reads (f ∙ ap (draftFrom R o) (sym q))
+  reads-whole v n h q f = reads v h (f ∙ ap (draftFrom R o) (sym q))
 
-  pub reads-refused : (f : Fault) → p ≡ packed.Refused f → d ≡ emptyOf 0 →
-      (record { answer = p; draft = d }) ≡ readOf R o room
+  pub reads-refused : (v : ℕ) (f : Fault) → v ≡ R .edition → p ≡ packed.Refused f → d ≡ emptyOf v 0 →
+      (record { edition = v; answer = p; draft = d }) ≡ readOf R o room
   unfolding draftFrom
-  reads-refused f q g = reads (g ∙ ap (draftFrom R o) (sym q))
+  reads-refused v f h q g = reads v h (g ∙ ap (λ (x : ℕ). emptyOf x 0) h ∙ ap (draftFrom R o) (sym q))

@@ -8,3 +8,4 @@ pub mod Turns
 pub mod Told
 pub mod Area
 pub mod Answered
+pub mod ByEdition

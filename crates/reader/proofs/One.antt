@@ -10,7 +10,8 @@ use lib.ListN.{length}
 use lib.Dec.{T}
 use Rattle.rules.specs.Tests.{_=?_, _≤?_}
 use Rattle.rules.proofs.Tests.{clash, either, decide, eq-of, le-of, not-le}
-use Rattle.rules.specs.Table.{Rules}
+use Rattle.rules.specs.Table.{Rules, rulesOf}
+use Rattle.rules.specs.Editions.{known, bookOf}
 use Rattle.rules.specs.Judge.{given}
 use Rattle.rules.specs.Language.{calls}
 use Rattle.rules.specs.Message.{Message, octets, LegalMessage}
@@ -21,9 +22,9 @@ use Rattle.message.proofs.Judges.{verdict-number}
 use Rattle.reader.specs.declared.Packed.{Packed}
 use Rattle.reader.specs.declared.Packed.the-variants.{Texts, Refused}
 use Rattle.reader.specs.declared.Reading.{Reading}
-use Rattle.reader.specs.Reads.{Reads, texts, readNumber}
+use Rattle.reader.specs.Reads.{Reads, ReadsBy, texts, readNumber}
 use Rattle.reader.proofs.Told.{spoilt-iff, early-iff, followed-iff, short-iff, drafted-as, texts-accepted}
-use Rattle.reader.proofs.Told.{noted-at, some-number, refused-so}
+use Rattle.reader.proofs.Told.{told-refused, noted-at, some-number, refused-so}
 
 module _ (R : Rules) (o old : List ℕ) (r : Reading) (area : List ℕ) (s : Reading) (after : List ℕ)
     (A : Reads R o old r area) (B : Reads R o old s after) where
@@ -77,4 +78,22 @@ module _ (R : Rules) (o old : List ℕ) (r : Reading) (area : List ℕ) (s : Rea
           let y = refused-so B f d in
           let answer = e ∙ sym d in
           let draft = x .1 ∙ sym (y .1) in
-          ((λ i. record { answer = answer i; draft = draft i }), x .0 ∙ sym (y .0))
+          let edition = A .names ∙ sym (B .names) in
+          ((λ i. record { edition = edition i; answer = answer i; draft = draft i }), x .0 ∙ sym (y .0))
+
+-- by any edition and way, any octets and any area have one reading, and leave one area
+pub reads-by-one : (e w : ℕ) (o old : List ℕ) (r : Reading) (area : List ℕ) (s : Reading) (after : List ℕ) →
+    ReadsBy e w o old r area → ReadsBy e w o old s after → (r ≡ s) × (area ≡ after)
+reads-by-one e w o old r area s after A B = go (decide (known e w))
+  where
+    go : T (known e w) ⊎ (T (known e w) → ⊥) → (r ≡ s) × (area ≡ after)
+    go (inl t) = reads-one (rulesOf (bookOf e w)) o old r area s after (A .by-book t) (B .by-book t)
+    go (inr n) =
+        let x = A .leaves n in
+        let y = B .leaves n in
+        let edition = x .2 ∙ sym (y .2) in
+        let draft = x .1 ∙ sym (y .1) in
+        let answer =
+        told-refused _ 16 0 0 (omega arith) .0 (A .unknown n)
+        ∙ sym (told-refused _ 16 0 0 (omega arith) .0 (B .unknown n)) in
+        ((λ i. record { edition = edition i; answer = answer i; draft = draft i }), x .0 ∙ sym (y .0))

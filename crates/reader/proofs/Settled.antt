@@ -17,5 +17,5 @@ pub entry-settled : (κs : _) (a : _) (r r' : _) (s s' : _) → entry.Post κs a
 entry-settled κs a r r' s s' p q = p ∙ sym q
 
 pub read-settled : (κs : _) (a : _) (r r' : _) (s s' : _) → read.Post κs a r s → read.Post κs a r' s' →
-    (r ≡ r') × (s .1 .1 .0 .now ≡ s' .1 .1 .0 .now)
+    (r ≡ r') × (s .1 .1 .1 .0 .now ≡ s' .1 .1 .1 .0 .now)
 read-settled κs a r r' s s' p q = (p .0 ∙ sym (q .0), p .1 ∙ sym (q .1))

@@ -66,13 +66,14 @@ module _ {R : Rules} {o old : List ℕ} {r : Reading} {area : List ℕ} (x : Rea
   short-iff p = Iff·trans (Iff·symm (told-refused _ 9 p 0 (omega arith))) (x .short p)
 
   pub drafted-as : (m : Message) → LegalMessage R m → octets m ≡ o → length (texts R m) ≤ length old →
-      (r ≡ (record { answer = Texts (length (texts R m)); draft = draftOf R m })) × (area ≡ laid (texts R m) old)
+      (r ≡ (record { edition = R .edition; answer = Texts (length (texts R m)); draft = draftOf R m })) × (area ≡ laid (texts R m) old)
       × (messageOf (r .draft) area ≡ m)
   drafted-as m l e h =
       let y = x .drafted m l e h in
       let a = told-texts _ _ (x .clear) .0 (y .0) in
       let d = y .1 in
-      ((λ i. record { answer = a i; draft = d i }), y .2, y .3)
+      let v = x .names in
+      ((λ i. record { edition = v i; answer = a i; draft = d i }), y .2, y .3)
 
   pub texts-accepted : (n : ℕ) → r .answer ≡ Texts n → Accepts R o
   unfolding told
@@ -92,7 +93,7 @@ module _ {R : Rules} {o old : List ℕ} {r : Reading} {area : List ℕ} (x : Rea
   some-number f e = subst Clear e (x .clear)
 
   pub refused-so : (f : Fault) → r .answer ≡ Refused f →
-      (area ≡ old) × (r .draft ≡ emptyOf 0) × T (readNumber R (f .number))
+      (area ≡ old) × (r .draft ≡ emptyOf (R .edition) 0) × T (readNumber R (f .number))
   unfolding told
   refused-so f e =
       let z = ap (λ (a : Packed). told a .number) e in

@@ -6,7 +6,8 @@ use mathlib.Core.Bool.{Bool, true, false}
 use mathlib.Core.List.{List}
 use lib.ListN.{length, take, drop}
 use Rattle.rules.specs.Tests.{_≤?_, pick}
-use Rattle.rules.specs.Table.{Rules}
+use Rattle.rules.specs.Table.{Rules, rulesOf}
+use Rattle.rules.specs.Editions.{known, bookOf}
 use Rattle.rules.specs.Message.{Parameter}
 use Rattle.rules.specs.declared.Form.{Form}
 use Rattle.rules.specs.declared.Form.the-variants.{DateValue, CodeValue, StateValue, TextValue, CarriedValue}
@@ -69,10 +70,22 @@ areaAfter R o old = areaFrom R o old (packOf R o (length old))
 -- the draft of the message; with a refusal the empty one
 unfoldable pub draftFrom : Rules → List ℕ → Packed → Draft
 draftFrom R o (packed.Texts n) = draftOf R (messageIn o)
-draftFrom R o (packed.Refused f) = emptyOf 0
+draftFrom R o (packed.Refused f) = emptyOf (R .edition) 0
 
 unfoldable pub readOf : Rules → List ℕ → ℕ → Reading
-readOf R o room = record { answer = packOf R o room; draft = draftFrom R o (packOf R o room) }
+readOf R o room =
+    record { edition = R .edition; answer = packOf R o room; draft = draftFrom R o (packOf R o room) }
+
+-- ---- by edition and way (document 02, Q-5)
+-- 16 at 0: the empty draft, and no edition is named
+abbrev pub unreadable : Reading
+unreadable = record { edition = 0; answer = packed.Refused (noted 16 0); draft = emptyOf 0 0 }
+
+unfoldable pub readIn : ℕ → ℕ → List ℕ → ℕ → Reading
+readIn e w o room = pick (known e w) (readOf (rulesOf (bookOf e w)) o room) unreadable
+
+unfoldable pub areaIn : ℕ → ℕ → List ℕ → List ℕ → List ℕ
+areaIn e w o old = pick (known e w) (areaAfter (rulesOf (bookOf e w)) o old) old
 
 -- ---- parameter by parameter
 -- the parameter of a type whose contents stand at a place

@@ -10,7 +10,8 @@ use lib.ListN.{length, take}
 use lib.Dec.{T}
 use Rattle.rules.specs.Tests.{_=?_, _or_}
 use Rattle.rules.specs.Contents.{within}
-use Rattle.rules.specs.Table.{Rules}
+use Rattle.rules.specs.Table.{Rules, rulesOf}
+use Rattle.rules.specs.Editions.{known, bookOf}
 use Rattle.rules.specs.Message.{Message, octets, LegalMessage, Accepts, most}
 use Rattle.rules.specs.Endings.{Ending, Spoilt, Numbered}
 use Rattle.rules.specs.Language.{calls}
@@ -41,6 +42,8 @@ readNumber R k = verdictNumber (calls R) k or k =? 9
 pub record Reads (R : Rules) (o old : List ℕ) (r : Reading) (area : List ℕ) : Type 0 where
   -- number, place, parameter and size tell the answer
   pub clear : Clear (r .answer)
+  -- it names the edition
+  pub names : r .edition ≡ R .edition
   -- 1 to 6 and 10 exactly at the octet that spoils the message, with the number and the parameter of its role
   pub spoilt : (k p b : ℕ) → T (calls R .given k) →
       (told (r .answer) ≡ refusal k p b) ↔ (Spoilt (Accepts R) o p × Numbered (Accepts R) (calls R .roles) o p k b)
@@ -63,4 +66,18 @@ pub record Reads (R : Rules) (o old : List ℕ) (r : Reading) (area : List ℕ) 
   pub only : told (r .answer) .number ≡ 0 → Accepts R o
   -- a refusal leaves the area, and the draft is empty; its number is one of 1 to 9, or 10
   pub refused : 1 ≤ told (r .answer) .number →
-      (area ≡ old) × (r .draft ≡ emptyOf 0) × T (readNumber R (told (r .answer) .number))
+      (area ≡ old) × (r .draft ≡ emptyOf (R .edition) 0) × T (readNumber R (told (r .answer) .number))
+
+-- the same, by the edition e and the way w (document 02, Q-5)
+pub record ReadsBy (e w : ℕ) (o old : List ℕ) (r : Reading) (area : List ℕ) : Type 0 where
+  -- by known numbers all that is said of a read by their book
+  pub by-book : T (known e w) → Reads (rulesOf (bookOf e w)) o old r area
+  -- number, place, parameter and size tell the answer, by unknown numbers too
+  pub clear : Clear (r .answer)
+  -- 16 at 0 exactly where one is unknown: it comes before all others
+  pub sixteen : (p b : ℕ) → (told (r .answer) ≡ refusal 16 p b) ↔ ((p ≡ 0) × (b ≡ 0) × (T (known e w) → ⊥))
+  pub unknown : (T (known e w) → ⊥) → told (r .answer) ≡ refusal 16 0 0
+  -- with it the area stays, the draft is empty, and the edition of answer and draft is 0
+  pub leaves : (T (known e w) → ⊥) → (area ≡ old) × (r .draft ≡ emptyOf 0 0) × (r .edition ≡ 0)
+  -- every other answer names the edition, and so does its draft, the empty one too
+  pub names : T (known e w) → (r .edition ≡ e) × (r .draft .edition ≡ e)

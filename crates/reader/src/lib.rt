@@ -20,7 +20,7 @@ ghost use Rattle.message.specs.Parameters.{parametersIn, messageIn};
 ghost use Rattle.draft.specs.Meaning.{kindOf, numberOf, digitsAt, meant};
 ghost use Rattle.rules.specs.Laying.{laid, laidAt};
 ghost use Rattle.draft.specs.Packing.{valueAt, draftOf, textsOf};
-ghost use Rattle.reader.specs.Read.{hasText, textLong, textSize, textAt, takenAt, roomFor, fittingOf, packOf, areaAfter, readOf};
+ghost use Rattle.reader.specs.Read.{hasText, textLong, textSize, textAt, takenAt, roomFor, fittingOf, packOf, areaAfter, readOf, readIn, areaIn};
 
 // What becomes of the octets: how many text octets were laid down; or a number from 1 to 10 with its place.
 pub enum Packed {
@@ -34,8 +34,9 @@ pub enum Fitting {
     Refused { fault: Fault },
 }
 
-// What a read answers; with a refusal the draft is the empty one.
+// What a read answers, and the edition that it names, which is the draft's; with a refusal the draft is the empty one.
 pub struct Reading {
+    pub edition: u8,
     pub answer: Packed,
     pub draft: Draft,
 }
@@ -335,6 +336,7 @@ fn draft_of(book: Book, octets: &[u8]) -> Draft
     let none = draft::no_entry();
     let mut entries = [none; MOST];
     let kind = message::octet(octets, 0);
+    let edition = rules::edition_of(book);
     let mut at: usize = 2;
     let mut used: usize = 0;
     let mut count: usize = 0;
@@ -350,6 +352,7 @@ fn draft_of(book: Book, octets: &[u8]) -> Draft
             Taken::End => {
                 return Draft {
                     kind,
+                    edition,
                     count,
                     entries,
                 };
@@ -358,25 +361,47 @@ fn draft_of(book: Book, octets: &[u8]) -> Draft
     }
     Draft {
         kind,
+        edition,
         count,
         entries,
     }
 }
 
-// A whole read: the draft of the message, or one of 1 to 10 with its place.
-pub fn read(book: Book, octets: &[u8], area: &mut [u8]) -> Reading
+// A whole read by a book: the draft of the message, or one of 1 to 10 with its place.
+fn read_by(book: Book, octets: &[u8], area: &mut [u8]) -> Reading
     ensures answer { λ r. ⌜ r ≡ readOf (rulesOf book) (now (octets .entry)) (length (now (area .entry))) ⌝ }
     ensures area { λ r. ⌜ now (area .exit) ≡ areaAfter (rulesOf book) (now (octets .entry)) (now (area .entry)) ⌝ }
 {
+    let edition = rules::edition_of(book);
     let answer = pack(book, octets, area);
     match answer {
         Packed::Texts { octets: _ } => Reading {
+            edition,
             answer,
             draft: draft_of(book, octets),
         },
         Packed::Refused { fault: _ } => Reading {
+            edition,
             answer,
-            draft: draft::empty(0),
+            draft: draft::empty(edition, 0),
         },
+    }
+}
+
+// A whole read: 16 where edition or way is unknown, else as their book says.
+pub fn read(edition: u8, way: u8, octets: &[u8], area: &mut [u8]) -> Reading
+    ensures answer { λ r. ⌜ r ≡ readIn edition way (now (octets .entry)) (length (now (area .entry))) ⌝ }
+    ensures area { λ r. ⌜ now (area .exit) ≡ areaIn edition way (now (octets .entry)) (now (area .entry)) ⌝ }
+{
+    if rules::is_known(edition, way) {
+        read_by(rules::book_of(edition, way), octets, area)
+    } else {
+        Reading {
+            edition: 0,
+            answer: Packed::Refused {
+                fault: rules::noted(16, 0),
+            },
+            draft: draft::empty(0, 0),
+        }
     }
 }

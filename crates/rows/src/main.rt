@@ -1,8 +1,9 @@
 // Every row of document 01's table and both sides of every limit: reads octets from standard input, each case behind
 // its length in two octets, and prints one line for each: the octets, their listing, what a new listener answers to
 // them, and the verdict. What it must print was written by the second reader, the table's rows by hand (tools/replay).
-// The two upper bits of a length say by which book a case is heard and judged; a listing is of the present edition, so
-// the other books' cases have none, and what is said of them stands by hand too.
+// Before the length stand the numbers of the edition and the way by which a case is heard and judged; a listing is of
+// the present edition, types without a row carried, so the others' cases have none. Of unknown numbers only the
+// listener is asked: it gives 16.
 use libc::STDIN_FILENO;
 use libc::STDOUT_FILENO;
 use listener::Answer;
@@ -54,31 +55,19 @@ fn say_listing(octets: &[u8]) {
     say(&lines[..length]);
 }
 
-// The book of a number; one of none is read as 0, which the exports go by.
-fn book_of(number: u8) -> Book {
-    if number == 1 {
-        Book::PresentStrict
-    } else if number == 2 {
-        Book::OldLenient
-    } else if number == 3 {
-        Book::OldStrict
-    } else {
-        Book::PresentLenient
-    }
-}
-
-// The listing, or the number of another book.
-fn say_title(number: u8, octets: &[u8]) {
-    if number == 0 {
+// The listing, or the edition and the way that have none.
+fn say_title(edition: u8, way: u8, octets: &[u8]) {
+    if edition == rules::PRESENT && way == rules::LENIENT {
         say_listing(octets);
     } else {
-        say_number(b"book ", number as u64);
+        say_number(b"edition ", edition as u64);
+        say_number(b" way ", way as u64);
         say(b" ");
     }
 }
 
-fn say_heard(book: Book, octets: &[u8]) {
-    let heard = listener::listen(listener::reset(book), octets);
+fn say_heard(edition: u8, way: u8, octets: &[u8]) {
+    let heard = listener::listen(listener::reset(edition, way), octets);
     let answer = heard.answer;
     match answer {
         Answer::Waits => say(b"| L waits"),
@@ -90,6 +79,7 @@ fn say_heard(book: Book, octets: &[u8]) {
         }
     }
     say_number(b", took ", heard.taken as u64);
+    say_number(b", edition ", heard.edition as u64);
 }
 
 fn say_verdict(book: Book, octets: &[u8]) {
@@ -102,16 +92,17 @@ fn say_verdict(book: Book, octets: &[u8]) {
             say_number(b" in ", fault.parameter as u64);
         }
     }
-    say(b"\n");
 }
 
-fn show(number: u8, octets: &[u8]) {
-    let book = book_of(number);
+fn show(edition: u8, way: u8, octets: &[u8]) {
     say_octets(octets);
     say(b"| ");
-    say_title(number, octets);
-    say_heard(book, octets);
-    say_verdict(book, octets);
+    say_title(edition, way, octets);
+    say_heard(edition, way, octets);
+    if rules::is_known(edition, way) {
+        say_verdict(rules::book_of(edition, way), octets);
+    }
+    say(b"\n");
 }
 
 fn fill(octets: &mut [u8], n: usize) -> usize
@@ -127,18 +118,19 @@ fn number(high: u8, low: u8) -> usize {
 
 // Says whether there was one more.
 fn next() -> bool {
-    let mut size = [0u8; 2];
-    if io::read_full(STDIN_FILENO, &mut size) < 2 {
+    let mut head = [0u8; 4];
+    if io::read_full(STDIN_FILENO, &mut head) < 4 {
         return false;
     }
-    let book = size[0] / 64;
-    let n = number(size[0] % 64, size[1]);
+    let edition = head[0];
+    let way = head[1];
+    let n = number(head[2], head[3]);
     if 300 < n {
         return false;
     }
     let mut octets = [0u8; 300];
     let got = fill(&mut octets, n);
-    show(book, &octets[..got]);
+    show(edition, way, &octets[..got]);
     true
 }
 

@@ -6,6 +6,7 @@ pub mod Octets
 pub mod Pairwise
 pub mod Laying
 pub mod Codes
+pub mod Editions
 pub mod Counting
 pub mod Endings
 pub mod ClassLaw

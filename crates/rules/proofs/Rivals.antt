@@ -20,7 +20,7 @@ use Rattle.rules.specs.declared.Book.the-variants.{PresentStrict, Presen
 use Rattle.rules.proofs.Table.{tabled, at}
 
 -- two rules that make the same table agree on all of its entries
-same-table : (f g : ℕ → ℕ) (n k : ℕ) → tabled f 0 n ≡ tabled g 0 n → k < n → f k ≡ g k
+pub same-table : (f g : ℕ → ℕ) (n k : ℕ) → tabled f 0 n ≡ tabled g 0 n → k < n → f k ≡ g k
 same-table f g n k e h = sym (at f n k h) ∙ ap (λ (l : List ℕ). getD l k 0) e ∙ at g n k h
 
 -- a type that is not a row's has the class that the other rows give it

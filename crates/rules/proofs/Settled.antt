@@ -19,6 +19,12 @@ use Rattle.rules.proofs.content_ok.Reads as content-ok
 use Rattle.rules.proofs.remember.Reads as remember
 use Rattle.rules.proofs.same_octets.Reads as same-octets
 use Rattle.rules.proofs.first_wrong.Reads as first-wrong
+use Rattle.rules.proofs.code_in.Reads as code-in
+use Rattle.rules.proofs.named_by.Reads as named-by
+use Rattle.rules.proofs.edition_of.Reads as edition-of
+use Rattle.rules.proofs.book_of.Reads as book-of
+use Rattle.rules.proofs.is_known.Reads as is-known
+use Rattle.rules.proofs.is_edition.Reads as is-edition
 
 pub class-coded-settled : (κs : _) (a : _) (r r' : _) (s s' : _) → class-coded.Post κs a r s →
     class-coded.Post κs a r' s' → r ≡ r'
@@ -88,3 +94,27 @@ noted-settled κs a r r' s s' p q = p ∙ sym q
 pub reference-of-settled : (κs : _) (a : _) (r r' : _) (s s' : _) → reference-of.Post κs a r s →
     reference-of.Post κs a r' s' → r ≡ r'
 reference-of-settled κs a r r' s s' p q = p ∙ sym q
+
+pub is-edition-settled : (κs : _) (a : _) (r r' : _) (s s' : _) → is-edition.Post κs a r s → is-edition.Post κs a r' s' →
+    r ≡ r'
+is-edition-settled κs a r r' s s' p q = p ∙ sym q
+
+pub is-known-settled : (κs : _) (a : _) (r r' : _) (s s' : _) → is-known.Post κs a r s → is-known.Post κs a r' s' →
+    r ≡ r'
+is-known-settled κs a r r' s s' p q = p ∙ sym q
+
+pub book-of-settled : (κs : _) (a : _) (r r' : _) (s s' : _) → book-of.Post κs a r s → book-of.Post κs a r' s' →
+    r ≡ r'
+book-of-settled κs a r r' s s' p q = p ∙ sym q
+
+pub edition-of-settled : (κs : _) (a : _) (r r' : _) (s s' : _) → edition-of.Post κs a r s → edition-of.Post κs a r' s' →
+    r ≡ r'
+edition-of-settled κs a r r' s s' p q = p ∙ sym q
+
+pub named-by-settled : (κs : _) (a : _) (r r' : _) (s s' : _) → named-by.Post κs a r s → named-by.Post κs a r' s' →
+    r ≡ r'
+named-by-settled κs a r r' s s' p q = p ∙ sym q
+
+pub code-in-settled : (κs : _) (a : _) (r r' : _) (s s' : _) → code-in.Post κs a r s → code-in.Post κs a r' s' →
+    r ≡ r'
+code-in-settled κs a r r' s s' p q = p ∙ sym q

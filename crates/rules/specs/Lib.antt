@@ -11,6 +11,7 @@ pub mod Endings
 pub mod ContentJudge
 pub mod OctetRows
 pub mod Codes
+pub mod Editions
 pub mod Refusals
 pub mod Machine
 pub mod Judge

@@ -30,8 +30,10 @@ pub record Row : Type 0 where
   pub rival : ℕ
   pub key : List ℕ
 
--- the types that have a row; the class of all others
+-- the edition's number (document 02, Q-5: 0 the present one, 1 the old one), the types that have a row; the class of
+-- all others
 pub record Rules : Type 0 where
+  pub edition : ℕ
   pub rows : List Row
   pub others : Class
 
@@ -226,10 +228,10 @@ rowsOld =
 
 -- ---- the sets of rules: all other types are carried, or in the strict way refused (document 02, Q-11)
 unfoldable pub rulesOf : Book → Rules
-rulesOf PresentStrict = record { rows = rows01; others = Unlisted }
-rulesOf PresentLenient = record { rows = rows01; others = Carried }
-rulesOf OldStrict = record { rows = rowsOld; others = Unlisted }
-rulesOf OldLenient = record { rows = rowsOld; others = Carried }
+rulesOf PresentStrict = record { edition = 0; rows = rows01; others = Unlisted }
+rulesOf PresentLenient = record { edition = 0; rows = rows01; others = Carried }
+rulesOf OldStrict = record { edition = 1; rows = rowsOld; others = Unlisted }
+rulesOf OldLenient = record { edition = 1; rows = rowsOld; others = Carried }
 
 -- the books of the old edition
 unfoldable pub oldBook : Book → Bool

@@ -12,12 +12,14 @@ ghost use Rattle.rules.specs.Pairwise.{sameOctets};
 ghost use Rattle.rules.specs.Octets.{referenceOf};
 ghost use Rattle.rules.specs.Contents.{within, inSet, days, monthOf};
 ghost use Rattle.rules.specs.Table.{rulesOf, oldBook, listed, classOf, classFault, rivalOf, formOf, whole, lengthFits, oldUserSet, timeRanges, absentSet, lampSet, identitySet, callTypeSet, forwardedSet, userSet};
-ghost use Rattle.rules.specs.Codes.{classCode, classCoded, laterClass, strictClass, ranges};
+ghost use Rattle.rules.specs.Codes.{classCode, classCoded, laterClass, strictClass, oldCodes, codeIn, ranges};
 ghost use Rattle.rules.specs.declared.Book.the-variants as book;
 ghost use Rattle.rules.specs.ContentJudge.{tensBy, onesBy, dayBy, tensFit, onesFit, calendarKeep, okAt, pairStands, goodFront};
 ghost use Rattle.rules.specs.ContentJudge as content;
 ghost use Rattle.rules.specs.OctetRows.{admitted, calendarBy, okBy, askedKind, kindFront, ContentKind, Rowed};
 ghost use Rattle.rules.specs.OctetRows as rows;
+ghost use Rattle.rules.specs.Editions.{known, bookOf, namedBy};
+ghost use Rattle.rules.specs.Editions as editions;
 ghost use Rattle.rules.specs.Message.{messageKind};
 ghost use Rattle.rules.specs.Judge.{roomFits, rangePossible};
 ghost use Rattle.rules.specs.Judge as judge;
@@ -39,7 +41,13 @@ const LAST_HOUR: u8 = 23;
 const LAST_MINUTE: u8 = 59;
 
 // The classes of the present edition, unlisted types carried, have the codes up to this one.
-pub const LAST_PRESENT: u8 = 10;
+const LAST_PRESENT: u8 = 10;
+
+// The classes of all editions, unlisted types carried, have the codes up to this one.
+const LAST_LISTED: u8 = 14;
+
+// The first of the classes that the old edition alone has.
+const FIRST_OLD: u8 = 11;
 
 // The code of a date.
 const DATE: u8 = 1;
@@ -83,6 +91,16 @@ pub enum Book {
     OldStrict,
     OldLenient,
 }
+
+// The numbers of the editions, the present one and the old one, and of the ways (document 02, Q-5 and Q-11): types
+// without a row are refused by the strict way, and carried by the lenient one.
+pub const PRESENT: u8 = 0;
+
+pub const OLD: u8 = 1;
+
+pub const STRICT: u8 = 0;
+
+pub const LENIENT: u8 = 1;
 
 // The kinds of value that a draft holds (document 01, Drafts): the numbers of a date, a code, a state with a
 // reference, a text, a carried text.
@@ -144,6 +162,57 @@ pub fn noted(number: u8, place: u16) -> Fault
         number,
         place,
         parameter: 0,
+    }
+}
+
+// Is there an edition of this number?
+pub fn is_edition(edition: u8) -> bool
+    ensures { λ r. ⌜ r ≡ editions.edition edition ⌝ }
+{
+    edition <= OLD
+}
+
+// Are there an edition and a way of these numbers? Where there are not, the answer is 16 (document 02, Q-5 and Q-11).
+pub fn is_known(edition: u8, way: u8) -> bool
+    ensures { λ r. ⌜ r ≡ known edition way ⌝ }
+{
+    if is_edition(edition) {
+        way <= LENIENT
+    } else {
+        false
+    }
+}
+
+// The book of an edition and a way. Ask `is_known` first: where one is unknown it is a strict book, by which nothing is
+// judged but the range of a listener.
+pub fn book_of(edition: u8, way: u8) -> Book
+    ensures { λ r. ⌜ r ≡ bookOf edition way ⌝ }
+{
+    if way == LENIENT {
+        if edition == PRESENT {
+            Book::PresentLenient
+        } else if edition == OLD {
+            Book::OldLenient
+        } else {
+            Book::PresentStrict
+        }
+    } else if edition == OLD {
+        Book::OldStrict
+    } else {
+        Book::PresentStrict
+    }
+}
+
+// The edition that an answer names which has this number, 0 where it is none: with 16 and 17 it names 0.
+pub fn named_by(number: u8, edition: u8) -> u8
+    ensures { λ r. ⌜ r ≡ namedBy number edition ⌝ }
+{
+    if number == 16 {
+        0
+    } else if number == 17 {
+        0
+    } else {
+        edition
     }
 }
 
@@ -214,6 +283,35 @@ pub fn code_of(c: Class) -> u8
         Class::OldForwarded => 13,
         Class::OldUser => 14,
         Class::Unlisted => 15,
+    }
+}
+
+// Is it the code of a class that the old edition has: carried, a date, absent, a lamp, or one of its own?
+fn old_code(code: u8) -> bool
+    ensures { λ r. ⌜ r ≡ inSet oldCodes code ⌝ }
+{
+    if among(0, 1, code) {
+        true
+    } else if among(3, 3, code) {
+        true
+    } else if among(5, 5, code) {
+        true
+    } else {
+        among(FIRST_OLD, LAST_LISTED, code)
+    }
+}
+
+// Is it the code of a class that an edition has, types without a row carried? Of an unknown edition, of one that any
+// edition has.
+pub fn code_in(edition: u8, code: u8) -> bool
+    ensures { λ r. ⌜ r ≡ codeIn edition code ⌝ }
+{
+    if edition == PRESENT {
+        code <= LAST_PRESENT
+    } else if edition == OLD {
+        old_code(code)
+    } else {
+        code <= LAST_LISTED
     }
 }
 
@@ -329,6 +427,18 @@ fn is_old(b: Book) -> bool
         Book::PresentLenient => false,
         Book::OldStrict => true,
         Book::OldLenient => true,
+    }
+}
+
+// The number of a book's edition.
+pub fn edition_of(b: Book) -> u8
+    ensures { λ r. ⌜ r ≡ rulesOf b .edition ⌝ }
+{
+    match b {
+        Book::PresentStrict => PRESENT,
+        Book::PresentLenient => PRESENT,
+        Book::OldStrict => OLD,
+        Book::OldLenient => OLD,
     }
 }
 

@@ -7,3 +7,4 @@ pub mod One
 pub mod Steps
 pub mod Begins
 pub mod Walks
+pub mod Editions

@@ -1,46 +1,45 @@
 -- What the functions over a walker promise, each in one equation (document 01: a walker holding the message slice and
--- a place).
+-- a place; document 02, Q-5: and its edition and its way).
 -- Assumes nothing.
 use Prim.Native.Nat.{ℕ, zero, suc}
 use mathlib.Core.Path.{_≡_, _∙_, ap}
 use mathlib.Core.List.{List}
 use denote.Ref.{RefT, now}
-use Rattle.rules.specs.Table.{rulesOf}
-use Rattle.rules.specs.declared.Book.the-variants.{PresentLenient}
 use Rattle.walker.specs.declared.Walker.{Walker}
-use Rattle.walker.specs.declared.Step.{Step}
-use Rattle.walker.specs.Steps.{stepOf, nextPlace, placeAt}
+use Rattle.walker.specs.declared.Stepped.{Stepped}
+use Rattle.walker.specs.Steps.{stepIn, nextPlace, placeIn}
 
--- a new walker holds the message lent and the place of its first parameter
-abbrev pub begun : RefT (List ℕ) → Walker
-begun s = record { message = s; place = 2 }
+-- a new walker holds the message lent, the place of its first parameter, and the edition and the way that it is told
+abbrev pub begun : ℕ → ℕ → RefT (List ℕ) → Walker
+begun e w s = record { message = s; place = 2; edition = e; way = w }
 
--- what stands at a walker's place of its message
-abbrev pub seen : Walker → Step
-seen w = stepOf (rulesOf PresentLenient) (now (w .message)) (w .place)
+-- what stands at a walker's place of its message, by its edition and its way
+abbrev pub seen : Walker → Stepped
+seen v = stepIn (v .edition) (v .way) (now (v .message)) (v .place)
 
--- a walker moved on holds the same message and the place of the next call
+-- a walker moved on holds the same message, the place of the next call, and the same edition and way
 abbrev pub advanced : Walker → Walker
-advanced w = record { message = w .message; place = nextPlace (w .place) (seen w) }
+advanced v =
+    record { message = v .message; place = nextPlace (v .place) (seen v .step); edition = v .edition; way = v .way }
 
 -- the promises of `new`, `look` and `next`
-abbrev pub Begun : RefT (List ℕ) → Walker → Type 0
-Begun s r = r ≡ begun s
+abbrev pub Begun : ℕ → ℕ → RefT (List ℕ) → Walker → Type 0
+Begun e w s r = r ≡ begun e w s
 
-abbrev pub Seen : Walker → Step → Type 0
-Seen w r = r ≡ seen w
+abbrev pub Seen : Walker → Stepped → Type 0
+Seen v r = r ≡ seen v
 
 abbrev pub Moved : Walker → Walker → Type 0
-Moved w r = r ≡ advanced w
+Moved v r = r ≡ advanced v
 
--- a walker on the message s that so many calls have moved on
-unfoldable pub Reached : RefT (List ℕ) → ℕ → Walker → Type 0
-Reached s zero w = Begun s w
-Reached s (suc calls) w = (v : Walker) × Reached s calls v × Moved v w
+-- a walker on the message s, told an edition and a way, that so many calls have moved on
+unfoldable pub Reached : ℕ → ℕ → RefT (List ℕ) → ℕ → Walker → Type 0
+Reached e w s zero v = Begun e w s v
+Reached e w s (suc calls) v = (u : Walker) × Reached e w s calls u × Moved u v
 
--- it holds s, and the place of the next call
-pub reached : (s : RefT (List ℕ)) (calls : ℕ) (w : Walker) → Reached s calls w →
-    w ≡ record { message = s; place = placeAt (rulesOf PresentLenient) (now s) calls }
-unfolding Reached placeAt
-reached s zero w e = e
-reached s (suc calls) w e = e .2 ∙ ap advanced (reached s calls (e .0) (e .1))
+-- it holds s, the place of the next call, and the edition and the way
+pub reached : (e w : ℕ) (s : RefT (List ℕ)) (calls : ℕ) (v : Walker) → Reached e w s calls v →
+    v ≡ record { message = s; place = placeIn e w (now s) calls; edition = e; way = w }
+unfolding Reached placeIn
+reached e w s zero v h = h
+reached e w s (suc calls) v h = h .2 ∙ ap advanced (reached e w s calls (h .0) (h .1))

@@ -4,7 +4,9 @@ use Prim.Native.Nat.{ℕ, zero, suc, _+_}
 use mathlib.Core.List.{List}
 use Rattle.rules.specs.Message.{most}
 use Rattle.rules.specs.Tests.{_=?_, pick}
-use Rattle.rules.specs.Table.{Rules}
+use Rattle.rules.specs.Table.{Rules, rulesOf}
+use Rattle.rules.specs.Editions.{known, bookOf}
+use Rattle.rules.specs.Refusals.{noted}
 use Rattle.message.specs.declared.Verdict.{Verdict}
 use Rattle.message.specs.declared.Verdict.the-variants.{Accepted, Declined}
 use Rattle.message.specs.declared.Found.{Found}
@@ -13,6 +15,7 @@ use Rattle.message.specs.Verdict.{verdictOf}
 use Rattle.message.specs.Parts.{parameterAt}
 use Rattle.walker.specs.declared.Step.{Step}
 use Rattle.walker.specs.declared.Step.the-variants.{Parameter, NoMore, Refused}
+use Rattle.walker.specs.declared.Stepped.{Stepped}
 
 -- the walk stands at a place and finds a parameter there: it is given where that is the place asked for, else the
 -- walk goes on behind it
@@ -36,6 +39,14 @@ stepUnder (Declined f) o at = Refused f
 unfoldable pub stepOf : Rules → List ℕ → ℕ → Step
 stepOf R o at = stepUnder (verdictOf R o) o at
 
+-- the same by the numbers of an edition and a way: what their book gives, and the edition; 16 at 0 where one of them is
+-- unknown, whatever the octets and the place
+unfoldable pub stepIn : ℕ → ℕ → List ℕ → ℕ → Stepped
+stepIn e w o at =
+    pick (known e w)
+    (record { edition = e; step = stepOf (rulesOf (bookOf e w)) o at })
+    (record { edition = 0; step = Refused (noted 16 0) })
+
 -- the place of the next call: behind the parameter given, the same place where none is given
 unfoldable pub nextPlace : ℕ → Step → ℕ
 nextPlace at (Parameter k start n next) = next
@@ -46,3 +57,8 @@ nextPlace at (Refused f) = at
 unfoldable pub placeAt : Rules → List ℕ → ℕ → ℕ
 placeAt R o zero = 2
 placeAt R o (suc calls) = nextPlace (placeAt R o calls) (stepOf R o (placeAt R o calls))
+
+-- the same by the numbers of an edition and a way
+unfoldable pub placeIn : ℕ → ℕ → List ℕ → ℕ → ℕ
+placeIn e w o zero = 2
+placeIn e w o (suc calls) = nextPlace (placeIn e w o calls) (stepIn e w o (placeIn e w o calls) .step)

@@ -1,5 +1,5 @@
 -- What the walker gives, over the written rules (document 01, Drafts): each parameter where it begins, none anywhere
--- else, refusals exactly as the whole read's.
+-- else, refusals exactly as the whole read's; by a book, and by an edition and a way (document 02, Q-5).
 -- Assumes nothing.
 use Prim.Native.Nat.{ℕ, _+_, _≤_, _<_}
 use mathlib.Core.Path.{_≡_}
@@ -7,13 +7,15 @@ use mathlib.Core.Logic.{_⊎_, _↔_}
 use mathlib.Core.List.{List, _∷_, _++_}
 use lib.ListN.{length, take, drop}
 use lib.Dec.{T}
-use Rattle.rules.specs.Table.{Rules}
+use Rattle.rules.specs.Table.{Rules, rulesOf}
+use Rattle.rules.specs.Editions.{known, bookOf}
 use Rattle.message.specs.Told as message
 use Rattle.rules.specs.Message.{Message, Parameter, body, octets, LegalMessage, Accepts}
 use Rattle.rules.specs.Language.{calls}
 use Rattle.message.specs.declared.Verdict.{Verdict}
 use Rattle.message.specs.Judges.{Judges, verdictNumber}
 use Rattle.walker.specs.declared.Step.{Step}
+use Rattle.walker.specs.declared.Stepped.{Stepped}
 use Rattle.walker.specs.Told.{told, nothing, refusal, Clear}
 use Rattle.walker.specs.Steps.{nextPlace}
 
@@ -69,3 +71,21 @@ pub record Walks (R : Rules) (o : List ℕ) (at : ℕ) (r : Step) : Type 0 where
   -- the part lies inside the octets
   pub inside : told r .start + told r .size ≤ length o
   pub stands : (m : Message) → LegalMessage R m → octets m ≡ o → StepAt m at r
+
+-- by the edition e and the way w, the octets o and a place went in, and r came back
+pub record WalksBy (e w : ℕ) (o : List ℕ) (at : ℕ) (r : Stepped) : Type 0 where
+  -- by known numbers all that is said of their book
+  pub by-book : T (known e w) → Walks (rulesOf (bookOf e w)) o at (r .step)
+  -- what is told, and the place of the next call, tell it, by unknown numbers too
+  pub clear : Clear (r .step)
+  -- 16 at 0 exactly where the edition or the way is unknown, whatever the octets and the place
+  pub sixteen : (p b : ℕ) → (told (r .step) ≡ refusal 16 p b) ↔ ((p ≡ 0) × (b ≡ 0) × (T (known e w) → ⊥))
+  -- by unknown numbers nothing else
+  pub unknown : (T (known e w) → ⊥) → told (r .step) .number ≡ 16
+  -- where no parameter is given, the next call's place is the same, by unknown numbers too
+  pub stays : told (r .step) .more ≡ 0 → nextPlace at (r .step) ≡ at
+  -- the part lies inside the octets, by unknown numbers too
+  pub inside : told (r .step) .start + told (r .step) .size ≤ length o
+  -- every answer names its edition, but with 16 none; 17 is never given
+  pub names : (told (r .step) .number ≡ 16 → ⊥) → r .edition ≡ e
+  pub names-none : told (r .step) .number ≡ 16 → r .edition ≡ 0

@@ -1,10 +1,10 @@
-// Document 01's messages, and dates on both sides of document 02's Q-2, written from drafts and printed as octets in
-// hex, a line each; a refusal as its number and place.
+// Document 01's messages, dates on both sides of document 02's Q-2 and drafts of the old and of an unknown edition
+// (Q-5), written from drafts and printed as octets in hex, a line each; a refusal as its number and place; with each
+// the edition that the answer names.
 use draft::Draft;
 use draft::Entry;
 use draft::Value;
 use libc::STDOUT_FILENO;
-use rules::Book;
 use rules::Fault;
 use writer::Written;
 
@@ -23,18 +23,24 @@ fn print_octets(s: &[u8]) {
         print_octet(s[i]);
         i += 1;
     }
-    io::write_all(STDOUT_FILENO, b"\n");
 }
 
 fn print_fault(f: Fault) {
     io::print_decimal(STDOUT_FILENO, f.number as u64);
     io::write_all(STDOUT_FILENO, b" at ");
     io::print_decimal(STDOUT_FILENO, f.place as u64);
+    io::write_all(STDOUT_FILENO, b" ");
+}
+
+fn print_edition(edition: u8) {
+    io::write_all(STDOUT_FILENO, b"edition ");
+    io::print_decimal(STDOUT_FILENO, edition as u64);
     io::write_all(STDOUT_FILENO, b"\n");
 }
 
 fn show_in(out: &mut [u8], d: Draft, texts: &[u8]) {
-    let answer = writer::write(Book::PresentLenient, d, texts, out);
+    let writing = writer::write(rules::LENIENT, d, texts, out);
+    let answer = writing.answer;
     match answer {
         Written::Message { size } => {
             let n = size as usize;
@@ -44,6 +50,7 @@ fn show_in(out: &mut [u8], d: Draft, texts: &[u8]) {
         }
         Written::Declined { fault } => print_fault(fault),
     }
+    print_edition(writing.edition);
 }
 
 fn show(d: Draft, texts: &[u8]) {
@@ -51,11 +58,19 @@ fn show(d: Draft, texts: &[u8]) {
     show_in(&mut out, d, texts);
 }
 
-fn one(kind: u8, a: Entry) -> Draft {
-    let mut d = draft::empty(kind);
+fn one_by(edition: u8, kind: u8, a: Entry) -> Draft {
+    let mut d = draft::empty(edition, kind);
     d.entries[0] = a;
     d.count = 1;
     d
+}
+
+fn one(kind: u8, a: Entry) -> Draft {
+    one_by(rules::PRESENT, kind, a)
+}
+
+fn old(kind: u8, a: Entry) -> Draft {
+    one_by(rules::OLD, kind, a)
 }
 
 fn two(kind: u8, a: Entry, b: Entry) -> Draft {
@@ -69,6 +84,13 @@ fn code(kind: u8, x: u8) -> Entry {
     Entry {
         kind,
         value: Value::Code(x),
+    }
+}
+
+fn carried(kind: u8, start: usize, length: usize) -> Entry {
+    Entry {
+        kind,
+        value: Value::Carried { start, length },
     }
 }
 
@@ -103,6 +125,28 @@ fn midnight(month: u8, day: u8) -> Entry {
     }
 }
 
+// Drafts of the old edition on both sides of its limits, beside one of the present edition.
+fn show_old() {
+    let digits = b"4091240912409124091";
+    show(old(0x82, code(0x0B, 0xFF)), digits);
+    show(old(0x80, caller(0, 18)), digits);
+    show(old(0x80, caller(0, 19)), digits);
+    show(one(0x80, caller(0, 19)), digits);
+    show(old(0x80, code(0x16, 0x03)), digits);
+    show(old(0x80, code(0x16, 0x01)), digits);
+    show(old(0x82, code(0x13, 2)), digits);
+    show(old(0x82, carried(0x13, 0, 5)), digits);
+    show(old(0x80, midnight(2, 30)), digits);
+}
+
+// An unknown edition comes before everything that is wrong with a draft.
+fn show_unknown() {
+    let none = b"";
+    show(one_by(2, 0x82, code(0x13, 2)), none);
+    show(one_by(255, 0x81, code(0x13, 2)), none);
+    show(draft::empty(2, 0x82), none);
+}
+
 fn main() {
     let texts = b"740912";
     show(two(0x80, time(), caller(1, 5)), texts);
@@ -111,10 +155,12 @@ fn main() {
     show(two(0x82, code(0x13, 2), code(0x13, 5)), texts);
     show(two(0x80, code(0x04, 0x50), caller(0, 1)), texts);
     show(one(0x81, code(0x13, 2)), texts);
-    show(draft::empty(0x82), texts);
+    show(draft::empty(rules::PRESENT, 0x82), texts);
     show(two(0x82, code(0x13, 2), code(0x0B, 0x80)), texts);
     show(one(0x80, caller(2, 5)), texts);
     show(two(0x82, code(0x13, 2), midnight(4, 31)), texts);
     show(one(0x80, midnight(2, 29)), texts);
     show(one(0x80, midnight(2, 30)), texts);
+    show_old();
+    show_unknown();
 }

@@ -11,15 +11,17 @@ use lib.ListN.{length, take-append-drop}
 use lib.Dec.{T}
 use Rattle.rules.specs.Tests.{_=?_, _≤?_}
 use Rattle.rules.proofs.Tests.{decide, le-of, eq-of, of-eq, not-zero}
-use Rattle.rules.specs.Table.{Rules}
+use Rattle.rules.specs.Table.{Rules, rulesOf}
+use Rattle.rules.specs.Editions.{known, bookOf}
 use Rattle.rules.specs.Message.{messageKind, most}
 use Rattle.draft.specs.declared.Draft.{Draft}
+use Rattle.writer.specs.declared.Writing.{Writing}
 use Rattle.writer.specs.declared.Written.{Written}
 use Rattle.writer.specs.Told.{told, success}
 use Rattle.writer.proofs.Told.{unwritten-is, message-is}
 use Rattle.writer.specs.Writing.{legalEntry}
 use Rattle.writer.specs.Reasons.{Makes, entryAt, lengthOf, AllMake, FirstBad, Asked}
-use Rattle.writer.specs.Reasons.{Answers, Writes, Went, kind-is-none, no-entries, many-entries, bad-entry}
+use Rattle.writer.specs.Reasons.{Answers, Writes, WritesBy, Went, kind-is-none, no-entries, many-entries, bad-entry}
 use Rattle.writer.specs.Reasons.{too-long, too-tight, fits}
 use Rattle.writer.proofs.Legal.{at-most, makes-iff}
 
@@ -124,3 +126,25 @@ module _ (R : Rules) (d : Draft) (texts : List ℕ) where
       go (inr l) d =
           A .keeps (subst (λ (x : Written). 1 ≤ told x .number) (sym is) l)
           ∙ sym (B .keeps (subst (λ (x : Written). 1 ≤ told x .number) (sym (d ∙ is)) l))
+
+-- by the draft's edition and any way, one answer, one edition named and one output
+pub writes-by-one : (w : ℕ) (d : Draft) (texts old : List ℕ) (r : Writing) (new : List ℕ) (s : Writing)
+    (after : List ℕ) → WritesBy w d texts old r new → WritesBy w d texts old s after → (r ≡ s) × (new ≡ after)
+writes-by-one w d texts old r new s after A B = go (decide (known (d .edition) w))
+  where
+    go : Decided (known (d .edition) w) → (r ≡ s) × (new ≡ after)
+    go (inl k) =
+        let x =
+        writes-one (rulesOf (bookOf (d .edition) w)) d texts old (r .answer) new (s .answer) after (A .by-book k)
+        (B .by-book k) in
+        let answer = x .0 in
+        let edition = A .names k ∙ sym (B .names k) in
+        ((λ i. record { edition = edition i; answer = answer i }), x .1)
+    go (inr n) =
+        let x = A .leaves n in
+        let y = B .leaves n in
+        let answer =
+        unwritten-is _ 16 0 (omega arith) (A .sixteen 0 .1 (refl, n))
+        ∙ sym (unwritten-is _ 16 0 (omega arith) (B .sixteen 0 .1 (refl, n))) in
+        let edition = x .1 ∙ sym (y .1) in
+        ((λ i. record { edition = edition i; answer = answer i }), x .0 ∙ sym (y .0))

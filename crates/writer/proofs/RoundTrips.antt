@@ -8,6 +8,7 @@ use mathlib.Core.List.{List, [], _∷_, _++_}
 use native.Mathlib.Omega.{arith}
 use lib.ListN.{length}
 use lib.Dec.{T}
+use Rattle.rules.specs.Editions.{edition}
 use Rattle.rules.specs.Tests.{_≤?_, _=?_, pick, every}
 use Rattle.rules.proofs.Tests.{both, join, clash}
 use Rattle.rules.proofs.Returns.{same-truth}
@@ -112,16 +113,19 @@ module _ (R : Rules) (S : SoundRules R) where
           meant (kindOf R (e .kind)) (spelled (meaningOf texts (e .value))) ≡ meaningOf texts (e .value)
       meant-back e m = drawn (classOf R (e .kind)) .read (meaningOf texts (e .value)) (m .kind) (m .legal .fits)
 
-  draft-again : (d : Draft) (texts : List ℕ) (room n : ℕ) → writeOf R d texts room ≡ Message n → (rest : List ℕ) →
+  draft-again : (d : Draft) (texts : List ℕ) (room n : ℕ) → d .edition ≡ R .edition → T (edition (d .edition)) →
+      writeOf R d texts room ≡ Message n → (rest : List ℕ) →
       Equal d texts (draftOf R (messageOf d texts)) (textsOf R (messageOf d texts .parameters) ++ rest)
   unfolding messageOf draftOf
-  draft-again d texts room n e rest =
+  draft-again d texts room n v k e rest =
       let w = written R d texts room n e .0 in
       let m = messageOf d texts in
       let area = textsOf R (m .parameters) ++ rest in
       let a = all-made R d texts room w in
       let p = pack R area 0 rest (m .parameters) (omega arith) refl in
       record {
+        edition = v;
+        known = k;
         kind = refl;
         count = sym (parameters-length texts (used d) ∙ used-all R d texts room w);
         entries = parameters-meant texts (used d) a ∙ sym (ap (allSaid area) (used-are R m) ∙ p .says);

@@ -5,7 +5,7 @@ use mathlib.Core.Path.{_≡_, sym, _∙_, ap}
 use Rattle.rules.specs.Message.{octets}
 use Rattle.draft.specs.Draft.{messageOf}
 use Rattle.writer.specs.Writing.{outputAfter}
-use Rattle.writer.specs.declared.Written.{Written}
+use Rattle.writer.specs.declared.Writing.{Writing}
 use Rattle.writer.proofs.write.Reads as write
 
 pub write-settled : (κs : _) (a : _) (r r' : _) (s s' : _) → write.Post κs a r s → write.Post κs a r' s' →
@@ -14,6 +14,6 @@ write-settled κs a r r' s s' p q =
     let e = p .0 ∙ sym (q .0) in (
       e,
       p .1
-          ∙ ap (λ (w : Written). outputAfter w (octets (messageOf (a .1 .0) (a .1 .1 .0 .now))) (a .1 .1 .1 .0 .now)) e
+          ∙ ap (λ (w : Writing). outputAfter (w .answer) (octets (messageOf (a .1 .0) (a .1 .1 .0 .now))) (a .1 .1 .1 .0 .now)) e
           ∙ sym (q .1),
     )

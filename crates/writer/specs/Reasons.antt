@@ -7,7 +7,8 @@ use mathlib.Core.Logic.{_⊎_, _↔_}
 use mathlib.Core.List.{List}
 use lib.ListN.{length, getD, take, drop}
 use lib.Dec.{T}
-use Rattle.rules.specs.Table.{Rules}
+use Rattle.rules.specs.Table.{Rules, rulesOf}
+use Rattle.rules.specs.Editions.{known, bookOf}
 use Rattle.rules.specs.Message.{body, octets, messageKind, LegalParameter, Accepts, most}
 use Rattle.draft.specs.Meaning.{formIs, kindOf}
 use Rattle.draft.specs.Draft.{noEntry, meaningOf, inside, parameterOf, parametersOf, used, messageOf}
@@ -15,6 +16,7 @@ use Rattle.draft.specs.declared.Entry.{Entry}
 use Rattle.draft.specs.declared.Draft.{Draft}
 use Rattle.writer.specs.Told.{told, success, refusal}
 use Rattle.writer.specs.Writing.{unwritten}
+use Rattle.writer.specs.declared.Writing.{Writing}
 use Rattle.writer.specs.declared.Written.{Written}
 use Rattle.writer.specs.declared.Written.the-variants.{Message}
 
@@ -104,3 +106,14 @@ pub record Writes (R : Rules) (d : Draft) (texts old : List ℕ) (w : Written) (
   -- a message lies at the output's beginning, and a refusal leaves the output
   pub lays : (n : ℕ) → told w ≡ success n → LaidMessage R d texts old new n
   pub keeps : 1 ≤ told w .number → new ≡ old
+
+-- the same, by the draft's edition and the way w (document 02, Q-5)
+pub record WritesBy (w : ℕ) (d : Draft) (texts old : List ℕ) (r : Writing) (new : List ℕ) : Type 0 where
+  -- by known numbers all that is said of writing by their book
+  pub by-book : T (known (d .edition) w) → Writes (rulesOf (bookOf (d .edition) w)) d texts old (r .answer) new
+  -- 16 at 0 exactly where the draft's edition or the way is unknown: it comes before all others
+  pub sixteen : (p : ℕ) → (told (r .answer) ≡ refusal 16 p) ↔ ((p ≡ 0) × (T (known (d .edition) w) → ⊥))
+  -- with it the output stays, and no edition is named
+  pub leaves : (T (known (d .edition) w) → ⊥) → (new ≡ old) × (r .edition ≡ 0)
+  -- every other answer names the draft's edition
+  pub names : T (known (d .edition) w) → r .edition ≡ d .edition

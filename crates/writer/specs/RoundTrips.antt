@@ -5,6 +5,8 @@ use Prim.Native.Nat.{ℕ, _≤_}
 use mathlib.Core.Path.{_≡_}
 use mathlib.Core.List.{List, _++_}
 use lib.ListN.{length}
+use lib.Dec.{T}
+use Rattle.rules.specs.Editions.{edition}
 use Rattle.rules.specs.Table.{Rules}
 use Rattle.rules.specs.Message as message
 use Rattle.rules.specs.Message.{octets, LegalMessage}
@@ -22,8 +24,10 @@ pub record RoundTrips (R : Rules) : Type 0 where
       length (octets m) ≤ room →
       (writeOf R (draftOf R m) (textsOf R (m .parameters) ++ rest) room ≡ Message (length (octets m)))
       × (messageOf (draftOf R m) (textsOf R (m .parameters) ++ rest) ≡ m)
-  -- a draft that is written is equal to the draft of its message, over an area that begins with the message's texts
-  pub draft-again : (d : Draft) (texts : List ℕ) (room n : ℕ) → writeOf R d texts room ≡ Message n → (rest : List ℕ) →
+  -- a draft of the rules' edition that is written is equal to the draft of its message, over an area that begins with
+  -- the message's texts
+  pub draft-again : (d : Draft) (texts : List ℕ) (room n : ℕ) → d .edition ≡ R .edition → T (edition (d .edition)) →
+      writeOf R d texts room ≡ Message n → (rest : List ℕ) →
       Equal d texts (draftOf R (messageOf d texts)) (textsOf R (messageOf d texts .parameters) ++ rest)
   -- equal drafts get the same answer
   pub equal-answer : (a : Draft) (s : List ℕ) (b : Draft) (t : List ℕ) (room : ℕ) → Equal a s b t →

@@ -9,7 +9,7 @@ use Rattle.rules.specs.Tests.{_≤?_, _=?_, _and_, _or_, pick}
 use Rattle.rules.specs.Octets.{total, checksum}
 use Rattle.rules.specs.Contents.{within, inSet, digit, pairFits, pairsFit, shortMonth, days, monthOf, columnsFit, allIn}
 use Rattle.rules.specs.Table.{rulesOf, rowIn, rowOf, classOf, formOf, whole}
-use Rattle.rules.specs.declared.Book.the-variants.{PresentLenient}
+use Rattle.rules.specs.Editions.{lenient, edition, known, bookOf}
 use Rattle.rules.specs.Message.{body, octets, messageKind, most}
 use Rattle.draft.specs.Meaning.{formNumber, kindOf, formIs, tens, ones, spelled}
 use Rattle.draft.specs.Draft.{noEntry, meaningOf, inside, parameterOf, parametersOf, messageOf}
@@ -18,15 +18,25 @@ use Rattle.draft.specs.declared.Value.the-variants.{Date, Code, State, Text, Ca
 use Rattle.draft.specs.declared.Entry.{Entry}
 use Rattle.draft.specs.declared.Draft.{Draft}
 use Rattle.writer.specs.Told.{Told, told, success, refusal}
-use Rattle.writer.specs.Writing.{legalEntry, legalBefore, sized, measuredOf, writeOf}
+use Rattle.writer.specs.Writing.{legalEntry, legalBefore, sized, measuredOf, writeOf, writeIn}
 
 -- an entry
 abbrev pub says : ℕ → Value → Entry
 says t v = record { kind = t; value = v }
 
--- a draft of some entries
+-- a draft of some entries, by an edition
+abbrev pub draftedBy : ℕ → ℕ → List Entry → Draft
+draftedBy e kind es =
+    record {
+      kind = kind;
+      edition = e;
+      count = length es;
+      entries = es ++ replicate (most - length es) noEntry;
+    }
+
+-- by the present one
 abbrev pub drafted : ℕ → List Entry → Draft
-drafted kind es = record { kind = kind; count = length es; entries = es ++ replicate (most - length es) noEntry }
+drafted kind es = draftedBy 0 kind es
 
 -- a draft with its text area, an output with so many octets, and the answer
 pub record Example : Type 0 where
@@ -42,7 +52,7 @@ row d t n a = record { draft = d; texts = t; room = n; answer = a }
 -- what the writer answers in each row
 unfoldable pub rowsTold : List Example → List Told
 rowsTold [] = []
-rowsTold (r ∷ rs) = told (writeOf (rulesOf PresentLenient) (r .draft) (r .texts) (r .room)) ∷ rowsTold rs
+rowsTold (r ∷ rs) = told (writeIn lenient (r .draft) (r .texts) (r .room) .answer) ∷ rowsTold rs
 
 -- what each row says
 unfoldable pub expected : List Example → List Told
@@ -65,6 +75,13 @@ caller start n = drafted 0x80 (says 0x01 (Date 6 15 14 30) ∷ says 0x02 (Text s
 abbrev pub one : ℕ → Value → Draft
 one t v = drafted 0x80 (says t v ∷ [])
 
+-- a call message of the old edition with one entry (document 02, Q-5), and digits
+abbrev pub old : ℕ → Value → Draft
+old t v = draftedBy 1 0x80 (says t v ∷ [])
+
+abbrev pub digits : List ℕ
+digits = replicate 20 0x34
+
 -- so many parameters of 8 octets
 abbrev pub carried : ℕ → Draft
 carried k = drafted 0x80 (replicate k (says 0x05 (Carried 0 6)))
@@ -76,7 +93,7 @@ writerRows =
     row lamp [] 5 (refusal 15 6) ∷
     row (drafted 0x81 []) [] 6 (refusal 11 0) ∷
     row (drafted 0x80 []) [] 6 (refusal 14 0) ∷
-    row (record { kind = 0x80; count = 86; entries = [] }) [] 6 (refusal 13 0) ∷
+    row (record { kind = 0x80; edition = 0; count = 86; entries = [] }) [] 6 (refusal 13 0) ∷
     row (caller 0 5) area 20 (success 20) ∷
     row (caller 1 5) area 20 (refusal 12 1) ∷
     row (caller 2 5) area 20 (refusal 12 1) ∷
@@ -95,6 +112,15 @@ writerRows =
     row (carried 31) area 251 (success 251) ∷
     row (carried 31) area 250 (refusal 15 251) ∷
     row (carried 32) area 300 (refusal 13 0) ∷
+    row (old 0x02 (Text 0 18)) digits 300 (success 23) ∷
+    row (old 0x02 (Text 0 19)) digits 300 (refusal 12 0) ∷
+    row (one 0x02 (Text 0 19)) digits 300 (success 24) ∷
+    row (old 0x16 (Code 0x03)) [] 6 (success 6) ∷
+    row (old 0x16 (Code 0x01)) [] 6 (refusal 12 0) ∷
+    row (old 0x13 (Code 0x02)) [] 6 (refusal 12 0) ∷
+    row (old 0x13 (Carried 0 5)) digits 10 (success 10) ∷
+    row (draftedBy 2 0x80 []) [] 6 (refusal 16 0) ∷
+    row (draftedBy 255 0x81 []) [] 6 (refusal 16 0) ∷
     []
 
 -- the octets that document 01 shows for the lamp and for its example, and the answer of every row
@@ -106,5 +132,5 @@ Claim =
     × (rowsTold writerRows ≡ expected writerRows))
 
 pub writer-rows : Claim
-unfolding rowsTold expected told writeOf measuredOf sized legalBefore legalEntry body octets messageOf parametersOf parameterOf spelled meaningOf inside formIs formNumber kindOf formOf classOf rowOf rowIn rulesOf whole pairsFit shortMonth days monthOf columnsFit allIn pairFits digit inSet within messageKind tens ones total checksum pick _and_ _or_ _≤?_ _=?_
+unfolding rowsTold expected told edition known bookOf writeIn writeOf measuredOf sized legalBefore legalEntry body octets messageOf parametersOf parameterOf spelled meaningOf inside formIs formNumber kindOf formOf classOf rowOf rowIn rulesOf whole pairsFit shortMonth days monthOf columnsFit allIn pairFits digit inSet within messageKind tens ones total checksum pick _and_ _or_ _≤?_ _=?_
 writer-rows = (refl, (refl, refl))

@@ -5,7 +5,8 @@ use mathlib.Core.Bool.{Bool}
 use mathlib.Core.List.{List, [], _∷_}
 use lib.ListN.{length}
 use Rattle.rules.specs.Tests.{_≤?_, _=?_, _and_, pick}
-use Rattle.rules.specs.Table.{Rules, contentsFit, classOf}
+use Rattle.rules.specs.Table.{Rules, rulesOf, contentsFit, classOf}
+use Rattle.rules.specs.Editions.{known, bookOf}
 use Rattle.rules.specs.Message.{body, messageKind, most}
 use Rattle.draft.specs.Meaning.{formNumber, kindOf, formIs, spelled}
 use Rattle.draft.specs.Draft.{meaningOf, inside, parametersOf, used}
@@ -13,6 +14,7 @@ use Rattle.rules.specs.Laying.{laid}
 use Rattle.rules.specs.Refusals.{noted}
 use Rattle.draft.specs.declared.Entry.{Entry}
 use Rattle.draft.specs.declared.Draft.{Draft}
+use Rattle.writer.specs.declared.Writing.{Writing}
 use Rattle.writer.specs.declared.Written.{Written}
 use Rattle.writer.specs.declared.Written.the-variants.{Message, Declined}
 
@@ -56,6 +58,13 @@ writeOf R d texts room =
     pick (messageKind (d .kind))
     (pick (d .count =? 0) (unwritten 14 0) (pick (suc most ≤? d .count) (unwritten 13 0) (measuredOf R d texts room)))
     (unwritten 11 0)
+
+-- by the draft's edition and a way (document 02, Q-5): before all others 16, where one of them is unknown
+unfoldable pub writeIn : ℕ → Draft → List ℕ → ℕ → Writing
+writeIn w d texts room =
+    pick (known (d .edition) w)
+    (record { edition = d .edition; answer = writeOf (rulesOf (bookOf (d .edition) w)) d texts room })
+    (record { edition = 0; answer = unwritten 16 0 })
 
 -- ---- the output: the message's octets over its beginning, or as it was
 unfoldable pub outputAfter : Written → List ℕ → List ℕ → List ℕ

@@ -17,7 +17,7 @@ ghost use Rattle.rules.specs.Message.{front, octets, most};
 ghost use Rattle.draft.specs.Draft.{used, messageOf};
 ghost use Rattle.rules.specs.Laying.{laid};
 ghost use Rattle.draft.specs.declared.Value.the-variants as value;
-ghost use Rattle.writer.specs.Writing.{unwritten, sized, measuredOf, writeOf, outputAfter};
+ghost use Rattle.writer.specs.Writing.{unwritten, sized, measuredOf, writeOf, writeIn, outputAfter};
 ghost use Rattle.writer.specs.Judging.{spellingOf, small, fitting, takesOf, measureFrom};
 ghost use Rattle.writer.specs.Laying.{parameterOctets, Puttable, Layable};
 
@@ -25,6 +25,12 @@ ghost use Rattle.writer.specs.Laying.{parameterOctets, Puttable, Layable
 pub enum Written {
     Message { size: u16 },
     Declined { fault: Fault },
+}
+
+// What a write answers, and the edition that it names: the draft's.
+pub struct Writing {
+    pub edition: u8,
+    pub answer: Written,
 }
 
 // The contents of a value without a text: the first `length` of eight octets.
@@ -318,9 +324,9 @@ fn put_message(draft: Draft, texts: &[u8], out: &mut [u8], size: u8)
     out[end] = std::num::wrapping_sub_u8(0, sum);
 }
 
-// Writes the message that a draft stands for to the start of the output, or refuses; octets after the message stay,
-// and in a refusal all of them.
-pub fn write(book: Book, draft: Draft, texts: &[u8], out: &mut [u8]) -> Written
+// By a book: the message that a draft stands for at the start of the output, or a refusal; octets after the message
+// stay, and in a refusal all of them.
+fn write_by(book: Book, draft: Draft, texts: &[u8], out: &mut [u8]) -> Written
     ensures answer { λ r. ⌜ r ≡ writeOf (rulesOf book) draft (now (texts .entry)) (list.length (now (out .entry))) ⌝ }
     ensures output { λ r. ⌜ now (out .exit) ≡ outputAfter r (octets (messageOf draft (now (texts .entry)))) (now (out .entry)) ⌝ }
 {
@@ -331,5 +337,25 @@ pub fn write(book: Book, draft: Draft, texts: &[u8], out: &mut [u8]) -> Written
             Written::Message { size }
         }
         Written::Declined { fault } => Written::Declined { fault },
+    }
+}
+
+// Writes the message that a draft stands for, by the draft's edition: 16 where that or the way is unknown, and the
+// output stays.
+pub fn write(way: u8, draft: Draft, texts: &[u8], out: &mut [u8]) -> Writing
+    ensures answer { λ r. ⌜ r ≡ writeIn way draft (now (texts .entry)) (list.length (now (out .entry))) ⌝ }
+    ensures output { λ r. ⌜ now (out .exit) ≡ outputAfter (r .answer) (octets (messageOf draft (now (texts .entry)))) (now (out .entry)) ⌝ }
+{
+    let edition = draft.edition;
+    if rules::is_known(edition, way) {
+        Writing {
+            edition,
+            answer: write_by(rules::book_of(edition, way), draft, texts, out),
+        }
+    } else {
+        Writing {
+            edition: 0,
+            answer: refusal(16, 0),
+        }
     }
 }

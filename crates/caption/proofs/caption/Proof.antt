@@ -5,6 +5,7 @@ use mathlib.Core.Path.{sym, _∙_, ap}
 use native.Mathlib.Omega.{arith}
 use Rattle.caption.proofs.Inside.{in-message, in-directory, message-part, directory-part, refused-part}
 use Rattle.caption.specs.declared.Shown.{Shown}
+use Rattle.caption.specs.declared.Finding.{Finding}
 use Rattle.caption.specs.Caption.{codeOf}
 use borrow.Author.Needs.{needs}
 use Rattle.caption.proofs.caption.Statement.{statement}
@@ -21,7 +22,7 @@ add-result c =
     let start = c .before .before .before .before .before .before in
     omega (
       arith,
-      in-message _ (start .args .message .now) (start .args .directory .now) _
+      in-message _ _ (start .args .message .now) (start .args .directory .now) _
           (c .before .before .before .find .ensures) _ _ (c .before .found .given .1),
     )
 
@@ -34,7 +35,7 @@ part-result-start c = search needs
 part-result-end : tie.Need-part-result-end
 part-result-end c =
     let start = c .before .before .before .before .before .before in
-    in-message _ (start .args .message .now) (start .args .directory .now) _
+    in-message _ _ (start .args .message .now) (start .args .directory .now) _
     (c .before .before .before .find .ensures) _ _ (c .before .found .given .1)
 
 enum-known-found-2 : tie.Need-enum-known-found-2
@@ -45,7 +46,7 @@ add-result-2 c =
     let start = c .before .before .before .before .before .before in
     omega (
       arith,
-      in-directory _ (start .args .message .now) (start .args .directory .now) _
+      in-directory _ _ (start .args .message .now) (start .args .directory .now) _
           (c .before .before .before .find .ensures) _ _ (c .before .found2 .given .1),
     )
 
@@ -58,7 +59,7 @@ part-result-start-2 c = search needs
 part-result-end-2 : tie.Need-part-result-end-2
 part-result-end-2 c =
     let start = c .before .before .before .before .before .before in
-    in-directory _ (start .args .message .now) (start .args .directory .now) _
+    in-directory _ _ (start .args .message .now) (start .args .directory .now) _
     (c .before .before .before .find .ensures) _ _ (c .before .found2 .given .1)
 
 enum-known-found-3 : tie.Need-enum-known-found-3
@@ -75,8 +76,9 @@ returns c =
     let o = start .args .message .now in
     let d = start .args .directory .now in
     let e = after-find .find .ensures in
+    let shown = ap (λ (x : Finding). x .shown) e in
     let f = c .before .before .found .given .1 in
-    (message-part _ o d _ e _ _ f, ap (λ (r : Shown). codeOf r (start .args .side .now)) (sym f ∙ e))
+    (message-part _ _ o d _ e _ _ f, ap (λ (r : Shown). codeOf r (start .args .side .now)) (sym f ∙ shown))
 
 returns-2 : tie.Need-returns-2
 unfolding codeOf
@@ -86,8 +88,9 @@ returns-2 c =
     let o = start .args .message .now in
     let d = start .args .directory .now in
     let e = after-find .find .ensures in
+    let shown = ap (λ (x : Finding). x .shown) e in
     let f = c .before .before .found2 .given .1 in
-    (directory-part _ o d _ e _ _ f, ap (λ (r : Shown). codeOf r (start .args .side .now)) (sym f ∙ e))
+    (directory-part _ _ o d _ e _ _ f, ap (λ (r : Shown). codeOf r (start .args .side .now)) (sym f ∙ shown))
 
 returns-3 : tie.Need-returns-3
 unfolding codeOf
@@ -97,8 +100,9 @@ returns-3 c =
     let o = start .args .message .now in
     let d = start .args .directory .now in
     let e = after-find .find .ensures in
+    let shown = ap (λ (x : Finding). x .shown) e in
     let f = c .before .before .found3 .given .1 in
-    (refused-part _ o d _ e _ f, ap (λ (r : Shown). codeOf r (start .args .side .now)) (sym f ∙ e))
+    (refused-part _ _ o d _ e _ f, ap (λ (r : Shown). codeOf r (start .args .side .now)) (sym f ∙ shown))
 
 pub caption-spec : {M : Type 1} → statement M
 caption-spec =

@@ -1,41 +1,47 @@
--- `caption::find` meets its contract: as the verdict on the message goes.
+-- `caption::find` meets its contract: by the book of known numbers, else 16.
 -- Assumes nothing.
-use mathlib.Core.Path.{refl, sym, _∙_}
-use Rattle.caption.specs.Caption.{findUnder, findOf}
+use mathlib.Core.Path.{_∙_, ap}
+use Rattle.rules.proofs.Returns.{pick-t, pick-f, via}
+use Rattle.rules.specs.Table.{rulesOf}
+use Rattle.rules.specs.declared.Book.{Book}
+use Rattle.rules.specs.declared.Fault.{Fault}
+use Rattle.caption.specs.declared.Shown.{Shown}
+use Rattle.caption.specs.declared.Shown.the-variants.{Refused}
+use Rattle.caption.specs.Caption.{findOf, findIn}
 use borrow.Author.Needs.{needs}
 use Rattle.caption.proofs.find.Statement.{statement}
 use Rattle.caption.proofs.find.Tie as tie
 
-judge-requires : tie.Need-judge-requires
-judge-requires c κs = search needs
+is-known-requires : tie.Need-is-known-requires
+is-known-requires c κs = search needs
 
-enum-known-verdict : tie.Need-enum-known-verdict
-enum-known-verdict c = search needs
+book-of-requires : tie.Need-book-of-requires
+book-of-requires c κs = search needs
 
-by-name-requires : tie.Need-by-name-requires
-by-name-requires c κs = search needs
+find-by-requires : tie.Need-find-by-requires
+find-by-requires c κs = search needs
 
-enum-known-verdict-2 : tie.Need-enum-known-verdict-2
-enum-known-verdict-2 c = search needs
+noted-requires : tie.Need-noted-requires
+noted-requires c κs = search needs
 
 returns : tie.Need-returns
-unfolding findOf findUnder
+unfolding findIn
 returns c =
-    let after-judge = c .before .before .before .before in
-    rw (sym (after-judge .judge .ensures) ∙ c .before .before .verdict .given .1)
-    (c .by-name .ensures)
+    let branch = c .before .before in
+    let start = branch .before .before .before .before .args in
+    let shown = c .find-by .ensures
+    ∙ ap (λ (b : Book). findOf (rulesOf b) (start .message .now) (start .directory .now))
+    (c .before .book-of .ensures) in
+    pick-t _ _ _ _ (via _ _ _ (branch .before .is-known .ensures) (branch .if1 .taken))
+    (ap (λ (r : Shown). record { edition = start .edition; shown = r }) shown)
 
 returns-2 : tie.Need-returns-2
-unfolding findOf findUnder
-returns-2 c = rw (sym (c .before .before .before .judge .ensures) ∙ c .before .verdict2 .given .1) refl
+unfolding findIn
+returns-2 c =
+    pick-f _ _ _ _ (via _ _ _ (c .before .before .is-known .ensures) (c .before .if1 .left))
+    (ap (λ (f : Fault). record { edition = 0; shown = Refused f }) (c .noted .ensures))
 
 pub find-spec : {M : Type 1} → statement M
 find-spec =
     tie.close
-    (tie.spec
-    judge-requires
-    enum-known-verdict
-    by-name-requires
-    enum-known-verdict-2
-    returns
-    returns-2)
+    (tie.spec is-known-requires book-of-requires find-by-requires noted-requires returns returns-2)

@@ -1,69 +1,66 @@
--- `desk::settle` meets its contract: the desk first, then as the verdict on the octets goes.
+-- `desk::settle` meets its contract: by the book of known numbers, whose answer's number says whether the edition is
+-- named; without one else.
 -- Assumes nothing.
-use mathlib.Core.Path.{refl, sym, _∙_}
-use native.Mathlib.Omega.{arith}
-use Rattle.rules.proofs.Octets.{octets-at}
+use Prim.Native.Nat.{ℕ}
+use mathlib.Core.Path.{_∙_, ap}
 use Rattle.rules.proofs.Returns.{pick-t, pick-f, via}
-use Rattle.message.proofs.Judges.{judges-of}
-use Rattle.message.proofs.Told.{accepted-iff}
-use Rattle.desk.specs.Settle.{settledUnder, settleOf}
+use Rattle.rules.specs.Table.{rulesOf}
+use Rattle.rules.specs.Editions.{namedBy}
+use Rattle.rules.specs.declared.Book.{Book}
+use Rattle.desk.specs.declared.Outcome.{Outcome}
+use Rattle.desk.specs.Told.{told}
+use Rattle.desk.specs.Settle.{settleOf, settleIn}
 use borrow.Author.Needs.{needs}
 use Rattle.desk.proofs.settle.Statement.{statement}
 use Rattle.desk.proofs.settle.Tie as tie
 
-places-fit-requires : tie.Need-places-fit-requires
-places-fit-requires c κs = search needs
+is-known-requires : tie.Need-is-known-requires
+is-known-requires c κs = search needs
 
-judge-requires : tie.Need-judge-requires
-judge-requires c κs = search needs
+book-of-requires : tie.Need-book-of-requires
+book-of-requires c κs = search needs
 
-enum-known-verdict : tie.Need-enum-known-verdict
-enum-known-verdict c = search needs
+settle-by-requires : tie.Need-settle-by-requires
+settle-by-requires c κs = search needs
 
-settle-message-requires : tie.Need-settle-message-requires
-settle-message-requires c κs =
-    let read = c .before .before .before .before .before .before .before in
-    let start = read .before in
-    let o = octets-at (start .args .octets .now) (λ i. omega (arith, read .shared-slice-known .given i)) in
-    accepted-iff (judges-of (start .args .book) _ o) _ .0
-    (sym (c .before .before .before .judge .ensures) ∙ c .before .verdict .given .1) .1
+number-of-requires : tie.Need-number-of-requires
+number-of-requires c κs = search needs
 
-enum-known-verdict-2 : tie.Need-enum-known-verdict-2
-enum-known-verdict-2 c = search needs
+named-by-requires : tie.Need-named-by-requires
+named-by-requires c κs = search needs
 
-refused-with-requires : tie.Need-refused-with-requires
-refused-with-requires c κs = search needs
+settle-by-none-requires : tie.Need-settle-by-none-requires
+settle-by-none-requires c κs = search needs
 
 returns : tie.Need-returns
-unfolding settleOf settledUnder
+unfolding settleIn
 returns c =
-    let after-judge = c .before .before .before .before in
-    pick-t _ _ _ _ (via _ _ _ (after-judge .before .before .places-fit .ensures) (after-judge .before .if1 .taken))
-    (rw (sym (after-judge .judge .ensures) ∙ c .before .before .verdict .given .1) (c .settle-message .ensures))
+    let settled = c .before .before in
+    let branch = settled .before .before in
+    let start = branch .before .before .before .args in
+    let outcome = settled .settle-by .ensures
+    ∙ ap (λ (b : Book). settleOf (rulesOf b) (start .desk) (start .octets .now)) (settled .before .book-of .ensures) in
+    let edition = c .named-by .ensures
+    ∙ ap (λ (k : ℕ). namedBy k (start .edition))
+    (c .before .number-of .ensures ∙ ap (λ (x : Outcome). told (x .answer) .number) outcome) in
+    pick-t _ _ _ _ (via _ _ _ (branch .before .is-known .ensures) (branch .if1 .taken))
+    (λ i. record { edition = edition i; outcome = outcome i })
 
 returns-2 : tie.Need-returns-2
-unfolding settleOf settledUnder
+unfolding settleIn
 returns-2 c =
-    let branch = c .before .before .before .before in
-    pick-t _ _ _ _ (via _ _ _ (branch .before .places-fit .ensures) (branch .if1 .taken))
-    (rw (sym (c .before .before .before .judge .ensures) ∙ c .before .verdict2 .given .1) refl)
-
-returns-3 : tie.Need-returns-3
-unfolding settleOf
-returns-3 c =
-    pick-f _ _ _ _ (via _ _ _ (c .before .before .places-fit .ensures) (c .before .if1 .left))
-    (c .refused-with .ensures)
+    pick-f _ _ _ _ (via _ _ _ (c .before .before .is-known .ensures) (c .before .if1 .left))
+    (ap (λ (x : Outcome). record { edition = 0; outcome = x }) (c .settle-by-none .ensures))
 
 pub settle-spec : {M : Type 1} → statement M
 settle-spec =
     tie.close
     (tie.spec
-    places-fit-requires
-    judge-requires
-    enum-known-verdict
-    settle-message-requires
-    enum-known-verdict-2
-    refused-with-requires
+    is-known-requires
+    book-of-requires
+    settle-by-requires
+    number-of-requires
+    named-by-requires
+    settle-by-none-requires
     returns
-    returns-2
-    returns-3)
+    returns-2)

@@ -1,44 +1,35 @@
--- `draft::same` meets its contract: message type, number of entries, entries.
+-- `draft::same` meets its contract: the edition is known and the same, and then all the rest.
 -- Assumes nothing.
-use mathlib.Core.Path.{refl, _∙_, ap}
-use Prim.Native.Nat.{ℕ}
-use lib.ListN.{take}
-use Rattle.rules.proofs.Returns.{and-t, and-f, yes-eq, no-eq, yes-le, no-le}
-use Rattle.draft.specs.Same.{sameEntries, sameDraft}
+use mathlib.Core.Path.{refl}
+use Rattle.rules.proofs.Returns.{and-t, and-f, via, yes-eq, no-eq}
+use Rattle.draft.specs.Same.{sameDraft}
 use borrow.Author.Needs.{needs}
 use Rattle.draft.proofs.same.Statement.{statement}
 use Rattle.draft.proofs.same.Tie as tie
 
-same-entries-requires : tie.Need-same-entries-requires
-same-entries-requires c κs = search needs
+is-edition-requires : tie.Need-is-edition-requires
+is-edition-requires c κs = search needs
+
+same-message-requires : tie.Need-same-message-requires
+same-message-requires c κs = search needs
 
 returns : tie.Need-returns
 unfolding sameDraft
 returns c =
-    let branch = c .before .before .before .before .before .before in
-    let start = branch .before .before .before .before .before in
-    and-t _ _ _ (yes-eq _ _ (branch .if1 .taken))
-    (and-t _ _ _ (yes-eq _ _ (c .before .before .before .if2 .taken))
-    (and-t _ _ _ (yes-le _ _ (c .before .if3 .taken))
-    (c .same-entries .ensures ∙ ap (λ (n : ℕ). sameEntries (start .args .s .now)
-    (take (start .args .a .count) (start .args .a .entries)) (start .args .t .now)
-    (take n (start .args .b .entries))) (c .before .before .before .if2 .taken))))
+    let branch = c .before .before .before .before in
+    and-t _ _ _ (via _ _ _ (branch .before .is-edition .ensures) (branch .if1 .taken))
+    (and-t _ _ _ (yes-eq _ _ (c .before .if2 .taken)) (c .same-message .ensures))
 
 returns-2 : tie.Need-returns-2
 unfolding sameDraft
 returns-2 c =
-    let branch = c .before .before .before .before .before in
-    and-t _ _ _ (yes-eq _ _ (branch .if1 .taken))
-    (and-t _ _ _ (yes-eq _ _ (c .before .before .if2 .taken)) (and-f _ _ _ (no-le _ _ (c .if3 .left)) refl))
+    let branch = c .before .before .before in
+    and-t _ _ _ (via _ _ _ (branch .before .is-edition .ensures) (branch .if1 .taken))
+    (and-f _ _ _ (no-eq _ _ (c .if2 .left)) refl)
 
 returns-3 : tie.Need-returns-3
 unfolding sameDraft
-returns-3 c =
-    and-t _ _ _ (yes-eq _ _ (c .before .before .before .if1 .taken)) (and-f _ _ _ (no-eq _ _ (c .if2 .left)) refl)
-
-returns-4 : tie.Need-returns-4
-unfolding sameDraft
-returns-4 c = and-f _ _ _ (no-eq _ _ (c .if1 .left)) refl
+returns-3 c = and-f _ _ _ (via _ _ _ (c .before .is-edition .ensures) (c .if1 .left)) refl
 
 pub same-spec : {M : Type 1} → statement M
-same-spec = tie.close (tie.spec same-entries-requires returns returns-2 returns-3 returns-4)
+same-spec = tie.close (tie.spec is-edition-requires same-message-requires returns returns-2 returns-3)

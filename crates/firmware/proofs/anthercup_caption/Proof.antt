@@ -10,8 +10,8 @@ use Rattle.firmware.proofs.anthercup_caption.Tie as tie
 caption-into-requires : tie.Need-caption-into-requires
 caption-into-requires c κs = search needs
 
-packed-requires : tie.Need-packed-requires
-packed-requires c κs = search needs
+plain-requires : tie.Need-plain-requires
+plain-requires c κs = search needs
 
 same-length : tie.Need-same-length
 same-length c = search needs
@@ -25,8 +25,8 @@ returns c =
 
 returns-2 : tie.Need-returns-2
 unfolding captionAnswer captionRecord
-returns-2 c = let n = no-eq _ _ (c .before .if1 .left) in (pick-f _ _ _ _ n (c .packed .ensures), pick-f _ _ _ _ n refl)
+returns-2 c = let n = no-eq _ _ (c .before .if1 .left) in (pick-f _ _ _ _ n (c .plain .ensures), pick-f _ _ _ _ n refl)
 
 pub anthercup-caption-spec : {M : Type 1} → statement M
 anthercup-caption-spec =
-    tie.close (tie.spec caption-into-requires packed-requires same-length returns returns-2)
+    tie.close (tie.spec caption-into-requires plain-requires same-length returns returns-2)

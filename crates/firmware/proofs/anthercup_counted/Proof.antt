@@ -1,60 +1,31 @@
--- `firmware::anthercup_counted` meets its contract: the verdict first; an accepted message has at most 258 octets.
+-- `firmware::anthercup_counted` meets its contract: by a known edition; else 16.
 -- Assumes nothing.
-use mathlib.Core.Path.{sym, _∙_, ap}
-use native.Mathlib.Omega.{arith}
-use Rattle.rules.proofs.Octets.{octets-at}
-use Rattle.message.specs.declared.Verdict.{Verdict}
-use Rattle.firmware.specs.Exports.{countedUnder, countedAnswer}
-use Rattle.firmware.proofs.PartRecord.{accepted-small}
+use Rattle.rules.proofs.Returns.{pick-t, pick-f, via}
+use Rattle.firmware.specs.Exports.{countedAnswer}
 use borrow.Author.Needs.{needs}
 use Rattle.firmware.proofs.anthercup_counted.Statement.{statement}
 use Rattle.firmware.proofs.anthercup_counted.Tie as tie
 
-judge-requires : tie.Need-judge-requires
-judge-requires c κs = search needs
+is-edition-requires : tie.Need-is-edition-requires
+is-edition-requires c κs = search needs
 
-enum-told : tie.Need-enum-told
-enum-told c = search needs
+counted-by-requires : tie.Need-counted-by-requires
+counted-by-requires c κs = search needs
 
-counted-in-requires : tie.Need-counted-in-requires
-counted-in-requires c κs =
-    let o = c .before .before .before .before .args .octets .now in
-    accepted-small o (octets-at o (λ i. omega (arith, c .before .before .before .shared-slice-known .given i))) _
-    (sym (c .before .before .judge .ensures) ∙ c .enum-told .given .1)
-
-enum-known-verdict : tie.Need-enum-known-verdict
-enum-known-verdict c = search needs
-
-packed-requires : tie.Need-packed-requires
-packed-requires c κs = search needs
+plain-requires : tie.Need-plain-requires
+plain-requires c κs = search needs
 
 returns : tie.Need-returns
-unfolding countedUnder countedAnswer
+unfolding countedAnswer
 returns c =
-    let start = c .before .before .before .before .before in
-    let o = start .args .octets .now in
-    let t = start .args .kind in
-    c .counted-in .ensures ∙ ap (λ (v : Verdict). countedUnder v o t)
-    (sym (c .before .enum-told .given .1) ∙ c .before .before .before .judge .ensures)
+    pick-t _ _ _ _ (via _ _ _ (c .before .before .is-edition .ensures) (c .before .if1 .taken)) (c .counted-by .ensures)
 
 returns-2 : tie.Need-returns-2
-unfolding countedUnder countedAnswer
+unfolding countedAnswer
 returns-2 c =
-    let after-judge = c .before .before .before .before in
-    let start = after-judge .before .before in
-    let o = start .args .octets .now in
-    let t = start .args .kind in
-    c .packed .ensures ∙ ap (λ (v : Verdict). countedUnder v o t)
-    (sym (c .before .before .verdict .given .1) ∙ after-judge .judge .ensures)
+    pick-f _ _ _ _ (via _ _ _ (c .before .before .is-edition .ensures) (c .before .if1 .left)) (c .plain .ensures)
 
 pub anthercup-counted-spec : {M : Type 1} → statement M
 anthercup-counted-spec =
     tie.close
-    (tie.spec
-    judge-requires
-    enum-told
-    counted-in-requires
-    enum-known-verdict
-    packed-requires
-    returns
-    returns-2)
+    (tie.spec is-edition-requires counted-by-requires plain-requires returns returns-2)

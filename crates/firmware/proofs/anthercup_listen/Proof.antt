@@ -25,8 +25,8 @@ encode-requires c κs =
 enum-told : tie.Need-enum-told
 enum-told c = search needs
 
-packed-requires : tie.Need-packed-requires
-packed-requires c κs = search needs
+plain-requires : tie.Need-plain-requires
+plain-requires c κs = search needs
 
 same-length : tie.Need-same-length
 same-length c = search needs
@@ -44,7 +44,7 @@ same-length-2 c = search needs
 returns-2 : tie.Need-returns-2
 returns-2 c =
     unknown-answers _ _ _ (c .before .before .before .decode .ensures) _ (c .before .enum-told .given .1)
-    (c .packed .ensures)
+    (c .plain .ensures)
 
 pub anthercup-listen-spec : {M : Type 1} → statement M
 anthercup-listen-spec =
@@ -55,7 +55,7 @@ anthercup-listen-spec =
     hear-requires
     encode-requires
     enum-told
-    packed-requires
+    plain-requires
     same-length
     returns
     same-length-2

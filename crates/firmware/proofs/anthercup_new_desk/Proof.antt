@@ -14,11 +14,11 @@ new-desk-requires c κs = search needs
 encode-requires : tie.Need-encode-requires
 encode-requires c κs = search needs
 
-packed-requires : tie.Need-packed-requires
-packed-requires c κs = search needs
+plain-requires : tie.Need-plain-requires
+plain-requires c κs = search needs
 
-packed-requires-2 : tie.Need-packed-requires-2
-packed-requires-2 c κs = search needs
+plain-requires-2 : tie.Need-plain-requires-2
+plain-requires-2 c κs = search needs
 
 same-length : tie.Need-same-length
 same-length c = search needs
@@ -28,7 +28,7 @@ unfolding newDeskAnswer newDeskRecord
 returns c =
     let after-new-desk = c .before .before .before .before in
     let n = yes-eq _ _ (after-new-desk .before .before .if1 .taken) in (
-      pick-t _ _ _ _ n (c .packed .ensures),
+      pick-t _ _ _ _ n (c .plain .ensures),
       pick-t _ _ _ _ n
           (c .before .before .before .encode .ensures ∙ ap deskRecord (after-new-desk .new-desk .ensures)),
     )
@@ -37,7 +37,7 @@ returns-2 : tie.Need-returns-2
 unfolding newDeskAnswer newDeskRecord
 returns-2 c =
     let n = no-eq _ _ (c .before .if1 .left) in
-    (pick-f _ _ _ _ n (c .packed2 .ensures), pick-f _ _ _ _ n refl)
+    (pick-f _ _ _ _ n (c .plain2 .ensures), pick-f _ _ _ _ n refl)
 
 pub anthercup-new-desk-spec : {M : Type 1} → statement M
 anthercup-new-desk-spec =
@@ -45,8 +45,8 @@ anthercup-new-desk-spec =
     (tie.spec
     new-desk-requires
     encode-requires
-    packed-requires
-    packed-requires-2
+    plain-requires
+    plain-requires-2
     same-length
     returns
     returns-2)

@@ -21,23 +21,23 @@ settle-requires c κs = search needs
 
 encode-requires : tie.Need-encode-requires
 encode-requires c κs =
-    let branch = c .before .before .before .before .before in
+    let branch = c .before .before .before .before .before .before in
     record-size _ (T-of _ (via _ _ _ (branch .before .is-record .ensures) (branch .if1 .taken)))
 
 desk-word-requires : tie.Need-desk-word-requires
 desk-word-requires c κs = search needs
 
-packed-requires : tie.Need-packed-requires
-packed-requires c κs = search needs
+plain-requires : tie.Need-plain-requires
+plain-requires c κs = search needs
 
 same-length : tie.Need-same-length
 same-length c = search needs
 
 returns : tie.Need-returns
 returns c =
-    let after-settle = c .before .before .before .before .before .before in
+    let after-settle = c .before .before .before .before .before .before .before in
     let after-is-record = after-settle .before .before .before .before in
-    settles-known _ _ _ (after-is-record .is-record .ensures) (after-settle .before .before .before .if1 .taken) _
+    settles-known _ _ _ _ (after-is-record .is-record .ensures) (after-settle .before .before .before .if1 .taken) _
     _ _ _ (after-settle .before .decode .ensures) (after-settle .settle .ensures) (c .desk-word .ensures)
     (c .before .before .before .encode .ensures)
 
@@ -46,7 +46,7 @@ same-length-2 c = search needs
 
 returns-2 : tie.Need-returns-2
 returns-2 c =
-    settles-unknown _ _ _ (c .before .before .is-record .ensures) (c .before .if1 .left) _ (c .packed .ensures)
+    settles-unknown _ _ _ _ (c .before .before .is-record .ensures) (c .before .if1 .left) _ (c .plain .ensures)
 
 pub anthercup-settle-spec : {M : Type 1} → statement M
 anthercup-settle-spec =
@@ -57,7 +57,7 @@ anthercup-settle-spec =
     settle-requires
     encode-requires
     desk-word-requires
-    packed-requires
+    plain-requires
     same-length
     returns
     same-length-2

@@ -1,11 +1,23 @@
 -- `firmware::caption_into` meets its contract: the record is written where a part was found.
 -- Assumes nothing.
-use mathlib.Core.Path.{sym, _∙_, ap}
+use Prim.Native.Nat.{ℕ}
+use mathlib.Core.Path.{_≡_, sym, _∙_, ap}
+use mathlib.Core.List.{List}
+use Rattle.caption.specs.declared.Shown.{Shown}
+use Rattle.caption.specs.declared.Finding.{Finding}
 use Rattle.caption.specs.Told.{told}
 use Rattle.firmware.specs.Exports.{foundWord, partFrom}
 use borrow.Author.Needs.{needs}
 use Rattle.firmware.proofs.caption_into.Statement.{statement}
 use Rattle.firmware.proofs.caption_into.Tie as tie
+
+-- what is shown, beside the edition that is named
+word-of : (f g : Finding) (x : Shown) → f ≡ g → f .shown ≡ x →
+    foundWord (record { edition = f .edition; shown = x }) ≡ foundWord g
+word-of f g x e p = let q = sym p in (λ i. foundWord (record { edition = f .edition; shown = q i })) ∙ ap foundWord e
+
+part-of : (c : List ℕ) (f g : Finding) (x : Shown) → f ≡ g → f .shown ≡ x → partFrom c x ≡ partFrom c (g .shown)
+part-of c f g x e p = ap (partFrom c) (sym p ∙ ap (λ (y : Finding). y .shown) e)
 
 find-requires : tie.Need-find-requires
 find-requires c κs = search needs
@@ -41,8 +53,9 @@ returns : tie.Need-returns
 unfolding foundWord partFrom told
 returns c =
     let after-found = c .before .before .before .before .before .before in
-    let e = sym (after-found .found .given .1) ∙ after-found .before .before .find .ensures in
-    (c .packed .ensures ∙ ap foundWord e, c .before .before .before .lay-part .ensures ∙ ap (partFrom _) e)
+    let e = after-found .before .before .find .ensures in
+    let p = after-found .found .given .1 in
+    (c .packed .ensures ∙ word-of _ _ _ e p, c .before .before .before .lay-part .ensures ∙ part-of _ _ _ _ e p)
 
 same-length-2 : tie.Need-same-length-2
 same-length-2 c = search needs
@@ -51,16 +64,18 @@ returns-2 : tie.Need-returns-2
 unfolding foundWord partFrom told
 returns-2 c =
     let after-found2 = c .before .before .before .before .before .before in
-    let e = sym (after-found2 .found2 .given .1) ∙ after-found2 .before .before .find .ensures in
-    (c .packed2 .ensures ∙ ap foundWord e, c .before .before .before .lay-part2 .ensures ∙ ap (partFrom _) e)
+    let e = after-found2 .before .before .find .ensures in
+    let p = after-found2 .found2 .given .1 in
+    (c .packed2 .ensures ∙ word-of _ _ _ e p, c .before .before .before .lay-part2 .ensures ∙ part-of _ _ _ _ e p)
 
 returns-3 : tie.Need-returns-3
 unfolding foundWord partFrom told
 returns-3 c =
     let after-find = c .before .before .before .before in
     let start = after-find .before .before .before .before in
-    let e = sym (c .before .before .found3 .given .1) ∙ after-find .find .ensures in
-    (c .packed3 .ensures ∙ ap foundWord e, ap (partFrom (start .args .cells .now)) e)
+    let e = after-find .find .ensures in
+    let p = c .before .before .found3 .given .1 in
+    (c .packed3 .ensures ∙ word-of _ _ _ e p, part-of (start .args .cells .now) _ _ _ e p)
 
 pub caption-into-spec : {M : Type 1} → statement M
 caption-into-spec =

@@ -1,4 +1,4 @@
--- `firmware::decode` meets its contract: the size, then the fields.
+-- `firmware::decode` meets its contract: the size, then the edition and the fields.
 -- Assumes nothing.
 use mathlib.Core.Path.{_∙_, ap}
 use Rattle.firmware.specs.Record.{decodeOf, stateOf}
@@ -7,8 +7,8 @@ use borrow.Author.Needs.{needs}
 use Rattle.firmware.proofs.decode.Statement.{statement}
 use Rattle.firmware.proofs.decode.Tie as tie
 
-shared-slice-read-if2 : tie.Need-shared-slice-read-if2
-shared-slice-read-if2 c = search needs
+shared-slice-read-edition : tie.Need-shared-slice-read-edition
+shared-slice-read-edition c = search needs
 
 fields-of-requires : tie.Need-fields-of-requires
 fields-of-requires c κs = search needs
@@ -19,20 +19,14 @@ state-of-requires c κs = search needs
 returns : tie.Need-returns
 unfolding decodeOf
 returns c =
-    let branch = c .before .before in
-    pick-t _ _ _ _ (yes-eq _ _ (branch .before .before .if1 .taken))
-    (pick-t _ _ _ _ (yes-eq _ _ (branch .if2 .taken))
-    (c .state-of .ensures ∙ ap stateOf (c .before .fields-of .ensures)))
+    pick-t _ _ _ _ (yes-eq _ _ (c .before .before .before .if1 .taken))
+    (c .state-of .ensures ∙ ap (stateOf _) (c .before .fields-of .ensures))
 
 returns-2 : tie.Need-returns-2
 unfolding decodeOf
 returns-2 c = search tests
 
-returns-3 : tie.Need-returns-3
-unfolding decodeOf
-returns-3 c = search tests
-
 pub decode-spec : {M : Type 1} → statement M
 decode-spec =
     tie.close
-    (tie.spec shared-slice-read-if2 fields-of-requires state-of-requires returns returns-2 returns-3)
+    (tie.spec shared-slice-read-edition fields-of-requires state-of-requires returns returns-2)

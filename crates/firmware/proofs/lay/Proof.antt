@@ -67,7 +67,9 @@ same-length c = simp length-set
 
 returns : tie.Need-returns
 unfolding laidFields
-returns c = stored (laidFields (c .before .before .args .f)) (c .before .before .args .cells .now) (omega arith)
+returns c =
+    let start = c .before .before in
+    stored (laidFields (start .args .edition) (start .args .f)) (start .args .cells .now) (omega arith)
 
 pub lay-spec : {M : Type 1} → statement M
 lay-spec =

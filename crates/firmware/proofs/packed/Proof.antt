@@ -1,4 +1,4 @@
--- `firmware::packed` meets its contract: five fields of one word.
+-- `firmware::packed` meets its contract: six fields of one word.
 -- Assumes nothing.
 use mathlib.Core.Path.{refl}
 use native.Mathlib.Omega.{arith}
@@ -19,6 +19,18 @@ mul-low-2 c = search needs
 add-low-2 : tie.Need-add-low-2
 add-low-2 c = search needs
 
+cast-last : tie.Need-cast-last
+cast-last c = search needs
+
+cast-last-2 : tie.Need-cast-last-2
+cast-last-2 c = search needs
+
+mul-last : tie.Need-mul-last
+mul-last c = search needs
+
+add-last : tie.Need-add-last
+add-last c = search needs
+
 mul-result : tie.Need-mul-result
 mul-result c = search needs
 
@@ -38,4 +50,13 @@ returns c = refl
 pub packed-spec : {M : Type 1} → statement M
 packed-spec =
     tie.close
-    (tie.spec mul-low add-low mul-low-2 add-low-2 mul-result add-result mul-result-2 add-result-2 returns)
+    (tie.spec
+    mul-low
+    add-low
+    mul-low-2
+    add-low-2
+    cast-last
+    cast-last-2
+    mul-last
+    add-last
+    mul-result add-result mul-result-2 add-result-2 returns)

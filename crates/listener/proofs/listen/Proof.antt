@@ -1,16 +1,16 @@
--- `listener::listen` meets its contract: in range it is the run and its answer; else 17.
+-- `listener::listen` meets its contract: out of range it is 17; else, where its numbers are unknown, 16; else it is the
+-- run by their book, and its answer.
 -- Assumes nothing.
-use mathlib.Core.Path.{_≡_, sym, _∙_}
+use mathlib.Core.Path.{_≡_, sym, _∙_, ap}
 use mathlib.Core.List.{List}
 use Prim.Native.Nat.{ℕ}
 use Rattle.rules.specs.Machine.{Machine, run}
 use Rattle.rules.proofs.Returns.{pick-t, pick-f, T-of}
+use Rattle.rules.specs.Language.{languageOf}
 use Rattle.rules.specs.declared.State.{State}
 use Rattle.rules.specs.declared.Book.{Book}
-use Rattle.rules.specs.declared.Fault.{Fault}
 use Rattle.listener.specs.Heard.{taken, answerOf, runOf, heardIn}
 use Rattle.listener.specs.declared.Answer.{Answer}
-use Rattle.listener.specs.declared.Answer.the-variants.{Refused}
 use Rattle.listener.specs.declared.Listener.{Listener}
 use Rattle.listener.specs.declared.Heard.{Heard}
 use Rattle.listener.specs.declared.Ran.{Ran}
@@ -19,43 +19,88 @@ use Rattle.listener.proofs.listen.Statement.{statement}
 use Rattle.listener.proofs.listen.Tie as tie
 
 -- the state, the answer and the octets taken of a run
-together : (b : Book) (M : Machine) (w : State) (h : List ℕ) (r : Ran) (a : Answer) → r ≡ runOf M w h →
+together : (e w : ℕ) (M : Machine) (s : State) (h : List ℕ) (r : Ran) (a : Answer) → r ≡ runOf M s h →
     a ≡ answerOf (r .state) →
-    _≡_ {A = Heard} (record { listener = record { book = b; state = r .state }; answer = a; taken = r .taken })
-    (record { listener = record { book = b; state = run M w h }; answer = answerOf (run M w h); taken = taken M w h })
+    _≡_ {A = Heard}
+    (record {
+      listener = record { edition = e; way = w; state = r .state };
+      answer = a;
+      taken = r .taken;
+      edition = e;
+    })
+    (record {
+      listener = record { edition = e; way = w; state = run M s h };
+      answer = answerOf (run M s h);
+      taken = taken M s h;
+      edition = e;
+    })
 unfolding runOf
-together b M w h r a e d = rw (d, e)
+together e w M s h r a p q = rw (q, p)
 
--- a refusal, and nothing taken
-refusing : (l : Listener) (f g : Fault) → f ≡ g →
-    _≡_ {A = Heard} (record { listener = l; answer = Refused f; taken = 0 })
-    (record { listener = l; answer = Refused g; taken = 0 })
-refusing l f g e = rw e
+-- the book is that of the numbers
+by-book : (l : Listener) (h : List ℕ) (b c : Book) (r : Heard) → b ≡ c → r ≡ heardIn (languageOf b) l h →
+    r ≡ heardIn (languageOf c) l h
+by-book l h b c r e p = p ∙ ap (λ (x : Book). heardIn (languageOf x) l h) e
+
+book-of-requires : tie.Need-book-of-requires
+book-of-requires c κs = search needs
 
 in-range-requires : tie.Need-in-range-requires
 in-range-requires c κs = search needs
 
+is-known-requires : tie.Need-is-known-requires
+is-known-requires c κs = search needs
+
 run-requires : tie.Need-run-requires
-run-requires c κs = T-of _ (sym (c .before .in-range .ensures) ∙ c .if1 .taken)
+run-requires c κs =
+    let branch = c .before .before in T-of _ (sym (branch .before .in-range .ensures) ∙ branch .if1 .taken)
 
 answer-of-requires : tie.Need-answer-of-requires
 answer-of-requires c κs = search needs
 
-noted-requires : tie.Need-noted-requires
-noted-requires c κs = search needs
+untaken-requires : tie.Need-untaken-requires
+untaken-requires c κs = search needs
+
+untaken-requires-2 : tie.Need-untaken-requires-2
+untaken-requires-2 c κs = search needs
 
 returns : tie.Need-returns
 unfolding heardIn
 returns c =
-    pick-t _ _ _ _ (sym (c .before .before .before .in-range .ensures) ∙ c .before .before .if1 .taken)
-    (together _ _ _ _ _ _ (c .before .run .ensures) (c .answer-of .ensures))
+    let branch = c .before .before in
+    let ranged = branch .before .before in
+    by-book _ _ _ _ _ (ranged .before .before .book-of .ensures)
+    (pick-t _ _ _ _ (sym (ranged .before .in-range .ensures) ∙ ranged .if1 .taken)
+    (pick-t _ _ _ _ (sym (branch .before .is-known .ensures) ∙ branch .if2 .taken)
+    (together _ _ _ _ _ _ _ (c .before .run .ensures) (c .answer-of .ensures))))
 
 returns-2 : tie.Need-returns-2
 unfolding heardIn
 returns-2 c =
-    pick-f _ _ _ _ (sym (c .before .before .in-range .ensures) ∙ c .before .if1 .left)
-    (refusing _ _ _ (c .noted .ensures))
+    let branch = c .before in
+    let ranged = branch .before .before in
+    by-book _ _ _ _ _ (ranged .before .before .book-of .ensures)
+    (pick-t _ _ _ _ (sym (ranged .before .in-range .ensures) ∙ ranged .if1 .taken)
+    (pick-f _ _ _ _ (sym (branch .before .is-known .ensures) ∙ branch .if2 .left) (c .untaken .ensures)))
+
+returns-3 : tie.Need-returns-3
+unfolding heardIn
+returns-3 c =
+    let ranged = c .before in
+    by-book _ _ _ _ _ (ranged .before .before .book-of .ensures)
+    (pick-f _ _ _ _ (sym (ranged .before .in-range .ensures) ∙ ranged .if1 .left) (c .untaken2 .ensures))
 
 pub listen-spec : {M : Type 1} → statement M
 listen-spec =
-    tie.close (tie.spec in-range-requires run-requires answer-of-requires noted-requires returns returns-2)
+    tie.close
+    (tie.spec
+    book-of-requires
+    in-range-requires
+    is-known-requires
+    run-requires
+    answer-of-requires
+    untaken-requires
+    untaken-requires-2
+    returns
+    returns-2
+    returns-3)

@@ -7,10 +7,10 @@ use Rattle.parts.proofs.beginnings.Statement.{statement}
 use Rattle.parts.proofs.beginnings.Tie as tie
 
 abbrev Inv-loop : tie.InvT-loop
-Inv-loop message count₀ place₀ count place = count ≤ place
+Inv-loop edition way message count₀ place₀ count place = count ≤ place
 
 abbrev μ-loop : tie.MeasureT-loop
-μ-loop message count₀ place₀ count place = length message - place
+μ-loop edition way message count₀ place₀ count place = length message - place
 
 loop-holds : tie.Need-loop-holds Inv-loop μ-loop
 loop-holds c = search needs

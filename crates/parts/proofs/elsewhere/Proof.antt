@@ -7,10 +7,10 @@ use Rattle.parts.proofs.elsewhere.Statement.{statement}
 use Rattle.parts.proofs.elsewhere.Tie as tie
 
 abbrev Inv-loop : tie.InvT-loop
-Inv-loop kind count entries₀ i₀ entries i = Unit {0}
+Inv-loop kind edition count entries₀ i₀ entries i = Unit {0}
 
 abbrev μ-loop : tie.MeasureT-loop
-μ-loop kind count entries₀ i₀ entries i = most - i
+μ-loop kind edition count entries₀ i₀ entries i = most - i
 
 loop-holds : tie.Need-loop-holds Inv-loop μ-loop
 loop-holds c = search needs

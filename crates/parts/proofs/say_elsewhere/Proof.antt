@@ -25,7 +25,7 @@ elsewhere-requires c κs = search needs
 slice-aggregate-say-write : tie.Need-slice-aggregate-say-write
 slice-aggregate-say-write c =
     let read = c .before .before .before .read in
-    omega (arith, length-append (read .last .1 .1 .0) [], read .kept .1 .1 .0)
+    omega (arith, length-append (read .last .1 .1 .1 .0) [], read .kept .1 .1 .1 .0)
 
 say-write-requires : tie.Need-say-write-requires
 say-write-requires c κs = search needs

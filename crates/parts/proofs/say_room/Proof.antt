@@ -25,6 +25,9 @@ say-number-requires c κs = search needs
 say-texts-requires : tie.Need-say-texts-requires
 say-texts-requires c κs = search needs
 
+say-edition-requires : tie.Need-say-edition-requires
+say-edition-requires c κs = search needs
+
 returns : tie.Need-returns
 returns c = search needs
 
@@ -38,4 +41,5 @@ say-room-spec =
     slice-aggregate-say-number
     say-number-requires
     say-texts-requires
+    say-edition-requires
     returns)

@@ -6,10 +6,10 @@ use Rattle.parts.proofs.say_steps.Statement.{statement}
 use Rattle.parts.proofs.say_steps.Tie as tie
 
 abbrev Inv-loop : tie.InvT-loop
-Inv-loop message step₀ place₀ turns₀ step place turns = Unit {0}
+Inv-loop edition way message stepped₀ place₀ turns₀ stepped place turns = Unit {0}
 
 abbrev μ-loop : tie.MeasureT-loop
-μ-loop message step₀ place₀ turns₀ step place turns = 86 - turns
+μ-loop edition way message stepped₀ place₀ turns₀ stepped place turns = 86 - turns
 
 first-requires : tie.Need-first-requires Inv-loop μ-loop
 first-requires c κs = search needs
@@ -17,8 +17,8 @@ first-requires c κs = search needs
 loop-holds : tie.Need-loop-holds Inv-loop μ-loop
 loop-holds c = search needs
 
-say-step-requires : tie.Need-say-step-requires Inv-loop μ-loop
-say-step-requires c κs = search needs
+say-stepped-requires : tie.Need-say-stepped-requires Inv-loop μ-loop
+say-stepped-requires c κs = search needs
 
 enum-known-step : tie.Need-enum-known-step Inv-loop μ-loop
 enum-known-step c = search needs
@@ -41,8 +41,8 @@ enum-told c = search needs
 onward-requires-2 : tie.Need-onward-requires-2 Inv-loop μ-loop
 onward-requires-2 c κs = search needs
 
-say-step-requires-2 : tie.Need-say-step-requires-2 Inv-loop μ-loop
-say-step-requires-2 c κs = search needs
+say-stepped-requires-2 : tie.Need-say-stepped-requires-2 Inv-loop μ-loop
+say-stepped-requires-2 c κs = search needs
 
 returns : tie.Need-returns Inv-loop μ-loop
 returns c = search needs
@@ -53,8 +53,8 @@ enum-known-step-2 c = search needs
 onward-requires-3 : tie.Need-onward-requires-3 Inv-loop μ-loop
 onward-requires-3 c κs = search needs
 
-say-step-requires-3 : tie.Need-say-step-requires-3 Inv-loop μ-loop
-say-step-requires-3 c κs = search needs
+say-stepped-requires-3 : tie.Need-say-stepped-requires-3 Inv-loop μ-loop
+say-stepped-requires-3 c κs = search needs
 
 returns-2 : tie.Need-returns-2 Inv-loop μ-loop
 returns-2 c = search needs
@@ -70,7 +70,7 @@ say-steps-spec =
     μ-loop
     first-requires
     loop-holds
-    say-step-requires
+    say-stepped-requires
     enum-known-step
     onward-requires
     add-turns
@@ -78,10 +78,10 @@ say-steps-spec =
     loop-again
     enum-told
     onward-requires-2
-    say-step-requires-2
+    say-stepped-requires-2
     returns
     enum-known-step-2
     onward-requires-3
-    say-step-requires-3
+    say-stepped-requires-3
     returns-2
     returns-3)

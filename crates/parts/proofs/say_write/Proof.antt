@@ -37,6 +37,9 @@ slice-aggregate-say-fault c = search needs
 say-fault-requires : tie.Need-say-fault-requires
 say-fault-requires c κs = search needs
 
+say-edition-requires : tie.Need-say-edition-requires
+say-edition-requires c κs = search needs
+
 returns : tie.Need-returns
 returns c = search needs
 
@@ -60,6 +63,7 @@ say-write-spec =
     enum-known-answer-2
     slice-aggregate-say-fault
     say-fault-requires
+    say-edition-requires
     returns
     returns-2
     returns-3)

@@ -12,11 +12,11 @@ use Rattle.reader.proofs.draft_of.Statement.{statement}
 use Rattle.reader.proofs.draft_of.Tie as tie
 
 abbrev Inv-loop : tie.InvT-loop
-Inv-loop book octets entries₀ kind at₀ used₀ count₀ entries at used count =
+Inv-loop book octets entries₀ kind edition at₀ used₀ count₀ entries at used count =
     TakenEntries (rulesOf book) octets count at used entries
 
 abbrev μ-loop : tie.MeasureT-loop
-μ-loop book octets entries₀ kind at₀ used₀ count₀ entries at used count = most - count
+μ-loop book octets entries₀ kind edition at₀ used₀ count₀ entries at used count = most - count
 
 no-entry-requires : tie.Need-no-entry-requires Inv-loop μ-loop
 no-entry-requires c κs = search needs
@@ -24,8 +24,12 @@ no-entry-requires c κs = search needs
 octet-requires : tie.Need-octet-requires Inv-loop μ-loop
 octet-requires c κs = search needs
 
+edition-of-requires : tie.Need-edition-of-requires Inv-loop μ-loop
+edition-of-requires c κs = search needs
+
 loop-holds : tie.Need-loop-holds Inv-loop μ-loop
-loop-holds c = rw (c .before .no-entry .ensures) (filled-first _ (c .before .before .before .args .octets .now))
+loop-holds c =
+    let made = c .before .before in rw (made .no-entry .ensures) (filled-first _ (made .before .before .args .octets .now))
 
 entry-requires : tie.Need-entry-requires Inv-loop μ-loop
 entry-requires c κs = search needs
@@ -66,13 +70,16 @@ enum-told c = search needs
 returns : tie.Need-returns Inv-loop μ-loop
 returns c =
     let turn = c .before .before .before .before in
-    filled-end _ _ _ _ _ _ (turn .loop .inv) _ (turn .before .octet .ensures) refl refl
+    filled-end _ _ _ _ _ _ (turn .loop .inv) _ (turn .before .before .octet .ensures) (turn .before .edition-of .ensures)
+    refl refl
     (left-ended _ _ _ _ _ (c .before .before .before .loop-test .taken)
     (sym (c .enum-told .given .1) ∙ c .before .before .entry .ensures))
 
 returns-2 : tie.Need-returns-2 Inv-loop μ-loop
 returns-2 c =
-    filled-end _ _ _ _ _ _ (c .before .loop .inv) _ (c .before .before .octet .ensures) refl refl
+    let turn = c .before in
+    filled-end _ _ _ _ _ _ (turn .loop .inv) _ (turn .before .before .octet .ensures) (turn .before .edition-of .ensures)
+    refl refl
     (left-full _ _ _ (c .loop-test .left))
 
 pub draft-of-spec : {M : Type 1} → statement M
@@ -83,6 +90,7 @@ draft-of-spec =
     μ-loop
     no-entry-requires
     octet-requires
+    edition-of-requires
     loop-holds
     entry-requires
     enum-known-taken

@@ -16,8 +16,11 @@ read-full-requires c κs = search needs
 returns : tie.Need-returns
 returns c = search needs
 
-array-read-book : tie.Need-array-read-book
-array-read-book c = search needs
+array-read-edition : tie.Need-array-read-edition
+array-read-edition c = search needs
+
+array-read-way : tie.Need-array-read-way
+array-read-way c = search needs
 
 array-read-number : tie.Need-array-read-number
 array-read-number c = search needs
@@ -57,7 +60,8 @@ next-spec =
     slice-aggregate-read-full
     read-full-requires
     returns
-    array-read-book
+    array-read-edition
+    array-read-way
     array-read-number
     array-read-number-2
     number-requires

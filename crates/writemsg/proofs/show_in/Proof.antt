@@ -30,23 +30,14 @@ enum-known-answer-2 c = search needs
 print-fault-requires : tie.Need-print-fault-requires
 print-fault-requires c κs = search needs
 
+print-edition-requires : tie.Need-print-edition-requires
+print-edition-requires c κs = search needs
+
 same-length : tie.Need-same-length
 same-length c = search needs
 
 returns : tie.Need-returns
 returns c = search needs
-
-same-length-2 : tie.Need-same-length-2
-same-length-2 c = search needs
-
-returns-2 : tie.Need-returns-2
-returns-2 c = search needs
-
-same-length-3 : tie.Need-same-length-3
-same-length-3 c = search needs
-
-returns-3 : tie.Need-returns-3
-returns-3 c = search needs
 
 pub show-in-spec : {M : Type 1} → statement M
 show-in-spec =
@@ -60,9 +51,6 @@ show-in-spec =
     print-octets-requires
     enum-known-answer-2
     print-fault-requires
+    print-edition-requires
     same-length
-    returns
-    same-length-2
-    returns-2
-    same-length-3
-    returns-3)
+    returns)

@@ -8,7 +8,6 @@ use native.Mathlib.Omega.{arith}
 use lib.ListN.{length, length-take, length-drop, length-replicate}
 use Rattle.rules.specs.Message.{most}
 use Rattle.rules.specs.Table.{rulesOf}
-use Rattle.rules.specs.declared.Book.the-variants.{PresentLenient}
 use Rattle.rules.proofs.Laying.{rest-laid}
 use Rattle.reader.proofs.Laying.{left-ended, left-full}
 use Rattle.reader.proofs.Copies.{put-is}
@@ -18,16 +17,16 @@ use Rattle.firmware.proofs.drafts.lay_entries.Statement.{statement}
 use Rattle.firmware.proofs.drafts.lay_entries.Tie as tie
 
 abbrev Inv-loop : tie.InvT-loop
-Inv-loop octets cells₀ texts₀ at₀ used₀ count₀ cells texts at used count =
-    Recorded octets texts₀ count at used cells texts
+Inv-loop book octets cells₀ texts₀ at₀ used₀ count₀ cells texts at used count =
+    Recorded (rulesOf book) octets texts₀ count at used cells texts
 
 abbrev μ-loop : tie.MeasureT-loop
-μ-loop octets cells₀ texts₀ at₀ used₀ count₀ cells texts at used count = most - count
+μ-loop book octets cells₀ texts₀ at₀ used₀ count₀ cells texts at used count = most - count
 
 loop-holds : tie.Need-loop-holds Inv-loop μ-loop
 loop-holds c =
     let start = c .before .before .before in
-    recorded-first _ _ (start .pre .1) (start .args .cells .now) (start .pre .0)
+    recorded-first _ _ _ (start .pre .1) (start .args .cells .now) (start .pre .0)
 
 entry-requires : tie.Need-entry-requires Inv-loop μ-loop
 entry-requires c κs = search needs
@@ -45,13 +44,13 @@ sub-lay-entry : tie.Need-sub-lay-entry Inv-loop μ-loop
 sub-lay-entry c =
     let turn = c .before .before .before .before in
     let start = turn .before .before .before .before .before in
-    omega (arith, recorded-long _ _ (start .pre .1) _ _ _ _ _ (turn .before .loop .inv))
+    omega (arith, recorded-long _ _ _ (start .pre .1) _ _ _ _ _ (turn .before .loop .inv))
 
 part-lay-entry-start : tie.Need-part-lay-entry-start Inv-loop μ-loop
 part-lay-entry-start c =
     let turn = c .before .before .before .before in
     let start = turn .before .before .before .before .before in
-    omega (arith, recorded-long _ _ (start .pre .1) _ _ _ _ _ (turn .before .loop .inv))
+    omega (arith, recorded-long _ _ _ (start .pre .1) _ _ _ _ _ (turn .before .loop .inv))
 
 part-lay-entry-end : tie.Need-part-lay-entry-end Inv-loop μ-loop
 part-lay-entry-end c = search needs
@@ -61,14 +60,14 @@ lay-entry-requires c κs =
     let turn = c .before .before .before .before .before in
     let start = turn .before .before .before .before .before in
     simp (length-take, length-drop)
-    (omega (arith, recorded-long _ _ (start .pre .1) _ _ _ _ _ (turn .before .loop .inv), turn .loop-test .taken))
+    (omega (arith, recorded-long _ _ _ (start .pre .1) _ _ _ _ _ (turn .before .loop .inv), turn .loop-test .taken))
 
 add-start : tie.Need-add-start Inv-loop μ-loop
 add-start c =
     let after-taken = c .before .before .before .before .before in
     let turn = after-taken .before .before .before in
     let start = turn .before .before .before .before .before in
-    let room = recorded-room _ _ (start .pre .1) _ _ _ _ _ (turn .before .loop .inv) (turn .loop-test .taken) _ _ _
+    let room = recorded-room _ _ _ (start .pre .1) _ _ _ _ _ (turn .before .loop .inv) (turn .loop-test .taken) _ _ _
     (sym (after-taken .taken .given .1) ∙ after-taken .before .before .entry .ensures) in
     omega (arith, room .0)
 
@@ -77,7 +76,7 @@ add-end c =
     let after-taken = c .before .before .before .before .before in
     let turn = after-taken .before .before .before in
     let start = turn .before .before .before .before .before in
-    let room = recorded-room _ _ (start .pre .1) _ _ _ _ _ (turn .before .loop .inv) (turn .loop-test .taken) _ _ _
+    let room = recorded-room _ _ _ (start .pre .1) _ _ _ _ _ (turn .before .loop .inv) (turn .loop-test .taken) _ _ _
     (sym (after-taken .taken .given .1) ∙ after-taken .before .before .entry .ensures) in
     omega (arith, room .0)
 
@@ -92,7 +91,7 @@ part-copy-end c =
     let after-taken = c .before .before .before .before .before in
     let turn = after-taken .before .before .before in
     let start = turn .before .before .before .before .before in
-    let room = recorded-room _ _ (start .pre .1) _ _ _ _ _ (turn .before .loop .inv) (turn .loop-test .taken) _ _ _
+    let room = recorded-room _ _ _ (start .pre .1) _ _ _ _ _ (turn .before .loop .inv) (turn .loop-test .taken) _ _ _
     (sym (after-taken .taken .given .1) ∙ after-taken .before .before .entry .ensures) in
     omega (arith, room .0)
 
@@ -101,7 +100,7 @@ sub-copy-2 c =
     let after-taken = c .before .before .before .before .before .before in
     let turn = after-taken .before .before .before in
     let start = turn .before .before .before .before .before in
-    let room = recorded-room _ _ (start .pre .1) _ _ _ _ _ (turn .before .loop .inv) (turn .loop-test .taken) _ _ _
+    let room = recorded-room _ _ _ (start .pre .1) _ _ _ _ _ (turn .before .loop .inv) (turn .loop-test .taken) _ _ _
     (sym (after-taken .taken .given .1) ∙ after-taken .before .before .entry .ensures) in
     omega (arith, room .1)
 
@@ -110,7 +109,7 @@ part-copy-start-2 c =
     let after-taken = c .before .before .before .before .before .before in
     let turn = after-taken .before .before .before in
     let start = turn .before .before .before .before .before in
-    let room = recorded-room _ _ (start .pre .1) _ _ _ _ _ (turn .before .loop .inv) (turn .loop-test .taken) _ _ _
+    let room = recorded-room _ _ _ (start .pre .1) _ _ _ _ _ (turn .before .loop .inv) (turn .loop-test .taken) _ _ _
     (sym (after-taken .taken .given .1) ∙ after-taken .before .before .entry .ensures) in
     omega (arith, room .1)
 
@@ -122,7 +121,7 @@ copy-requires c κs =
     let after-taken = c .before .before .before .before .before .before .before in
     let turn = after-taken .before .before .before in
     let start = turn .before .before .before .before .before in
-    let room = recorded-room _ _ (start .pre .1) _ _ _ _ _ (turn .before .loop .inv) (turn .loop-test .taken) _ _ _
+    let room = recorded-room _ _ _ (start .pre .1) _ _ _ _ _ (turn .before .loop .inv) (turn .loop-test .taken) _ _ _
     (sym (after-taken .taken .given .1) ∙ after-taken .before .before .entry .ensures) in
     simp (length-take, length-drop) (omega (arith, room .1))
 
@@ -131,7 +130,7 @@ add-used c =
     let after-taken = c .before .before .before .before .before .before .before .before .before .before in
     let turn = after-taken .before .before .before in
     let start = turn .before .before .before .before .before in
-    let room = recorded-room _ _ (start .pre .1) _ _ _ _ _ (turn .before .loop .inv) (turn .loop-test .taken) _ _ _
+    let room = recorded-room _ _ _ (start .pre .1) _ _ _ _ _ (turn .before .loop .inv) (turn .loop-test .taken) _ _ _
     (sym (after-taken .taken .given .1) ∙ after-taken .before .before .entry .ensures) in
     omega (arith, room .1)
 
@@ -149,7 +148,7 @@ loop-again c =
     let turn = after-taken .before .before .before in
     let loop = turn .before in
     let start = loop .before .before .before .before in
-    recorded-more _ _ (start .pre .1) _ _ _ _ _ (loop .loop .inv) (turn .loop-test .taken) _ _ _
+    recorded-more _ _ _ (start .pre .1) _ _ _ _ _ (loop .loop .inv) (turn .loop-test .taken) _ _ _
     (sym (after-taken .taken .given .1) ∙ after-taken .before .before .entry .ensures) _ _
     (rest-laid _ _ _ (8 + 8 * loop .loop .count) (after-entry .lay-entry .ensures))
     (put-is (start .args .octets .now) (loop .loop .texts) _ (loop .loop .at + 2) _ (loop .loop .used)
@@ -162,7 +161,7 @@ same-length : tie.Need-same-length Inv-loop μ-loop
 same-length c =
     let loop = c .before .before .before .before in
     let start = loop .before .before .before .before in
-    recorded-long _ _ (start .pre .1) _ _ _ _ _ (loop .loop .inv)
+    recorded-long _ _ _ (start .pre .1) _ _ _ _ _ (loop .loop .inv)
     ∙ sym (ap length (start .pre .0) ∙ length-replicate {A = ℕ} 688 0)
 
 same-length-2 : tie.Need-same-length-2 Inv-loop μ-loop
@@ -172,14 +171,14 @@ returns : tie.Need-returns Inv-loop μ-loop
 returns c =
     let loop = c .before .before .before .before in
     let start = loop .before .before .before .before in
-    recorded-end _ _ (start .pre .1) _ _ _ _ _ (loop .loop .inv)
-    (left-ended (rulesOf PresentLenient) _ _ _ _ (c .before .before .before .loop-test .taken)
+    recorded-end _ _ _ (start .pre .1) _ _ _ _ _ (loop .loop .inv)
+    (left-ended _ _ _ _ _ (c .before .before .before .loop-test .taken)
     (sym (c .enum-told .given .1) ∙ c .before .before .entry .ensures))
 
 same-length-3 : tie.Need-same-length-3 Inv-loop μ-loop
 same-length-3 c =
     let start = c .before .before .before .before .before in
-    recorded-long _ _ (start .pre .1) _ _ _ _ _ (c .before .loop .inv)
+    recorded-long _ _ _ (start .pre .1) _ _ _ _ _ (c .before .loop .inv)
     ∙ sym (ap length (start .pre .0) ∙ length-replicate {A = ℕ} 688 0)
 
 same-length-4 : tie.Need-same-length-4 Inv-loop μ-loop
@@ -188,7 +187,7 @@ same-length-4 c = c .before .loop .inv .laid-down .long
 returns-2 : tie.Need-returns-2 Inv-loop μ-loop
 returns-2 c =
     let start = c .before .before .before .before .before in
-    recorded-end _ _ (start .pre .1) _ _ _ _ _ (c .before .loop .inv) (left-full _ _ _ (c .loop-test .left))
+    recorded-end _ _ _ (start .pre .1) _ _ _ _ _ (c .before .loop .inv) (left-full _ _ _ (c .loop-test .left))
 
 pub lay-entries-spec : {M : Type 1} → statement M
 lay-entries-spec =
