@@ -1,7 +1,7 @@
 /* A plain C listener as a firmware programmer would write it by hand, on the record that include/anthercup.h lays out:
- * the record's size, every code and number, and that unused octets are 0, are judged at entry, then its edition; every
- * octet is judged by document 01's rules, or by those of the old edition (document 02, Q-5), as it arrives, and
- * parameters are counted as they begin (document 02, Q-3). */
+ * the record's size, every code and number, and that unused octets are 0, are judged at entry, then its edition and
+ * way; every octet is judged by document 01's rules, or by those of the old edition (document 02, Q-5), as it arrives,
+ * a type without a row by the way (document 02, Q-11), and parameters are counted as they begin (document 02, Q-3). */
 #include "peer.h"
 
 #include <string.h>
@@ -10,9 +10,10 @@ enum { KIND, SIZE, HEADER, LENGTH, CONTENT, MESSAGE, REFUSED };
 enum { CARRIED, DATE, NUMBER, ABSENT, NAME, LAMP, IDENTITY, CALL_TYPE, WAITING, FORWARDED, USER,
        OLD_NUMBER, OLD_NAME, OLD_FORWARDED, OLD_USER };
 enum { PRESENT, OLD };
+enum { STRICT, LENIENT };
 
 struct state {
-    unsigned stage, sum, place, class, length, index, memory, room, number, parameter, edition;
+    unsigned stage, sum, place, class, length, index, memory, room, number, parameter, edition, way;
 };
 
 static const uint8_t class_of[2][256] = {
@@ -38,17 +39,19 @@ static uint64_t refused(unsigned number) { return word(0, number, 0, 0, 0, 0); }
 
 static int among(unsigned lo, unsigned hi, unsigned x) { return lo <= x && x <= hi; }
 
-/* each edition has classes of its own; of one that is not known any may stand */
+static int book_known(const struct state *s) { return s->edition <= OLD && s->way <= LENIENT; }
+
+/* each edition has classes of its own; of one that is not known any may stand. Nothing is carried in the strict way */
 static int class_known(const struct state *s) {
+    if (s->class == CARRIED) return s->way != STRICT;
     if (s->edition == PRESENT) return s->class <= USER;
-    if (s->edition == OLD && s->class <= USER)
-        return s->class == CARRIED || s->class == DATE || s->class == ABSENT || s->class == LAMP;
+    if (s->edition == OLD && s->class <= USER) return s->class == DATE || s->class == ABSENT || s->class == LAMP;
     return s->class <= OLD_USER;
 }
 
-/* a refusal's: 10 where the edition is not known */
+/* a refusal's: 10 in the strict way, and where edition or way is not known */
 static int number_known(const struct state *s) {
-    return among(1, 6, s->number) || (s->number == 10 && s->edition > OLD);
+    return among(1, 6, s->number) || (s->number == 10 && (s->way == STRICT || !book_known(s)));
 }
 
 /* a refusal's: with a type, a length or contents from 1 to the most that a message holds, else none */
@@ -77,7 +80,7 @@ static int in_range(const struct state *s) {
 }
 
 static int load(struct state *s, const uint8_t *r) {
-    if (r[12] | r[13] | r[14] | r[15]) return 0;
+    if (r[13] | r[14] | r[15]) return 0;
     s->stage = r[0];
     s->sum = r[1];
     s->place = r[2] | (unsigned)r[3] << 8;
@@ -89,6 +92,7 @@ static int load(struct state *s, const uint8_t *r) {
     s->number = r[9];
     s->parameter = r[10];
     s->edition = r[11];
+    s->way = r[12];
     return in_range(s);
 }
 
@@ -105,13 +109,15 @@ static void store(const struct state *s, uint8_t *r) {
     r[9] = (uint8_t)s->number;
     r[10] = (uint8_t)s->parameter;
     r[11] = (uint8_t)s->edition;
-    memset(r + 12, 0, 4);
+    r[12] = (uint8_t)s->way;
+    memset(r + 13, 0, 3);
 }
 
 static void ends(struct state *s, unsigned stage, unsigned place, unsigned number, unsigned parameter) {
-    unsigned edition = s->edition;
+    unsigned edition = s->edition, way = s->way;
     memset(s, 0, sizeof *s);
     s->edition = edition;
+    s->way = way;
     s->stage = stage;
     s->place = place;
     s->number = number;
@@ -188,6 +194,7 @@ static unsigned judge(struct state *s, unsigned x) {
         return 0;
     case HEADER:
         s->parameter++;
+        if (s->way == STRICT && class_of[s->edition][x] == CARRIED) return 10;
         if (!possible(class_of[s->edition][x], s->room)) return 3;
         s->stage = LENGTH;
         s->class = class_of[s->edition][x];
@@ -224,18 +231,19 @@ static size_t hear(struct state *s, const uint8_t *o, size_t n) {
     return taken;
 }
 
-uint64_t peer_reset(uint8_t edition, uint8_t *record, size_t size) {
+uint64_t peer_reset(uint8_t edition, uint8_t way, uint8_t *record, size_t size) {
     if (size != 16) return refused(17);
-    if (edition > OLD) return refused(16);
+    if (edition > OLD || way > LENIENT) return refused(16);
     memset(record, 0, 16);
     record[11] = edition;
+    record[12] = way;
     return word(edition, 0, 0, 0, 0, 0);
 }
 
 uint64_t peer_listen(uint8_t *record, size_t size, const uint8_t *octets, size_t count) {
     struct state s;
     if (size != 16 || !load(&s, record)) return refused(17);
-    if (s.edition > OLD) return refused(16);
+    if (!book_known(&s)) return refused(16);
     size_t taken = hear(&s, octets, count);
     store(&s, record);
     if (s.stage == REFUSED) return word(s.edition, s.number, s.place, 0, taken, s.parameter);

@@ -1,9 +1,10 @@
 /* The peers of the benchmark do our work: the same words, records and areas.
- * The plain listener and the tuned C hear traffic of both editions in random
- * runs, by the edition that it is of or by the other, and records of random
- * octets; the tuned C reads it into areas of random sizes, and settles it on a
- * desk that lives on and on desks of random octets. Unknown editions are named
- * now and then. Usage: same [SEED] */
+ * The plain listener and the tuned C hear traffic of both editions, for both
+ * ways, in random runs, by the edition and way that it is built for or by
+ * others, and records of random octets; the tuned C reads it into areas of
+ * random sizes, and settles it on a desk that lives on and on desks of random
+ * octets. Ours is called by the functions that name no way, too. Unknown
+ * editions and ways are named now and then. Usage: same [SEED] */
 #include <stdio.h>
 #include <stdlib.h>
 #include <string.h>
@@ -17,8 +18,13 @@ enum { MESSAGES = 40000, ANY = 60 };
 
 static unsigned long heard, sound, reads, accepted, nines, settled, done, full;
 
-/* answers that name the old edition, and those with 16 */
-static unsigned long old, unknown;
+/* answers that name the old edition, and those with 10 and 16 */
+static unsigned long old, unlisted, unknown;
+
+/* What a call is told. */
+struct book {
+    uint8_t edition, way;
+};
 
 static void fail(const char *what, uint64_t x, uint64_t y)
 {
@@ -30,17 +36,27 @@ static void fail(const char *what, uint64_t x, uint64_t y)
 static void names(uint64_t answer)
 {
     old += anthercup_edition(answer) == ANTHERCUP_OLD;
-    unknown += anthercup_number(answer) == ANTHERCUP_REFUSED_EDITION;
+    unlisted += anthercup_number(answer) == ANTHERCUP_REFUSED_UNLISTED;
+    unknown += anthercup_number(answer) == ANTHERCUP_REFUSED_UNKNOWN;
 }
 
-/* Often this one, now and then the other, or any. */
-static uint8_t any_edition(struct traffic *t, uint8_t edition)
+/* Often this number, now and then the other, or any. */
+static uint8_t any_number(struct traffic *t, uint8_t number)
 {
     if (traffic_number(t, 8))
-        return edition;
+        return number;
     if (traffic_number(t, 2))
-        return (uint8_t)(1 - edition);
+        return (uint8_t)(1 - number);
     return (uint8_t)traffic_number(t, traffic_number(t, 2) ? 4 : 256);
+}
+
+static struct book any_book(struct traffic *t, uint8_t edition, uint8_t way)
+{
+    struct book b;
+
+    b.edition = any_number(t, edition);
+    b.way = any_number(t, way);
+    return b;
 }
 
 /* ---- Listening ---- */
@@ -59,20 +75,29 @@ static void all_hear(struct records *r, size_t size, const uint8_t *o,
     heard++;
     names(x);
     sound += anthercup_number(x) != ANTHERCUP_REFUSED_RECORD
-             && anthercup_number(x) != ANTHERCUP_REFUSED_EDITION;
+             && anthercup_number(x) != ANTHERCUP_REFUSED_UNKNOWN;
     if (x != y || memcmp(r->ours, r->peer, size) != 0)
         fail("listen", x, y);
     if (x != z || memcmp(r->ours, r->tuned, size) != 0)
         fail("listen, tuned", x, z);
 }
 
-/* A reset of records that hold anything; whether it was refused. */
-static int all_reset(struct records *r, uint8_t edition, size_t size)
+/* A reset of records that hold anything, in the strict way also without naming
+ * it; whether it was refused. */
+static int all_reset(struct records *r, struct book b, size_t size)
 {
-    uint64_t x = anthercup_reset(edition, r->ours, size);
-    uint64_t y = peer_reset(edition, r->peer, size);
-    uint64_t z = tuned_reset(edition, r->tuned, size);
+    uint8_t before[ANY];
+    uint64_t w, x, y, z;
 
+    memcpy(before, r->ours, ANY);
+    x = anthercup_reset_way(b.edition, b.way, r->ours, size);
+    y = peer_reset(b.edition, b.way, r->peer, size);
+    z = tuned_reset(b.edition, b.way, r->tuned, size);
+    if (b.way == ANTHERCUP_STRICT) {
+        w = anthercup_reset(b.edition, before, size);
+        if (w != x || memcmp(before, r->ours, ANY) != 0)
+            fail("reset, no way named", w, x);
+    }
     names(x);
     if (x != y || memcmp(r->ours, r->peer, ANY) != 0)
         fail("reset", x, y);
@@ -81,13 +106,13 @@ static int all_reset(struct records *r, uint8_t edition, size_t size)
     return anthercup_number(x) != 0;
 }
 
-static void in_runs(struct traffic *t, uint8_t edition, const uint8_t *o,
+static void in_runs(struct traffic *t, struct book b, const uint8_t *o,
                     size_t n)
 {
     struct records r;
 
     memset(&r, (int)traffic_number(t, 256), sizeof r);
-    if (all_reset(&r, edition, ANTHERCUP_LISTENER_OCTETS))
+    if (all_reset(&r, b, ANTHERCUP_LISTENER_OCTETS))
         return;
     for (size_t at = 0, run; at < n; at += run) {
         run = traffic_number(t, 12);
@@ -95,7 +120,7 @@ static void in_runs(struct traffic *t, uint8_t edition, const uint8_t *o,
             run = n - at;
         all_hear(&r, ANTHERCUP_LISTENER_OCTETS, o + at, run);
     }
-    all_reset(&r, any_edition(t, edition), traffic_number(t, 40));
+    all_reset(&r, any_book(t, b.edition, b.way), traffic_number(t, 40));
 }
 
 static uint8_t any_octet(struct traffic *t)
@@ -116,8 +141,7 @@ static uint8_t near_most(struct traffic *t, const uint8_t *record)
     return (uint8_t)(most + traffic_number(t, 4) - 2);
 }
 
-/* Octets 1 to 10 that the stage does not use are 0, a bit for each; the edition
- * is often one that there is. */
+/* Octets 1 to 10 that the stage does not use are 0, a bit for each. */
 static void tidy(uint8_t *record)
 {
     static const uint16_t unused[] = {0x7FC, 0x7F8, 0x2F0, 0x2E0,
@@ -137,9 +161,10 @@ static void any_record(struct traffic *t, const uint8_t *o, size_t n)
 
     for (size_t i = 0; i < size; i++)
         r.ours[i] = any_octet(t);
-    if (size > 12 && traffic_number(t, 4)) {
-        memset(r.ours + 12, 0, size - 12);
-        r.ours[11] = any_edition(t, (uint8_t)traffic_number(t, 2));
+    if (size > 13 && traffic_number(t, 4)) {
+        memset(r.ours + 13, 0, size - 13);
+        r.ours[11] = any_number(t, (uint8_t)traffic_number(t, 2));
+        r.ours[12] = any_number(t, (uint8_t)traffic_number(t, 2));
     }
     if (size > 10 && traffic_number(t, 2))
         r.ours[9] = 0, r.ours[0] = 4;
@@ -154,10 +179,10 @@ static void any_record(struct traffic *t, const uint8_t *o, size_t n)
 
 /* ---- Reading ---- */
 
-static void both_read(struct traffic *t, uint8_t edition, const uint8_t *o,
+static void both_read(struct traffic *t, struct book b, const uint8_t *o,
                       size_t n)
 {
-    static uint8_t a[700], b[700], s[300], u[300];
+    static uint8_t a[700], c[700], s[300], u[300];
     size_t size = traffic_number(t, 50) ? ANTHERCUP_DRAFT_OCTETS
                                         : traffic_number(t, sizeof a);
     size_t area = traffic_number(t, 3) ? ANTHERCUP_TEXTS_OCTETS
@@ -165,32 +190,35 @@ static void both_read(struct traffic *t, uint8_t edition, const uint8_t *o,
     uint64_t x, y;
 
     for (size_t i = 0; i < sizeof a; i++)
-        a[i] = b[i] = (uint8_t)traffic_number(t, 256);
+        a[i] = c[i] = (uint8_t)traffic_number(t, 256);
     memset(s, 0xEE, sizeof s);
     memset(u, 0xEE, sizeof u);
-    x = anthercup_read(edition, o, n, a, size, s, area);
-    y = tuned_read(edition, o, n, b, size, u, area);
+    if (b.way == ANTHERCUP_STRICT && traffic_number(t, 2))
+        x = anthercup_read(b.edition, o, n, a, size, s, area);
+    else
+        x = anthercup_read_way(b.edition, b.way, o, n, a, size, s, area);
+    y = tuned_read(b.edition, b.way, o, n, c, size, u, area);
     reads++;
     names(x);
     accepted += anthercup_number(x) == 0;
     nines += anthercup_number(x) == ANTHERCUP_REFUSED_AREA;
-    if (x != y || memcmp(a, b, sizeof a) || memcmp(s, u, sizeof s))
+    if (x != y || memcmp(a, c, sizeof a) || memcmp(s, u, sizeof s))
         fail("read", x, y);
 }
 
 /* ---- Settling ---- */
 
-static void both_settle(uint8_t edition, uint8_t *a, uint8_t *b, size_t size,
-                        const uint8_t *o, size_t n)
+static void both_settle(struct book b, uint8_t *ours, uint8_t *tuned,
+                        size_t size, const uint8_t *o, size_t n)
 {
-    uint64_t x = anthercup_settle(edition, a, size, o, n);
-    uint64_t y = tuned_settle(edition, b, size, o, n);
+    uint64_t x = anthercup_settle(b.edition, b.way, ours, size, o, n);
+    uint64_t y = tuned_settle(b.edition, b.way, tuned, size, o, n);
 
     settled++;
     names(x);
     done += anthercup_number(x) == 0;
     full += anthercup_number(x) == ANTHERCUP_REFUSED_NO_PLACE;
-    if (x != y || memcmp(a, b, ANTHERCUP_DESK_OCTETS))
+    if (x != y || memcmp(ours, tuned, ANTHERCUP_DESK_OCTETS))
         fail("settle", x, y);
 }
 
@@ -212,32 +240,34 @@ static void any_desk(struct traffic *t, const uint8_t *o, size_t n)
         a[i + 2] = traffic_number(t, 100) == 0;
     }
     memcpy(b, a, sizeof b);
-    both_settle(any_edition(t, ANTHERCUP_PRESENT), a, b, size, o, n);
+    both_settle(any_book(t, ANTHERCUP_PRESENT, (uint8_t)traffic_number(t, 2)),
+                a, b, size, o, n);
 }
 
-static void one_message(struct traffic *t, uint8_t *a, uint8_t *b,
+static void one_message(struct traffic *t, uint8_t *ours, uint8_t *tuned,
                         const uint8_t *o, size_t n)
 {
-    uint8_t edition = any_edition(t, t->edition);
+    struct book b = any_book(t, t->edition, t->way);
 
-    in_runs(t, edition, o, n);
+    in_runs(t, b, o, n);
     for (int k = 0; k < 20; k++)
         any_record(t, o, n);
-    both_read(t, edition, o, n);
-    both_settle(edition, a, b, ANTHERCUP_DESK_OCTETS, o, n);
+    both_read(t, b, o, n);
+    both_settle(b, ours, tuned, ANTHERCUP_DESK_OCTETS, o, n);
 }
 
-static void one_notice(struct traffic *t, uint8_t *a, uint8_t *b, uint8_t *o)
+static void one_notice(struct traffic *t, uint8_t *ours, uint8_t *tuned,
+                       uint8_t *o)
 {
     size_t n = traffic_about(t, o);
-    uint8_t edition = any_edition(t, ANTHERCUP_PRESENT);
+    struct book b = any_book(t, ANTHERCUP_PRESENT, t->way);
 
-    both_read(t, edition, o, n);
-    both_settle(edition, a, b, ANTHERCUP_DESK_OCTETS, o, n);
+    both_read(t, b, o, n);
+    both_settle(b, ours, tuned, ANTHERCUP_DESK_OCTETS, o, n);
     any_desk(t, o, n);
     if (traffic_number(t, 40) == 0) {
-        anthercup_new_desk(a, ANTHERCUP_DESK_OCTETS);
-        tuned_new_desk(b, ANTHERCUP_DESK_OCTETS);
+        anthercup_new_desk(ours, ANTHERCUP_DESK_OCTETS);
+        tuned_new_desk(tuned, ANTHERCUP_DESK_OCTETS);
     }
 }
 
@@ -254,6 +284,7 @@ int main(int argc, char **argv)
         size_t n;
 
         t.edition = (uint8_t)traffic_number(&t, 2);
+        t.way = (uint8_t)traffic_number(&t, 2);
         n = i % 8 ? traffic_next(&t, o) : traffic_dated(&t, o);
         one_message(&t, a, b, o, n);
         for (int k = 0; k < 5; k++)
@@ -261,8 +292,9 @@ int main(int argc, char **argv)
     }
     printf("same: %lu calls of listen alike, %lu on sound records; %lu reads, "
            "%lu accepted, %lu with 9; %lu settlings, %lu done, %lu with 21; "
-           "%lu answers name the old edition, %lu are 16\n",
+           "%lu answers name the old edition, %lu are 10, %lu are 16\n",
            heard, sound, reads, accepted, nines, settled, done, full, old,
-           unknown);
-    return !(sound && accepted && nines && done && full && old && unknown);
+           unlisted, unknown);
+    return !(sound && accepted && nines && done && full && old && unlisted
+             && unknown);
 }

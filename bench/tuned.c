@@ -1,10 +1,10 @@
 /* The listener, the whole read and the desk as an embedded C programmer would
  * tune them, on the records of include/anthercup.h and with its answers: a
- * table of octet kinds and one of types for each edition, the record taken as
- * two words (low octet first, so for little-endian machines), each stage
- * reading and writing only what it needs, contents in runs, a header judged at
- * once where its length octet is there too. Portable C99: no intrinsics, no
- * alignment asked.
+ * table of octet kinds and one of types for each edition, one of classes for
+ * each way, the record taken as two words (low octet first, so for
+ * little-endian machines), each stage reading and writing only what it needs,
+ * contents in runs, a header judged at once where its length octet is there
+ * too. Portable C99: no intrinsics, no alignment asked.
  */
 #include "tuned.h"
 
@@ -30,6 +30,7 @@ enum {
     CLASSES
 };
 enum { OLD = 1, EDITIONS };
+enum { STRICT, LENIENT, WAYS };
 enum { CODE_VALUE, DATE_VALUE, STATE_VALUE, TEXT_VALUE, CARRIED_VALUE };
 
 /* The kinds that an octet belongs to, a bit for each class that judges octets
@@ -115,7 +116,7 @@ static const uint8_t class_of[EDITIONS][256] = {
 };
 
 /* The classes that a record may have, a bit each: of the present edition, of
- * the old one, and of all that are not known. */
+ * the old one, and of all that are not known; carried ones in no strict way. */
 #define COMMON (1 << CARRIED | 1 << DATE | 1 << ABSENT | 1 << LAMP)
 static const uint16_t classes_of[EDITIONS + 1] = {
     (1 << OLD_NUMBER) - 1,
@@ -124,27 +125,23 @@ static const uint16_t classes_of[EDITIONS + 1] = {
     (1 << CLASSES) - 1,
 };
 
-/* By class: the least length and how far above it the greatest is, the kinds
- * that octets are judged by (0: by none, or as a date), and the form of the
- * value; of texts every octet is judged, of all others the first. */
+/* By way and class: the least length and how far above it the greatest is, the
+ * kinds that octets are judged by (0: by none, or as a date), and the form of
+ * the value; of texts every octet is judged, of all others the first. In the
+ * strict way no length of a carried type fits any room (document 02, Q-11). */
+#define LISTED                                                            \
+    {8, 0, 0, DATE_VALUE}, {1, 19, IN_NUMBER, TEXT_VALUE},                \
+        {1, 0, IN_ABSENT, CODE_VALUE}, {1, 49, IN_NAME, TEXT_VALUE},      \
+        {1, 0, IN_LAMP, CODE_VALUE}, {3, 0, IN_IDENTITY, STATE_VALUE},    \
+        {1, 0, IN_CALL_TYPE, CODE_VALUE}, {1, 0, 0, CODE_VALUE},          \
+        {1, 0, IN_FORWARDED, CODE_VALUE}, {1, 0, IN_USER, CODE_VALUE},    \
+        {1, 17, IN_NUMBER, TEXT_VALUE}, {1, 19, IN_NAME, TEXT_VALUE},     \
+        {1, 0, IN_FORWARDED, CODE_VALUE}, {1, 0, IN_USER, CODE_VALUE}
 static const struct rule {
     uint8_t least, span, kinds, form;
-} rules[CLASSES] = {
-    {1, 252, 0, CARRIED_VALUE},
-    {8, 0, 0, DATE_VALUE},
-    {1, 19, IN_NUMBER, TEXT_VALUE},
-    {1, 0, IN_ABSENT, CODE_VALUE},
-    {1, 49, IN_NAME, TEXT_VALUE},
-    {1, 0, IN_LAMP, CODE_VALUE},
-    {3, 0, IN_IDENTITY, STATE_VALUE},
-    {1, 0, IN_CALL_TYPE, CODE_VALUE},
-    {1, 0, 0, CODE_VALUE},
-    {1, 0, IN_FORWARDED, CODE_VALUE},
-    {1, 0, IN_USER, CODE_VALUE},
-    {1, 17, IN_NUMBER, TEXT_VALUE},
-    {1, 19, IN_NAME, TEXT_VALUE},
-    {1, 0, IN_FORWARDED, CODE_VALUE},
-    {1, 0, IN_USER, CODE_VALUE},
+} rules_of[WAYS][CLASSES] = {
+    {{255, 0, 0, CARRIED_VALUE}, LISTED},
+    {{1, 252, 0, CARRIED_VALUE}, LISTED},
 };
 
 /* The bit of a word that names the edition; 16 and 17 name none. */
@@ -196,6 +193,12 @@ static int possible(struct rule c, unsigned room)
 {
     unsigned over = room - c.least - 2u;
     return over <= c.span || over - 3 < 253;
+}
+
+/* The number of a type that is not possible. */
+static unsigned impossible(unsigned class, unsigned way)
+{
+    return class == CARRIED && way == STRICT ? 10 : 3;
 }
 
 /* The days of a month (document 02, Q-2); what is no month has 31. */
@@ -284,13 +287,19 @@ static unsigned sum_of(const uint8_t *p, const uint8_t *end, unsigned sum)
     return s;
 }
 
-uint64_t tuned_reset(uint8_t edition, uint8_t *r, size_t size)
+/* What a record keeps of its reset, edition and way, in its second word. */
+static uint64_t kept_of(unsigned edition, unsigned way)
+{
+    return (uint64_t)edition << 24 | (uint64_t)way << 32;
+}
+
+uint64_t tuned_reset(uint8_t edition, uint8_t way, uint8_t *r, size_t size)
 {
     if (size != 16)
         return word(17, 0, 0, 0);
-    if (edition >= EDITIONS)
+    if (edition >= EDITIONS || way >= WAYS)
         return word(16, 0, 0, 0);
-    record(r, 0, (uint64_t)edition << 24);
+    record(r, 0, kept_of(edition, way));
     return named(edition);
 }
 
@@ -299,7 +308,7 @@ static uint64_t refused(uint8_t *r, unsigned number, unsigned place,
 {
     unsigned edition = r[11];
     record(r, REFUSED | (uint64_t)place << 16,
-           number << 8 | parameter << 16 | edition << 24);
+           number << 8 | parameter << 16 | kept_of(edition, r[12]));
     return fault(number, place, parameter, taken) | named(edition);
 }
 
@@ -310,7 +319,9 @@ static uint64_t run_on(uint8_t *r, const uint8_t *o, size_t count)
 {
     const uint64_t low = load(r);
     const uint8_t *p = o, *end = o + count, *stop, *good;
-    const unsigned edition = r[11], kept = edition << 24;
+    const unsigned edition = r[11];
+    const uint64_t kept = kept_of(edition, r[12]);
+    const struct rule *rules = rules_of[r[12]];
     const uint8_t *classes = class_of[edition], *kinds = kinds_of[edition];
     unsigned room = r[8], parameter = r[10],
              sum = (unsigned)(low >> 8) & 0xff,
@@ -378,7 +389,7 @@ static uint64_t run_on(uint8_t *r, const uint8_t *o, size_t count)
         parameter++;
         /* a length that fits says that the type was possible */
         if (p + 1 == end || !length_fits(rules[class], room, p[1])) {
-            number = 3;
+            number = impossible(class, r[12]);
             if (!possible(rules[class], room))
                 goto refuse;
             number = 4;
@@ -426,20 +437,21 @@ refuse:
 
 /* A record of a waiting listener, a message or a refusal is in range, and what
  * it does not use is 0. No parameter, where there must be one, wraps to more
- * than any place has room for. Any edition may stand. */
+ * than any place has room for. Any edition and any way may stand. */
 static int room_and_parameter_alone(const uint8_t *r)
 {
-    return !(load(r + 8) & ~UINT64_C(0xffff00ff));
+    return !(load(r + 8) & ~UINT64_C(0xffffff00ff));
 }
 
-static int edition_alone(const uint8_t *r)
+static int book_alone(const uint8_t *r)
 {
-    return !(load(r + 8) & ~UINT64_C(0xff000000));
+    return !(load(r + 8) & ~UINT64_C(0xffff000000));
 }
 
 static int class_known(const uint8_t *r, unsigned edition)
 {
-    return r[4] < CLASSES && classes_of[edition] >> r[4] & 1;
+    return r[4] < CLASSES && classes_of[edition] >> r[4] & 1
+           && (r[4] != CARRIED || r[12] != STRICT);
 }
 
 static int content_known(const uint8_t *r, unsigned place, unsigned edition)
@@ -465,28 +477,32 @@ static int length_known(const uint8_t *r, unsigned place, unsigned edition)
 
 static int start_known(const uint8_t *r)
 {
-    return load(r) >> 16 == r[0] && edition_alone(r);
+    return load(r) >> 16 == r[0] && book_alone(r);
 }
 
 static int message_known(const uint8_t *r, unsigned place)
 {
-    return !(load(r) & 0xffffffff0000ff00) && edition_alone(r)
+    return !(load(r) & 0xffffffff0000ff00) && book_alone(r)
            && place - 6 <= 252;
 }
 
 /* a parameter's with 3 to 5, none's with 1, 2 and 6; 10 is a parameter's, and
- * known where the edition is not */
+ * known in the strict way and where edition or way is not */
 static int refusal_known(const uint8_t *r, unsigned place)
 {
     return !(load(r) & 0xffffffff0000ff00)
-           && !(load(r + 8) & ~UINT64_C(0xffffff00))
-           && (r[9] - 1u <= 5 || (r[9] == 10 && r[11] >= EDITIONS))
+           && !(load(r + 8) & ~UINT64_C(0xffffffff00))
+           && (r[9] - 1u <= 5
+               || (r[9] == 10
+                   && (r[11] >= EDITIONS || r[12] == STRICT || r[12] >= WAYS)))
            && place <= 257
            && (r[9] - 3u <= 2 || r[9] == 10 ? r[10] - 1u <= 84 : !r[10]);
 }
 
-static int in_range(const uint8_t *r, unsigned place)
+static int in_range(const uint8_t *r, unsigned place, unsigned edition)
 {
+    if (edition > EDITIONS)
+        edition = EDITIONS;
     switch (r[0]) {
     case KIND:
     case SIZE:
@@ -494,9 +510,9 @@ static int in_range(const uint8_t *r, unsigned place)
     case HEADER:
         return header_known(r, place);
     case LENGTH:
-        return length_known(r, place, EDITIONS);
+        return length_known(r, place, edition);
     case CONTENT:
-        return content_known(r, place, EDITIONS);
+        return content_known(r, place, edition);
     case MESSAGE:
         return message_known(r, place);
     case REFUSED:
@@ -514,7 +530,8 @@ static void spot(uint8_t *r, unsigned stage, unsigned sum, unsigned place)
 
 /* What a stage does with a run, its record, place and edition being handed
  * over. One octet of a parameter, as a modem hands them over: only what the
- * stage uses is read and written. Anything else goes to run_on. */
+ * stage uses is read and written. Behind its type the way bears on nothing: a
+ * carried one that is known is lenient. Anything else goes to run_on. */
 static uint64_t at_content(uint8_t *r, unsigned place, unsigned edition,
                            const uint8_t *o, size_t count)
 {
@@ -529,7 +546,7 @@ static uint64_t at_content(uint8_t *r, unsigned place, unsigned edition,
             return refused(r, 5, place, r[10], 1);
         r[7] = (uint8_t)remember(r[6], r[7], x);
     } else {
-        struct rule c = rules[r[4]];
+        struct rule c = rules_of[LENIENT][r[4]];
         if (c.kinds && (r[6] == 0 || c.form == TEXT_VALUE)
             && !(kinds_of[edition][x] & c.kinds))
             return refused(r, 5, place, r[10], 1);
@@ -556,12 +573,13 @@ static uint64_t at_header(uint8_t *r, unsigned place, unsigned edition,
     if (r[8] == 0) {
         if ((r[1] + x) & 0xff)
             return refused(r, 6, place, 0, 1);
-        record(r, MESSAGE | (uint64_t)(place + 1) << 16, edition << 24);
+        record(r, MESSAGE | (uint64_t)(place + 1) << 16,
+               kept_of(edition, r[12]));
         return word(0, 0, place + 1, 1) | named(edition);
     }
     class = class_of[edition][x];
-    if (!possible(rules[class], r[8]))
-        return refused(r, 3, place, r[10] + 1u, 1);
+    if (!possible(rules_of[r[12]][class], r[8]))
+        return refused(r, impossible(class, r[12]), place, r[10] + 1u, 1);
     spot(r, LENGTH, r[1] + x, place + 1);
     r[4] = (uint8_t) class;
     r[10]++;
@@ -577,7 +595,7 @@ static uint64_t at_length(uint8_t *r, unsigned place, unsigned edition,
     if (count != 1)
         return run_on(r, o, count);
     x = *o;
-    if (!length_fits(rules[r[4]], r[8], x))
+    if (!length_fits(rules_of[LENIENT][r[4]], r[8], x))
         return refused(r, 4, place, r[10], 1);
     spot(r, CONTENT, r[1] + x, place + 1);
     r[5] = (uint8_t)x;
@@ -608,14 +626,13 @@ static uint64_t at_end(uint8_t *r, unsigned place, unsigned edition,
     return word(17, 0, 0, 0);
 }
 
-/* The edition is not known: 17 where the record is out of range, else 16. */
+/* Edition or way is not known: 17 where the record is out of range, else 16. */
 static uint64_t at_none(uint8_t *r, unsigned place, unsigned edition,
                         const uint8_t *o, size_t count)
 {
-    (void)edition;
     (void)o;
     (void)count;
-    return word(in_range(r, place) ? 16 : 17, 0, 0, 0);
+    return word(in_range(r, place, edition) ? 16 : 17, 0, 0, 0);
 }
 
 uint64_t tuned_listen(uint8_t *r, size_t size, const uint8_t *o, size_t count)
@@ -628,17 +645,19 @@ uint64_t tuned_listen(uint8_t *r, size_t size, const uint8_t *o, size_t count)
     if (size != 16 || r[0] > REFUSED)
         return word(17, 0, 0, 0);
     edition = r[11];
-    stage = edition < EDITIONS ? r[0] : REFUSED + 1;
+    /* both below 2 */
+    stage = (edition | r[12]) < 2 ? r[0] : REFUSED + 1;
     return at[stage](r, r[2] | (unsigned)r[3] << 8, edition, o, count);
 }
 
-/* The verdict on a whole message, 0 or 1 to 8 with place and parameter as a
+/* The verdict on a whole message, 0 or 1 to 8 and 10 with place and parameter as a
  * word that names no edition; `texts` gets the text octets of an accepted
  * one. */
-static uint64_t judge(unsigned edition, const uint8_t *o, size_t n,
-                      unsigned *texts)
+static uint64_t judge(unsigned edition, unsigned way, const uint8_t *o,
+                      size_t n, unsigned *texts)
 {
     const uint8_t *classes = class_of[edition], *kinds = kinds_of[edition];
+    const struct rule *rules = rules_of[way];
     const uint8_t *p = o + 2, *end = o + n, *stop;
     unsigned room, text = 0, number, parameter = 0;
     if (n == 0)
@@ -658,7 +677,7 @@ static uint64_t judge(unsigned edition, const uint8_t *o, size_t n,
         c = rules[classes[*p]];
         parameter++;
         if (p + 1 == end || !length_fits(c, room, p[1])) {
-            number = 3;
+            number = impossible(classes[*p], way);
             if (!possible(c, room))
                 goto refuse;
             number = 4;
@@ -702,7 +721,7 @@ static unsigned digits(const uint8_t *p)
     return 10u * (p[0] & 15u) + (p[1] & 15u);
 }
 
-uint64_t tuned_read(uint8_t edition, const uint8_t *o, size_t n,
+uint64_t tuned_read(uint8_t edition, uint8_t way, const uint8_t *o, size_t n,
                     uint8_t *draft, size_t draft_size, uint8_t *texts,
                     size_t texts_size)
 {
@@ -712,16 +731,16 @@ uint64_t tuned_read(uint8_t edition, const uint8_t *o, size_t n,
     uint64_t answer;
     if (draft_size != 688)
         return word(17, 0, 0, 0);
-    if (edition >= EDITIONS)
+    if (edition >= EDITIONS || way >= WAYS)
         return word(16, 0, 0, 0);
-    answer = judge(edition, o, n, &text);
+    answer = judge(edition, way, o, n, &text);
     if (answer)
         return answer | named(edition);
     if (texts_size < text)
         return word(9, text, 0, 0) | named(edition);
     for (p = o + 2, end = o + n - 1; p < end; cell += 8) {
         unsigned type = p[0], length = p[1];
-        unsigned form = rules[class_of[edition][type]].form;
+        unsigned form = rules_of[way][class_of[edition][type]].form;
         uint64_t value;
         p += 2;
         switch (form) {
@@ -800,7 +819,7 @@ static unsigned find(const uint8_t *desk, uint32_t place)
 }
 
 /* A notice of the old edition says the lamp alone. */
-uint64_t tuned_settle(uint8_t edition, uint8_t *desk, size_t size,
+uint64_t tuned_settle(uint8_t edition, uint8_t way, uint8_t *desk, size_t size,
                       const uint8_t *o, size_t n)
 {
     const uint8_t *waiting = NULL, *lamp = NULL, *state = NULL;
@@ -808,9 +827,9 @@ uint64_t tuned_settle(uint8_t edition, uint8_t *desk, size_t size,
     uint64_t answer;
     if (size != 52 || !is_desk(desk))
         return word(17, 0, 0, 0);
-    if (edition >= EDITIONS)
+    if (edition >= EDITIONS || way >= WAYS)
         return word(16, 0, 0, 0);
-    answer = judge(edition, o, n, &text);
+    answer = judge(edition, way, o, n, &text);
     if (answer || o[0] != 0x82)
         return answer | named(edition);
     for (const uint8_t *p = o + 2; p < o + n - 1; p += 2 + p[1]) {

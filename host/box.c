@@ -5,8 +5,8 @@
  * 0 where none is named, as in the boxes in service. A file named as its second
  * argument is the directory: lines of caller=text.
  *
- * A box has one edition: it is told at every reset of the listener, and to
- * every other call.
+ * A box has one edition and one way: they are told at every reset of the
+ * listener, and to every other call.
  *
  * How a box listens. Before a message the line carries a channel seizure,
  * which a modem hears as some thirty octets 55H: while no message has begun
@@ -28,6 +28,11 @@ enum { PAUSE = 100 };
 
 /* the octets that a directory may have here */
 enum { DIRECTORY = 4096 };
+
+/* The way with parameter types that the edition does not list: a box carries
+ * them, as those in service do, and shows the rest of the message
+ * (docs/LENIENT.md). A strict one would show a refusal with 10 instead. */
+static const uint8_t way = ANTHERCUP_LENIENT;
 
 /* The listener keeps no octets: the message is those heard since the reset,
  * and they are held here. */
@@ -56,7 +61,7 @@ static void show_refusal(uint64_t answer)
 /* Why a call has no caller, where the message says it. */
 static const char *absence(const struct box *b)
 {
-    uint64_t answer = anthercup_counted(b->edition, b->held, b->count,
+    uint64_t answer = anthercup_counted(b->edition, way, b->held, b->count,
                                         ANTHERCUP_PARAMETER_CALLER_ABSENT);
 
     if (!anthercup_counts(answer))
@@ -71,7 +76,7 @@ static void show_call(const struct box *b)
 {
     uint8_t part[ANTHERCUP_PART_OCTETS];
     uint64_t answer =
-        anthercup_caption(b->edition, b->held, b->count, b->directory,
+        anthercup_caption(b->edition, way, b->held, b->count, b->directory,
                           b->directory_len, part, sizeof part);
 
     if (anthercup_number(answer))
@@ -107,8 +112,8 @@ static void show_message(struct box *b)
         show_call(b);
         return;
     }
-    answer = anthercup_settle(b->edition, b->desk, sizeof b->desk, b->held,
-                              b->count);
+    answer = anthercup_settle(b->edition, way, b->desk, sizeof b->desk,
+                              b->held, b->count);
     if (anthercup_number(answer))
         show_refusal(answer);
     show_desk(b->desk);
@@ -117,7 +122,7 @@ static void show_message(struct box *b)
 /* The line pauses: whatever was heard of a message is over. */
 static void line_paused(struct box *b)
 {
-    anthercup_reset(b->edition, b->listener, sizeof b->listener);
+    anthercup_reset_way(b->edition, way, b->listener, sizeof b->listener);
     b->count = 0;
     b->answered = 0;
 }

@@ -1,15 +1,31 @@
-/* Document 01's rows, and document 02's, through the archive, as the firmware calls it, in both editions: heard whole,
- * octet by octet and cut in two everywhere; read; settled; what counts and the caption; records that are no listener's,
- * no draft's, no part's and no desk's; editions that there are not, at each export and in a listener's record. Says how
- * many answers it compared; the first that differs ends it with status 1. */
+/* Document 01's rows, and document 02's, through the archive, as the firmware calls it, in both editions and by both
+ * ways: heard whole, octet by octet and cut in two everywhere; read; settled; what counts and the caption; the calls
+ * that name no way beside those that are told the strict one; records that are no listener's, no draft's, no part's and
+ * no desk's; editions and ways that there are not, at each export and in a listener's record. Says how many answers it
+ * compared; the first that differs ends it with status 1. */
 #include <stdio.h>
 #include <stdlib.h>
 #include <string.h>
 
 #include "anthercup.h"
 
+/* what a call is told */
+struct book {
+    uint8_t edition, way;
+};
+
+static const struct book books[] = {
+    {ANTHERCUP_PRESENT, ANTHERCUP_LENIENT},
+    {ANTHERCUP_OLD, ANTHERCUP_LENIENT},
+    {ANTHERCUP_PRESENT, ANTHERCUP_STRICT},
+    {ANTHERCUP_OLD, ANTHERCUP_STRICT},
+};
+
+static struct book lenient(uint8_t edition) { return (struct book){edition, ANTHERCUP_LENIENT}; }
+static struct book strict(uint8_t edition) { return (struct book){edition, ANTHERCUP_STRICT}; }
+
 /* octets in hex; what the listener says of them: its number, place and parameter, or the size, or nothing while it
- * waits */
+ * waits. By the strict way the same, or 10 where a type comes before that is not listed */
 static const struct row {
     const char *octets;
     unsigned number, place, parameter, size;
@@ -125,13 +141,63 @@ static const struct row old_rows[] = {
     {"820913010213010516010E", 5, 10, 3, 0},
 };
 
-/* the rows of an edition */
+/* document 02, Q-11: by the strict way alone, in the present edition */
+static const struct row strict_rows[] = {
+    {"8003", 0, 0, 0, 0},
+    {"800305", 10, 2, 1, 0},
+    {"800300", 10, 2, 1, 0},
+    {"800317", 10, 2, 1, 0},
+    {"8003FF", 10, 2, 1, 0},
+    {"800405", 10, 2, 1, 0},
+    {"800B05", 10, 2, 1, 0},
+    {"80FF80", 10, 2, 1, 0},
+    {"80FF05FD", 10, 2, 1, 0},
+    {"800305010077", 10, 2, 1, 0},
+    {"80060401500501", 10, 5, 2, 0},
+    {"820613010205010061", 10, 5, 2, 0},
+    {"82090B01FF13010220", 10, 8, 3, 0},
+    /* listed ones as ever, 3 too */
+    {"800304", 0, 0, 0, 0},
+    {"800404", 3, 2, 1, 0},
+    {"80060D", 3, 2, 1, 0},
+    {"80050D", 0, 0, 0, 0},
+    {"800A040150040150 04", 3, 8, 3, 0},
+    {"820313010265", 0, 0, 0, 6},
+    {"82031301026500", 0, 0, 0, 6},
+};
+
+/* and in the old one, which lists eight types */
+static const struct row old_strict_rows[] = {
+    {"8003", 0, 0, 0, 0},
+    {"800303", 10, 2, 1, 0},
+    {"800308", 10, 2, 1, 0},
+    {"80050D", 10, 2, 1, 0},
+    {"80060D", 10, 2, 1, 0},
+    {"80030E", 10, 2, 1, 0},
+    {"800311", 10, 2, 1, 0},
+    {"800313", 10, 2, 1, 0},
+    {"800305", 10, 2, 1, 0},
+    {"8003FF", 10, 2, 1, 0},
+    {"820313010265", 10, 2, 1, 0},
+    {"82060B01FF13010257", 10, 5, 2, 0},
+    {"800607014108014FD9", 10, 5, 2, 0},
+    {"80090401500401500D", 10, 8, 3, 0},
+    {"800404", 3, 2, 1, 0},
+    {"800B01", 3, 2, 1, 0},
+    {"80150213", 4, 3, 1, 0},
+    {"82030B01FF70", 0, 0, 0, 6},
+    {"801C010830363135313433300201370701410B01FF12013915010616010AB0", 0, 0, 0, 31},
+};
+
+/* the rows of an edition: those of both ways, and those of the strict one */
 static const struct {
-    const struct row *rows;
-    size_t count;
+    const struct row *rows, *strict;
+    size_t count, strict_count;
 } by_edition[] = {
-    [ANTHERCUP_PRESENT] = {rows, sizeof rows / sizeof rows[0]},
-    [ANTHERCUP_OLD] = {old_rows, sizeof old_rows / sizeof old_rows[0]},
+    [ANTHERCUP_PRESENT] = {rows, strict_rows, sizeof rows / sizeof rows[0],
+                           sizeof strict_rows / sizeof strict_rows[0]},
+    [ANTHERCUP_OLD] = {old_rows, old_strict_rows, sizeof old_rows / sizeof old_rows[0],
+                       sizeof old_strict_rows / sizeof old_strict_rows[0]},
 };
 
 static unsigned long compared;
@@ -162,8 +228,71 @@ static size_t taken_of(const struct row *r, size_t n) {
     return r->size ? r->size : n;
 }
 
+/* document 01's types, and the old sheet's */
+static int is_listed(uint8_t edition, uint8_t type) {
+    static const uint8_t types[] = {0x01, 0x02, 0x04, 0x07, 0x0B, 0x12, 0x15, 0x16, 0x03, 0x08, 0x0D, 0x0E, 0x11, 0x13};
+    return memchr(types, type, edition == ANTHERCUP_OLD ? 8 : sizeof types) != NULL;
+}
+
+/* the place of the first type among the first n octets that is not listed, and its parameter's number; 0 for none */
+static unsigned unlisted_at(uint8_t edition, const uint8_t *o, size_t n, unsigned *parameter) {
+    *parameter = 0;
+    for (size_t at = 2; at < n && at < 2u + o[1]; at = at + 1 < n ? at + 2 + o[at + 1] : n) {
+        ++*parameter;
+        if (!is_listed(edition, o[at])) return (unsigned)at;
+    }
+    return *parameter = 0;
+}
+
+/* a row of an edition as the way has it */
+static struct row row_by(struct book b, const struct row *of) {
+    struct row r = *of;
+    uint8_t o[300];
+    unsigned parameter, at = unlisted_at(b.edition, o, taken_of(of, octets_of(of->octets, o)), &parameter);
+    if (b.way == ANTHERCUP_STRICT && at) r.number = 10, r.place = at, r.parameter = parameter, r.size = 0;
+    return r;
+}
+
 /* the bit of a word that names the edition */
 static uint64_t naming(uint8_t edition) { return (uint64_t)edition << 63; }
+
+/* a refusal's word */
+static uint64_t refusal(uint8_t edition, unsigned number, unsigned place, unsigned parameter) {
+    return number | (uint64_t)place << 8 | (uint64_t)parameter << 56 | naming(edition);
+}
+
+/* what is said of a whole message of the edition by this way: a word with nothing more, or 10 */
+static uint64_t word_by(struct book b, const uint8_t *o, size_t n) {
+    unsigned parameter, at = unlisted_at(b.edition, o, n, &parameter);
+    return b.way == ANTHERCUP_STRICT && at ? refusal(b.edition, 10, at, parameter) : naming(b.edition);
+}
+
+/* a reset; by the strict way also by the function that names none: the same word and record */
+static uint64_t reset(struct book b, uint8_t *l) {
+    uint8_t other[ANTHERCUP_LISTENER_OCTETS];
+    uint64_t answer = anthercup_reset_way(b.edition, b.way, l, sizeof other);
+    if (b.way == ANTHERCUP_STRICT) {
+        memset(other, 0xA5, sizeof other);
+        same("reset, no way named", anthercup_reset(b.edition, other, sizeof other) != answer, 0);
+        same("reset, no way named: record", (unsigned long)memcmp(l, other, sizeof other), 0);
+    }
+    return answer;
+}
+
+/* a read into a record of the right size, likewise; the area too */
+static uint64_t read_by(struct book b, const uint8_t *o, size_t n, uint8_t *draft, uint8_t *texts) {
+    uint8_t other[ANTHERCUP_DRAFT_OCTETS], area[ANTHERCUP_TEXTS_OCTETS];
+    memset(draft, 0x5A, sizeof other), memset(texts, 0x5A, sizeof area);
+    memset(other, 0x5A, sizeof other), memset(area, 0x5A, sizeof area);
+    uint64_t answer = anthercup_read_way(b.edition, b.way, o, n, draft, sizeof other, texts, sizeof area);
+    if (b.way == ANTHERCUP_STRICT) {
+        uint64_t again = anthercup_read(b.edition, o, n, other, sizeof other, area, sizeof area);
+        same("read, no way named", again != answer, 0);
+        same("read, no way named: record", (unsigned long)memcmp(draft, other, sizeof other), 0);
+        same("read, no way named: area", (unsigned long)memcmp(texts, area, sizeof area), 0);
+    }
+    return answer;
+}
 
 static void answer_is(uint8_t edition, const struct row *r, uint64_t answer) {
     same(r->octets, anthercup_number(answer), r->number);
@@ -180,39 +309,40 @@ static unsigned begun(const uint8_t *o, size_t n) {
     return count;
 }
 
-/* octets 10 to 15 of the record, after the first n octets: the parameter's number, the edition of the reset, and 0 */
-static void record_is(uint8_t edition, const struct row *r, const uint8_t *l, const uint8_t *o, size_t n,
+/* octets 10 to 15 of the record, after the first n octets: the parameter's number, edition and way of the reset, 0 */
+static void record_is(struct book b, const struct row *r, const uint8_t *l, const uint8_t *o, size_t n,
                       uint64_t answer) {
     same(r->octets, l[10], anthercup_listen_waits(answer) ? begun(o, n) : r->parameter);
-    same("the listener's edition", l[11], edition);
-    for (size_t i = 12; i < ANTHERCUP_LISTENER_OCTETS; i++) same("a listener's octets that are kept", l[i], 0);
+    same("the listener's edition", l[11], b.edition);
+    same("the listener's way", l[12], b.way);
+    for (size_t i = 13; i < ANTHERCUP_LISTENER_OCTETS; i++) same("a listener's octets that are kept", l[i], 0);
 }
 
-static void heard_in_runs(uint8_t edition, const struct row *r, const uint8_t *o, size_t n, size_t first, size_t then) {
+static void heard_in_runs(struct book b, const struct row *r, const uint8_t *o, size_t n, size_t first, size_t then) {
     uint8_t l[ANTHERCUP_LISTENER_OCTETS];
     size_t at = 0, taken = 0;
-    uint64_t answer = anthercup_reset(edition, l, sizeof l);
-    same("reset", (unsigned long)answer, (unsigned long)naming(edition));
+    uint64_t answer = reset(b, l);
+    same("reset", (unsigned long)answer, (unsigned long)naming(b.edition));
     answer = anthercup_listen(l, sizeof l, o, first);
     taken = anthercup_taken(answer);
-    record_is(edition, r, l, o, first, answer);
+    record_is(b, r, l, o, first, answer);
     for (at = first; at < n; at += then) {
         size_t run = then < n - at ? then : n - at;
         answer = anthercup_listen(l, sizeof l, o + at, run);
         taken += anthercup_taken(answer);
-        record_is(edition, r, l, o, at + run, answer);
+        record_is(b, r, l, o, at + run, answer);
     }
-    answer_is(edition, r, answer);
+    answer_is(b.edition, r, answer);
     same(r->octets, taken, taken_of(r, n));
-    answer_is(edition, r, anthercup_listen(l, sizeof l, o, 0));
+    answer_is(b.edition, r, anthercup_listen(l, sizeof l, o, 0));
 }
 
-static void all_cuttings(uint8_t edition, const struct row *r) {
+static void all_cuttings(struct book b, const struct row *r) {
     uint8_t o[300];
     size_t n = octets_of(r->octets, o);
     for (size_t first = 0; first <= n; first++)
-        heard_in_runs(edition, r, o, n, first, n - first ? n - first : 1);
-    heard_in_runs(edition, r, o, n, 0, 1);
+        heard_in_runs(b, r, o, n, first, n - first ? n - first : 1);
+    heard_in_runs(b, r, o, n, 0, 1);
 }
 
 /* the record gets this number and nothing else, 16 or 17: no octet is taken, no edition named, and it stays */
@@ -225,87 +355,117 @@ static void refused_as_it_was(uint8_t *record, size_t size, unsigned number) {
     }
 }
 
-/* a record that is in range but for its edition: heard where that is known, and else 16 */
+static int is_known(struct book b) { return b.edition <= ANTHERCUP_OLD && b.way <= ANTHERCUP_LENIENT; }
+
+static struct book book_of(const uint8_t *record) { return (struct book){record[11], record[12]}; }
+
+/* a record that is in range but for its edition and way: heard where both are known, and else 16 */
 static void in_range_but_unknown(uint8_t *record) {
     uint8_t octet = 0x80;
-    if (record[11] > ANTHERCUP_OLD) {
-        refused_as_it_was(record, ANTHERCUP_LISTENER_OCTETS, ANTHERCUP_REFUSED_EDITION);
+    if (!is_known(book_of(record))) {
+        refused_as_it_was(record, ANTHERCUP_LISTENER_OCTETS, ANTHERCUP_REFUSED_UNKNOWN);
         return;
     }
     uint64_t answer = anthercup_listen(record, ANTHERCUP_LISTENER_OCTETS, &octet, 0);
-    same("a record in range", anthercup_number(answer) < 7, 1);
+    unsigned most = record[12] == ANTHERCUP_STRICT ? 10 : 6;
+    same("a record in range", anthercup_number(answer) <= most, 1);
     same("its edition", anthercup_edition(answer), record[11]);
 }
 
-static const uint8_t some_editions[] = {0, 1, 2, 3, 127, 128, 254, 255};
+static const uint8_t some_numbers[] = {0, 1, 2, 3, 127, 128, 254, 255};
+static const uint8_t some_ways[] = {0, 1, 2, 255};
 
-/* of every size and edition; of every octet every value, beside a new listener of some editions: 17 comes before 16 */
+/* a reset to this edition and way of a record of this size: made, or 17, then 16, and as it was; `named` says whether
+ * the way is named */
+static void reset_of(struct book b, size_t size, int named) {
+    uint8_t l[64];
+    int fits = size == ANTHERCUP_LISTENER_OCTETS, made = fits && is_known(b);
+    unsigned number = fits ? ANTHERCUP_REFUSED_UNKNOWN : ANTHERCUP_REFUSED_RECORD;
+    memset(l, 0x5A, sizeof l);
+    uint64_t answer = named ? anthercup_reset_way(b.edition, b.way, l, size) : anthercup_reset(b.edition, l, size);
+    same("reset", (unsigned long)answer, made ? (unsigned long)naming(b.edition) : number);
+    for (size_t i = 0; i < sizeof l; i++) {
+        unsigned wanted = i == 11 ? b.edition : i == 12 ? b.way : 0;
+        same("a record of a reset", l[i], made && i < size ? wanted : 0x5A);
+    }
+}
+
+/* of every size, edition and way; of every octet every value, beside a new listener of some of them: 17 comes before
+ * 16; a new listener of every edition and way */
 static void records_that_are_none(void) {
     uint8_t l[64];
-    for (unsigned edition = 0; edition < 256; edition++)
+    for (unsigned x = 0; x < 256; x++)
         for (size_t size = 0; size < sizeof l; size++) {
-            memset(l, 0x5A, sizeof l);
-            uint64_t answer = anthercup_reset((uint8_t)edition, l, size);
-            int fits = size == ANTHERCUP_LISTENER_OCTETS, made = fits && edition <= ANTHERCUP_OLD;
-            unsigned number = fits ? ANTHERCUP_REFUSED_EDITION : ANTHERCUP_REFUSED_RECORD;
-            same("reset", (unsigned long)answer, made ? (unsigned long)naming((uint8_t)edition) : number);
-            for (size_t i = 0; i < sizeof l; i++)
-                same("a record of a reset", l[i], made && i < size ? (i == 11 ? edition : 0) : 0x5A);
-            if (fits) continue;
+            uint8_t number = (uint8_t)x;
+            reset_of(strict(number), size, 0);
+            reset_of(strict(number), size, 1);
+            reset_of(lenient(number), size, 1);
+            reset_of((struct book){ANTHERCUP_PRESENT, number}, size, 1);
+            reset_of((struct book){ANTHERCUP_OLD, number}, size, 1);
+            reset_of((struct book){number, number}, size, 1);
+            if (size == ANTHERCUP_LISTENER_OCTETS) continue;
             memset(l, 0, sizeof l);
-            l[11] = (uint8_t)edition;
+            l[11] = number, l[12] = some_ways[x % sizeof some_ways];
             refused_as_it_was(l, size, ANTHERCUP_REFUSED_RECORD);
         }
-    for (size_t e = 0; e < sizeof some_editions; e++)
+    for (size_t k = 0; k < sizeof some_numbers * sizeof some_ways; k++)
         for (size_t at = 0; at < ANTHERCUP_LISTENER_OCTETS; at++)
             for (unsigned v = at == 0 ? 7 : 1; v < 256; v++) {
-                if (at == 1 || at == 11) continue; /* the sum may be anything, and so may an unknown edition */
+                if (at == 1 || at == 11 || at == 12) continue; /* the sum may be anything, and so may edition and way */
                 memset(l, 0, sizeof l);
-                l[11] = some_editions[e];
+                l[11] = some_numbers[k / sizeof some_ways], l[12] = some_ways[k % sizeof some_ways];
                 l[at] = (uint8_t)v;
                 refused_as_it_was(l, ANTHERCUP_LISTENER_OCTETS, ANTHERCUP_REFUSED_RECORD);
             }
-    for (unsigned edition = 0; edition < 256; edition++) {
+    for (unsigned k = 0; k < 65536; k++) {
         memset(l, 0, sizeof l);
-        l[11] = (uint8_t)edition;
+        l[11] = (uint8_t)k, l[12] = (uint8_t)(k >> 8);
         in_range_but_unknown(l);
     }
 }
 
-/* the classes that a record of this edition may have */
-static int class_in_range(unsigned edition, unsigned class) {
-    if (edition == ANTHERCUP_PRESENT) return class <= 10;
-    if (edition == ANTHERCUP_OLD && class <= 10) return class == 0 || class == 1 || class == 3 || class == 5;
+/* the classes that a record of this edition and way may have: carried by all ways but the strict one */
+static int class_in_range(struct book b, unsigned class) {
+    if (class == 0) return b.way != ANTHERCUP_STRICT;
+    if (b.edition == ANTHERCUP_PRESENT) return class <= 10;
+    if (b.edition == ANTHERCUP_OLD && class <= 10) return class == 1 || class == 3 || class == 5;
     return class <= 14;
 }
 
-/* every class in every edition, before a length and in contents; every refusal's number in every edition, with
- * parameters that some have */
-static void codes_in_range(void) {
+/* the parameters that a refusal with this number may have, 10 not being the lenient way's in a known edition */
+static int refusal_in_range(struct book b, unsigned number, unsigned parameter) {
+    int carries = is_known(b) && b.way == ANTHERCUP_LENIENT;
+    if ((number >= 3 && number <= 5) || (number == 10 && !carries)) return parameter >= 1 && parameter <= 85;
+    return parameter == 0 && (number == 1 || number == 2 || number == 6);
+}
+
+/* a class, before a length and in contents, and a refusal's number, with parameters that some have */
+static void code_in_range(struct book b, uint8_t code) {
     static const uint8_t parameters[] = {0, 1, 85, 86};
-    for (unsigned edition = 0; edition < 256; edition++)
-        for (unsigned code = 0; code < 256; code++) {
-            uint8_t before_length[ANTHERCUP_LISTENER_OCTETS] = {3, 0, 3, 0, (uint8_t)code, 0, 0, 0, 3, 0, 1,
-                                                                (uint8_t)edition};
-            uint8_t in_contents[ANTHERCUP_LISTENER_OCTETS] = {4, 0, 4, 0, (uint8_t)code, 1, 0, 0, 0, 0, 1,
-                                                              (uint8_t)edition};
-            if (class_in_range(edition, code)) {
-                in_range_but_unknown(before_length);
-                in_range_but_unknown(in_contents);
-            } else {
-                refused_as_it_was(before_length, sizeof before_length, ANTHERCUP_REFUSED_RECORD);
-                refused_as_it_was(in_contents, sizeof in_contents, ANTHERCUP_REFUSED_RECORD);
+    uint8_t before_length[ANTHERCUP_LISTENER_OCTETS] = {3, 0, 3, 0, code, 0, 0, 0, 3, 0, 1, b.edition, b.way};
+    uint8_t in_contents[ANTHERCUP_LISTENER_OCTETS] = {4, 0, 4, 0, code, 1, 0, 0, 0, 0, 1, b.edition, b.way};
+    if (class_in_range(b, code)) {
+        in_range_but_unknown(before_length);
+        in_range_but_unknown(in_contents);
+    } else {
+        refused_as_it_was(before_length, sizeof before_length, ANTHERCUP_REFUSED_RECORD);
+        refused_as_it_was(in_contents, sizeof in_contents, ANTHERCUP_REFUSED_RECORD);
+    }
+    for (size_t i = 0; i < sizeof parameters; i++) {
+        uint8_t refused[ANTHERCUP_LISTENER_OCTETS] = {6, 0, 9, 0, 0, 0, 0, 0, 0, code, parameters[i], b.edition, b.way};
+        if (refusal_in_range(b, code, parameters[i])) in_range_but_unknown(refused);
+        else refused_as_it_was(refused, sizeof refused, ANTHERCUP_REFUSED_RECORD);
+    }
+}
+
+/* every code by every edition and some ways, and by every way in some editions */
+static void codes_in_range(void) {
+    for (unsigned x = 0; x < 256; x++)
+        for (unsigned code = 0; code < 256; code++)
+            for (size_t k = 0; k < sizeof some_ways; k++) {
+                code_in_range((struct book){(uint8_t)x, some_ways[k]}, (uint8_t)code);
+                code_in_range((struct book){some_ways[k], (uint8_t)x}, (uint8_t)code);
             }
-            for (size_t i = 0; i < sizeof parameters; i++) {
-                uint8_t refused[ANTHERCUP_LISTENER_OCTETS] = {6, 0, 9, 0, 0, 0, 0, 0, 0, (uint8_t)code, parameters[i],
-                                                              (uint8_t)edition};
-                int in_one = (code >= 3 && code <= 5) || (edition > ANTHERCUP_OLD && code == 10);
-                int good = in_one ? parameters[i] >= 1 && parameters[i] <= 85
-                                  : parameters[i] == 0 && (code == 1 || code == 2 || code == 6);
-                if (good) in_range_but_unknown(refused);
-                else refused_as_it_was(refused, sizeof refused, ANTHERCUP_REFUSED_RECORD);
-            }
-        }
 }
 
 /* by the old sheet, and by document 01 of what both editions have: may contents of this class begin so? */
@@ -323,35 +483,92 @@ static int may_stand(unsigned class, unsigned x) {
 }
 
 /* every octet in contents of every class of the old edition, and of texts in a later place too */
-static void old_contents(void) {
+static void old_contents(struct book b) {
     for (unsigned class = 0; class <= 14; class++)
-        for (unsigned x = 0; x < 256 && class_in_range(ANTHERCUP_OLD, class); x++)
+        for (unsigned x = 0; x < 256 && class_in_range(b, class); x++)
             for (uint8_t index = 0; index < (class == 11 || class == 12 ? 2 : 1); index++) {
                 uint8_t l[ANTHERCUP_LISTENER_OCTETS] = {4, 7, (uint8_t)(4 + index), 0, (uint8_t)class, 8, index, 0, 0,
-                                                        0, 1, ANTHERCUP_OLD}, octet = (uint8_t)x;
+                                                        0, 1, ANTHERCUP_OLD, b.way}, octet = (uint8_t)x;
                 uint64_t answer = anthercup_listen(l, sizeof l, &octet, 1);
                 same("an octet of the old edition", anthercup_number(answer), may_stand(class, x) ? 0 : 5);
                 same("is taken", anthercup_taken(answer), 1);
                 same("by the old edition", anthercup_edition(answer), ANTHERCUP_OLD);
+                same("and stays of its way", l[12], b.way);
             }
 }
 
-/* records that octets lead to, with every value of octet 11: an unknown edition is 16; the other edition is heard
- * where it has the class, and else 17 */
-static void other_editions(uint8_t edition, const struct row *r) {
-    uint8_t o[300];
-    size_t n = octets_of(r->octets, o);
-    for (size_t first = 0; first <= n; first++)
-        for (unsigned v = 0; v < 256; v++) {
-            uint8_t l[ANTHERCUP_LISTENER_OCTETS];
-            anthercup_reset(edition, l, sizeof l);
-            anthercup_listen(l, sizeof l, o, first);
-            l[11] = (uint8_t)v;
-            if ((l[0] == 3 || l[0] == 4) && !class_in_range(v, l[4]))
-                refused_as_it_was(l, sizeof l, ANTHERCUP_REFUSED_RECORD);
-            else
-                in_range_but_unknown(l);
+/* a record that octets led to, with another edition or way: 16 where one is unknown; else heard where it has the class
+ * and the refusal's number, and else 17 */
+static void of_another(const uint8_t *record, struct book b) {
+    uint8_t l[ANTHERCUP_LISTENER_OCTETS];
+    memcpy(l, record, sizeof l);
+    l[11] = b.edition, l[12] = b.way;
+    if (((l[0] == 3 || l[0] == 4) && !class_in_range(b, l[4])) || (l[0] == 6 && !refusal_in_range(b, l[9], l[10])))
+        refused_as_it_was(l, sizeof l, ANTHERCUP_REFUSED_RECORD);
+    else
+        in_range_but_unknown(l);
+}
+
+/* by document 01, may a parameter of this type stand in the room? */
+static int fits_room(uint8_t edition, uint8_t type, unsigned room) {
+    static const uint8_t ones[] = {0x04, 0x0B, 0x15, 0x16, 0x08, 0x11, 0x13};
+    if (type == 0x01) return room == 10 || room >= 13;
+    if (type == 0x0D && edition == ANTHERCUP_PRESENT) return room == 5 || room >= 8;
+    if (memchr(ones, type, edition == ANTHERCUP_OLD ? 4 : sizeof ones)) return room == 3 || room >= 6;
+    return room >= 3;
+}
+
+/* every type in every room, those of 1 and 2 too, to which no octets lead: by the strict way 10 comes ahead of 3 */
+static void types_in_rooms(struct book b) {
+    for (unsigned room = 1; room < 256; room++)
+        for (unsigned x = 0; x < 256; x++) {
+            uint8_t l[ANTHERCUP_LISTENER_OCTETS] = {2, 0, 2, 0, 0, 0, 0, 0, (uint8_t)room, 0, 0, b.edition, b.way};
+            uint8_t type = (uint8_t)x;
+            unsigned number = fits_room(b.edition, type, room) ? 0 : 3;
+            if (b.way == ANTHERCUP_STRICT && !is_listed(b.edition, type)) number = 10;
+            if (room < 3) l[2] = 5, l[10] = 1;
+            unsigned place = number ? l[2] : 0, parameter = number ? l[10] + 1u : 0;
+            uint64_t answer = anthercup_listen(l, sizeof l, &type, 1);
+            same("a type in a room", answer != (refusal(b.edition, number, place, parameter) | (uint64_t)1 << 40), 0);
+            same("its record", l[9], number);
         }
+}
+
+/* records that octets lead to, with every value of octet 11 and of octet 12, and with both of some */
+static void other_books(struct book b, const struct row *r) {
+    uint8_t o[300], l[ANTHERCUP_LISTENER_OCTETS];
+    size_t n = octets_of(r->octets, o);
+    for (size_t first = 0; first <= n; first++) {
+        reset(b, l);
+        anthercup_listen(l, sizeof l, o, first);
+        for (unsigned v = 0; v < 256; v++) {
+            of_another(l, (struct book){(uint8_t)v, b.way});
+            of_another(l, (struct book){b.edition, (uint8_t)v});
+        }
+        for (size_t k = 0; k < sizeof some_numbers * sizeof some_ways; k++)
+            of_another(l, (struct book){some_numbers[k / sizeof some_ways], some_ways[k % sizeof some_ways]});
+    }
+}
+
+/* a record with this parameter's number, which is in range or not: 17, then 16, or said, kept and stepped */
+static void parameter_of(const uint8_t *record, uint8_t v, int good) {
+    uint8_t l[ANTHERCUP_LISTENER_OCTETS], octet = 0x05;
+    memcpy(l, record, sizeof l);
+    l[10] = v;
+    if (!good || !is_known(book_of(l))) {
+        refused_as_it_was(l, sizeof l, good ? ANTHERCUP_REFUSED_UNKNOWN : ANTHERCUP_REFUSED_RECORD);
+        return;
+    }
+    uint64_t answer = anthercup_listen(l, sizeof l, &octet, 0);
+    same("a parameter in range", anthercup_number(answer), record[9]);
+    same("and said", anthercup_parameter(answer), record[9] ? v : 0);
+    same("and kept", l[10], v);
+    same("with its edition", l[11], anthercup_edition(answer));
+    answer = anthercup_listen(l, sizeof l, &octet, 1);
+    same("and stepped", anthercup_number(answer) == ANTHERCUP_REFUSED_RECORD, 0);
+    same("by its way", l[12], record[12]);
+    answer = anthercup_listen(l, sizeof l, &octet, 0);
+    same("and in range again", anthercup_number(answer) == ANTHERCUP_REFUSED_RECORD, 0);
 }
 
 /* records in range but for octet 10, the parameter's number: of its 256 values those from low to high are in range,
@@ -375,127 +592,147 @@ static void parameters_in_range(void) {
         {4, 1, 2, 0, 1, 0, 3, 0, 7},       {4, 1, 0, 0, 2, 1, 0, 0, 4},       {4, 1, 1, 0, 2, 1, 0, 0, 5},
         {4, 1, 1, 0, 9, 4, 9, 0, 10},      {4, 1, 2, 0, 9, 4, 9, 0, 11},      {4, 1, 84, 0, 1, 0, 0, 0, 255},
         {4, 1, 85, 0, 1, 0, 0, 0, 256},    {4, 1, 1, 0, 253, 252, 0, 0, 256}, {4, 1, 0, 0, 253, 252, 0, 0, 255},
-        /* a message; a refusal, of a parameter with 3, 4 and 5 */
+        /* a message; a refusal, of a parameter with 3, 4, 5 and 10 */
         {5, 0, 0, 0, 0, 0, 0, 0, 6},       {5, 0, 0, 0, 0, 0, 0, 0, 258},     {6, 0, 0, 0, 0, 0, 0, 1, 0},
         {6, 0, 0, 0, 0, 0, 0, 2, 1},       {6, 1, 85, 0, 0, 0, 0, 3, 2},      {6, 1, 85, 0, 0, 0, 0, 4, 257},
-        {6, 1, 85, 0, 0, 0, 0, 5, 9},      {6, 0, 0, 0, 0, 0, 0, 6, 257},
+        {6, 1, 85, 0, 0, 0, 0, 5, 9},      {6, 0, 0, 0, 0, 0, 0, 6, 257},     {6, 1, 85, 0, 0, 0, 0, 10, 2},
+        {6, 1, 85, 0, 0, 0, 0, 10, 257},
     };
-    for (size_t k = 0; k < sizeof cases / sizeof cases[0] * sizeof some_editions; k++)
-        for (unsigned v = 0; v < 256; v++) {
-            size_t i = k / sizeof some_editions;
-            uint8_t edition = some_editions[k % sizeof some_editions], class = cases[i].class;
-            if (class == 2 && edition == ANTHERCUP_OLD) class = 11;
+    for (size_t i = 0; i < sizeof cases / sizeof cases[0]; i++)
+        for (size_t k = 0; k < sizeof some_numbers * sizeof some_ways; k++) {
+            struct book b = {some_numbers[k / sizeof some_ways], some_ways[k % sizeof some_ways]};
+            uint8_t class = cases[i].class;
+            if (class == 2 && b.edition == ANTHERCUP_OLD) class = 11;
+            if (cases[i].stage == 4 && b.way == ANTHERCUP_STRICT) class = 3;
             uint8_t l[ANTHERCUP_LISTENER_OCTETS] = {cases[i].stage, 0, (uint8_t)cases[i].place,
                                                     (uint8_t)(cases[i].place >> 8), class, cases[i].length,
-                                                    cases[i].index, 0, cases[i].room, cases[i].number, (uint8_t)v,
-                                                    edition};
-            uint8_t octet = 0x05;
-            if (v < cases[i].low || v > cases[i].high) {
-                refused_as_it_was(l, sizeof l, ANTHERCUP_REFUSED_RECORD);
-                continue;
-            }
-            if (edition > ANTHERCUP_OLD) {
-                refused_as_it_was(l, sizeof l, ANTHERCUP_REFUSED_EDITION);
-                continue;
-            }
-            uint64_t answer = anthercup_listen(l, sizeof l, &octet, 0);
-            same("a parameter in range", anthercup_number(answer), cases[i].number);
-            same("and said", anthercup_parameter(answer), cases[i].number ? v : 0);
-            same("and kept", l[10], v);
-            same("with its edition", l[11], anthercup_edition(answer));
-            answer = anthercup_listen(l, sizeof l, &octet, 1);
-            same("and stepped", anthercup_number(answer) == ANTHERCUP_REFUSED_RECORD, 0);
-            answer = anthercup_listen(l, sizeof l, &octet, 0);
-            same("and in range again", anthercup_number(answer) == ANTHERCUP_REFUSED_RECORD, 0);
+                                                    cases[i].index, 0, cases[i].room, cases[i].number, 0,
+                                                    b.edition, b.way};
+            int none = cases[i].stage == 6 && !refusal_in_range(b, cases[i].number, cases[i].low);
+            for (unsigned v = 0; v < 256; v++)
+                parameter_of(l, (uint8_t)v, !none && v >= cases[i].low && v <= cases[i].high);
         }
-}
-
-/* a refusal's word */
-static uint64_t refusal(uint8_t edition, unsigned number, unsigned place, unsigned parameter) {
-    return number | (uint64_t)place << 8 | (uint64_t)parameter << 56 | naming(edition);
 }
 
 /* the whole read of each row: as the listener, but 8 at the number of octets where it waits, and 7 where octets
  * follow */
-static void read_whole(uint8_t edition, const struct row *r) {
+static void read_whole(struct book b, const struct row *r) {
     uint8_t o[300], draft[ANTHERCUP_DRAFT_OCTETS], texts[ANTHERCUP_TEXTS_OCTETS], desk[ANTHERCUP_DESK_OCTETS];
     size_t n = octets_of(r->octets, o);
-    uint64_t wanted = refusal(edition, r->number, r->place, r->parameter);
-    if (!r->number && !r->size) wanted = refusal(edition, ANTHERCUP_REFUSED_EARLY, (unsigned)n, 0);
-    if (r->size && r->size < n) wanted = refusal(edition, ANTHERCUP_REFUSED_FOLLOWED, r->size, 0);
-    uint64_t answer = anthercup_read(edition, o, n, draft, sizeof draft, texts, sizeof texts);
+    uint64_t wanted = refusal(b.edition, r->number, r->place, r->parameter);
+    if (!r->number && !r->size) wanted = refusal(b.edition, ANTHERCUP_REFUSED_EARLY, (unsigned)n, 0);
+    if (r->size && r->size < n) wanted = refusal(b.edition, ANTHERCUP_REFUSED_FOLLOWED, r->size, 0);
+    uint64_t answer = read_by(b, o, n, draft, texts);
     same(r->octets, anthercup_number(answer), anthercup_number(wanted));
     same(r->octets, anthercup_place(answer), anthercup_place(wanted));
     same(r->octets, anthercup_parameter(answer), anthercup_parameter(wanted));
-    same(r->octets, anthercup_edition(answer), edition);
-    if (!anthercup_number(answer)) same("a draft's edition", anthercup_draft_edition(draft), edition);
-    answer = anthercup_counted(edition, o, n, 0xFF);
+    same(r->octets, anthercup_edition(answer), b.edition);
+    if (!anthercup_number(answer)) same("a draft's edition", anthercup_draft_edition(draft), b.edition);
+    else
+        for (size_t i = 0; i < sizeof draft; i++) same("a draft that stays", draft[i], 0x5A);
+    answer = anthercup_counted(b.edition, b.way, o, n, 0xFF);
     same(r->octets, (unsigned long)answer, (unsigned long)wanted);
     anthercup_new_desk(desk, sizeof desk);
-    answer = anthercup_settle(edition, desk, sizeof desk, o, n);
+    answer = anthercup_settle(b.edition, b.way, desk, sizeof desk, o, n);
     same(r->octets, (unsigned long)answer, (unsigned long)wanted);
 }
 
-/* every edition at each export, with octets of all kinds: 16 alone behind 17, nothing lent changes */
-static void editions(const struct row *r) {
-    uint8_t o[300], draft[ANTHERCUP_DRAFT_OCTETS], texts[ANTHERCUP_TEXTS_OCTETS], desk[ANTHERCUP_DESK_OCTETS];
-    uint8_t part[ANTHERCUP_PART_OCTETS], was[ANTHERCUP_DRAFT_OCTETS], no_desk[ANTHERCUP_DESK_OCTETS] = {2};
+/* an accepted message of the strict way is one of the lenient way: the same word, record and area */
+static void lenient_too(uint8_t edition, const struct row *r) {
+    uint8_t o[300], drafts[2][ANTHERCUP_DRAFT_OCTETS], areas[2][ANTHERCUP_TEXTS_OCTETS];
     size_t n = octets_of(r->octets, o);
-    memset(was, 0x5A, sizeof was);
-    for (unsigned e = 2; e < 256; e++) {
-        uint8_t edition = (uint8_t)e;
-        memset(draft, 0x5A, sizeof draft), memset(texts, 0x5A, sizeof texts), memset(part, 0x5A, sizeof part);
-        memset(desk, 0, sizeof desk);
-        same("counted: 16", (unsigned long)anthercup_counted(edition, o, n, 0x02), ANTHERCUP_REFUSED_EDITION);
-        for (size_t less = 0; less < 2; less++) {
-            unsigned number = less ? ANTHERCUP_REFUSED_RECORD : ANTHERCUP_REFUSED_EDITION;
-            uint64_t answer = anthercup_read(edition, o, n, draft, sizeof draft - less, texts, sizeof texts);
-            same("read: 16", (unsigned long)answer, number);
-            answer = anthercup_caption(edition, o, n, o, n, part, sizeof part - less);
-            same("caption: 16", (unsigned long)answer, number);
-            answer = anthercup_settle(edition, desk, sizeof desk - less, o, n);
-            same("settle: 16", (unsigned long)answer, number);
+    uint64_t answer = read_by(strict(edition), o, n, drafts[0], areas[0]);
+    if (anthercup_number(answer)) return;
+    same("lenient too", read_by(lenient(edition), o, n, drafts[1], areas[1]) != answer, 0);
+    same("lenient too: draft", (unsigned long)memcmp(drafts[0], drafts[1], sizeof drafts[0]), 0);
+    same("lenient too: area", (unsigned long)memcmp(areas[0], areas[1], sizeof areas[0]), 0);
+}
+
+/* an edition or a way that there is not, or both, at each export: 16 alone behind 17, nothing lent changes */
+static void at_exports(struct book b, const uint8_t *o, size_t n) {
+    uint8_t draft[ANTHERCUP_DRAFT_OCTETS], texts[ANTHERCUP_TEXTS_OCTETS], desk[ANTHERCUP_DESK_OCTETS] = {0};
+    uint8_t part[ANTHERCUP_PART_OCTETS], was[ANTHERCUP_DRAFT_OCTETS], no_desk[ANTHERCUP_DESK_OCTETS] = {2};
+    memset(was, 0x5A, sizeof was), memset(draft, 0x5A, sizeof draft);
+    memset(texts, 0x5A, sizeof texts), memset(part, 0x5A, sizeof part);
+    uint64_t answer = anthercup_counted(b.edition, b.way, o, n, 0x02);
+    same("counted: 16", (unsigned long)answer, ANTHERCUP_REFUSED_UNKNOWN);
+    for (size_t less = 0; less < 2; less++) {
+        unsigned number = less ? ANTHERCUP_REFUSED_RECORD : ANTHERCUP_REFUSED_UNKNOWN;
+        answer = anthercup_read_way(b.edition, b.way, o, n, draft, sizeof draft - less, texts, sizeof texts);
+        same("read: 16", (unsigned long)answer, number);
+        if (b.way == ANTHERCUP_STRICT) {
+            answer = anthercup_read(b.edition, o, n, draft, sizeof draft - less, texts, sizeof texts);
+            same("read, no way named: 16", (unsigned long)answer, number);
         }
-        same("settle: 17 first", (unsigned long)anthercup_settle(edition, no_desk, sizeof no_desk, o, n),
-             ANTHERCUP_REFUSED_RECORD);
-        same("a draft that stays", (unsigned long)memcmp(draft, was, sizeof draft), 0);
-        same("texts that stay", (unsigned long)memcmp(texts, was, sizeof texts), 0);
-        same("a part that stays", (unsigned long)memcmp(part, was, sizeof part), 0);
-        for (size_t i = 0; i < sizeof desk; i++) same("a desk that stays", desk[i], 0);
+        answer = anthercup_caption(b.edition, b.way, o, n, o, n, part, sizeof part - less);
+        same("caption: 16", (unsigned long)answer, number);
+        answer = anthercup_settle(b.edition, b.way, desk, sizeof desk - less, o, n);
+        same("settle: 16", (unsigned long)answer, number);
+    }
+    answer = anthercup_settle(b.edition, b.way, no_desk, sizeof no_desk, o, n);
+    same("settle: 17 first", (unsigned long)answer, ANTHERCUP_REFUSED_RECORD);
+    same("a draft that stays", (unsigned long)memcmp(draft, was, sizeof draft), 0);
+    same("texts that stay", (unsigned long)memcmp(texts, was, sizeof texts), 0);
+    same("a part that stays", (unsigned long)memcmp(part, was, sizeof part), 0);
+    for (size_t i = 0; i < sizeof desk; i++) same("a desk that stays", desk[i], 0);
+}
+
+/* every edition that there is not by both ways and by others, both editions by some ways that there are not */
+static void unknown_ones(const struct row *r) {
+    static const uint8_t ways[] = {2, 3, 128, 255};
+    uint8_t o[300];
+    size_t n = octets_of(r->octets, o);
+    for (unsigned e = 2; e < 256; e++)
+        for (size_t k = 0; k < sizeof some_ways; k++) at_exports((struct book){(uint8_t)e, some_ways[k]}, o, n);
+    for (size_t k = 0; k < sizeof ways; k++) {
+        at_exports((struct book){ANTHERCUP_PRESENT, ways[k]}, o, n);
+        at_exports((struct book){ANTHERCUP_OLD, ways[k]}, o, n);
     }
 }
 
-/* document 02, Q-3: behind 84 parameters, carried, repeated or in turn, a fault in the 85th; a checksum is in none */
-static void last_parameter(uint8_t edition) {
-    static const char *const before[][2] = {{"050100", "050100"}, {"040150", "040150"}, {"050104", "040150"}};
+/* document 02, Q-3: behind 84 parameters, carried, repeated or in turn, a fault in the 85th; a checksum is in none. By
+ * the strict way none is carried, and an unlisted type is a fault */
+static void last_parameter(struct book b) {
+    static const char *const before[][2] = {
+        {"040150", "040150"}, {"0B01FF", "040150"}, {"050100", "050100"}, {"050104", "040150"}};
     static const struct row ends[] = {
         {"01", 3, 254, 85, 0},     {"0202", 4, 255, 85, 0},   {"02012F", 5, 256, 85, 0},
         {"020130", 0, 0, 0, 0},    {"020130FF", 6, 257, 0, 0}, {"0D", 3, 254, 85, 0},
+        {"05", 0, 0, 0, 0},
     };
-    /* the old edition carries 0DH, in any room */
-    size_t count = sizeof ends / sizeof ends[0] - (edition == ANTHERCUP_OLD);
+    size_t sorts = b.way == ANTHERCUP_STRICT ? 2 : sizeof before / sizeof before[0];
     char hex[800];
-    for (size_t sort = 0; sort < sizeof before / sizeof before[0]; sort++)
-        for (size_t i = 0; i < count; i++) {
+    for (size_t sort = 0; sort < sorts; sort++)
+        for (size_t i = 0; i < sizeof ends / sizeof ends[0]; i++) {
             struct row r = ends[i];
             strcpy(hex, "80FF");
             for (size_t k = 0; k < 84; k++) strcat(hex, before[sort][k % 2]);
             strcat(hex, ends[i].octets);
             r.octets = hex;
-            all_cuttings(edition, &r);
-            read_whole(edition, &r);
+            /* the old edition does not list 0DH: it stands in any room, or in none */
+            if (strcmp(ends[i].octets, "0D") == 0 && b.edition == ANTHERCUP_OLD)
+                r.number = r.place = r.parameter = 0;
+            r = row_by(b, &r);
+            all_cuttings(b, &r);
+            read_whole(b, &r);
         }
 }
 
-/* where the contents of a type that count stand: start and length by hand, 0 and 0 where none count */
+/* where the contents of a type that count stand: start and length by hand, 0 and 0 where none count; by the strict way
+ * the same, or 10 */
 static void counted_in(uint8_t edition, const char *octets, uint8_t type, unsigned start, unsigned length) {
     uint8_t o[300];
     size_t n = octets_of(octets, o);
-    uint64_t answer = anthercup_counted(edition, o, n, type);
-    same(octets, (unsigned long)anthercup_counts(answer), start != 0);
-    same(octets, anthercup_counted_start(answer), start);
-    same(octets, anthercup_counted_length(answer), length);
-    same(octets, answer != ((uint64_t)length << 24) + ((uint64_t)start << 40) + naming(edition), 0);
+    for (uint8_t way = 0; way <= ANTHERCUP_LENIENT; way++) {
+        uint64_t wanted = word_by((struct book){edition, way}, o, n);
+        int taken = anthercup_number(wanted) == 0;
+        uint64_t answer = anthercup_counted(edition, way, o, n, type);
+        same(octets, (unsigned long)anthercup_counts(answer), taken && start != 0);
+        same(octets, anthercup_counted_start(answer), taken ? start : 0);
+        same(octets, anthercup_counted_length(answer), taken ? length : 0);
+        if (taken) wanted += ((uint64_t)length << 24) + ((uint64_t)start << 40);
+        same(octets, answer != wanted, 0);
+    }
 }
 
 static void counted_is(const char *octets, uint8_t type, unsigned start, unsigned length) {
@@ -541,18 +778,26 @@ static void old_counts(void) {
     counted_in(ANTHERCUP_OLD, "820313010265", ANTHERCUP_PARAMETER_WAITING, 0, 0);
 }
 
-/* the caption of a message and a directory: side, start and length by hand */
+/* the caption of a message and a directory: side, start and length by hand; by the strict way the same, or 10 and the
+ * record as it was */
 static void caption_in(uint8_t edition, const char *octets, const char *directory, size_t size, int side, size_t start,
                        size_t length) {
     uint8_t o[300], part[ANTHERCUP_PART_OCTETS];
     size_t n = octets_of(octets, o);
-    memset(part, 0x5A, sizeof part);
-    uint64_t answer = anthercup_caption(edition, o, n, (const uint8_t *)directory, size, part, sizeof part);
-    same(directory, answer != naming(edition), 0);
-    same(directory, (unsigned long)anthercup_part_in_directory(part), (unsigned long)side);
-    same(directory, anthercup_part_start(part), start);
-    same(directory, anthercup_part_length(part), length);
-    for (size_t i = 1; i < 8; i++) same("a part's octets that are kept", part[i], 0);
+    for (uint8_t way = 0; way <= ANTHERCUP_LENIENT; way++) {
+        uint64_t wanted = word_by((struct book){edition, way}, o, n);
+        memset(part, 0x5A, sizeof part);
+        uint64_t answer = anthercup_caption(edition, way, o, n, (const uint8_t *)directory, size, part, sizeof part);
+        same(directory, answer != wanted, 0);
+        if (anthercup_number(wanted)) {
+            for (size_t i = 0; i < sizeof part; i++) same("a part that stays", part[i], 0x5A);
+            continue;
+        }
+        same(directory, (unsigned long)anthercup_part_in_directory(part), (unsigned long)side);
+        same(directory, anthercup_part_start(part), start);
+        same(directory, anthercup_part_length(part), length);
+        for (size_t i = 1; i < 8; i++) same("a part's octets that are kept", part[i], 0);
+    }
 }
 
 static void caption_is(const char *octets, const char *directory, size_t size, int side, size_t start, size_t length) {
@@ -589,32 +834,34 @@ static void captions(void) {
 }
 
 /* refusals as the whole read's, ahead of them 17 by the size alone, and the part's record as it was */
-static void no_captions(uint8_t edition) {
+static void no_caption(struct book b, const struct row *r) {
     uint8_t o[300], part[ANTHERCUP_PART_OCTETS + 16];
-    for (size_t i = 0; i < by_edition[edition].count; i++) {
-        const struct row *r = &by_edition[edition].rows[i];
-        size_t n = octets_of(r->octets, o);
-        for (size_t size = 0; size <= sizeof part; size++) {
-            uint64_t wanted = anthercup_counted(edition, o, n, ANTHERCUP_PARAMETER_CALLER), answer;
-            if (anthercup_number(wanted) == 0 && size == ANTHERCUP_PART_OCTETS) continue;
-            if (size != ANTHERCUP_PART_OCTETS) wanted = ANTHERCUP_REFUSED_RECORD;
-            memset(part, 0x5A, sizeof part);
-            answer = anthercup_caption(edition, o, n, o, 0, part, size);
-            same(r->octets, (unsigned long)answer, (unsigned long)wanted);
-            for (size_t k = 0; k < sizeof part; k++) same("a part that stays", part[k], 0x5A);
-        }
+    size_t n = octets_of(r->octets, o);
+    for (size_t size = 0; size <= sizeof part; size++) {
+        uint64_t wanted = anthercup_counted(b.edition, b.way, o, n, ANTHERCUP_PARAMETER_CALLER), answer;
+        if (anthercup_number(wanted) == 0 && size == ANTHERCUP_PART_OCTETS) continue;
+        if (size != ANTHERCUP_PART_OCTETS) wanted = ANTHERCUP_REFUSED_RECORD;
+        memset(part, 0x5A, sizeof part);
+        answer = anthercup_caption(b.edition, b.way, o, n, o, 0, part, size);
+        same(r->octets, (unsigned long)answer, (unsigned long)wanted);
+        for (size_t k = 0; k < sizeof part; k++) same("a part that stays", part[k], 0x5A);
     }
 }
 
-/* document 01's notices on a desk */
+/* document 01's notices on a desk; by the strict way the same, or 10 and the desk as it was */
 static void notice_in(uint8_t edition, const char *octets, int waiting, unsigned lamp) {
     uint8_t o[300], desk[ANTHERCUP_DESK_OCTETS];
     size_t n = octets_of(octets, o);
-    same("new desk", (unsigned long)anthercup_new_desk(desk, sizeof desk), 0);
-    same(octets, (unsigned long)anthercup_settle(edition, desk, sizeof desk, o, n), (unsigned long)naming(edition));
-    same(octets, (unsigned long)anthercup_waiting(desk), (unsigned long)waiting);
-    same(octets, anthercup_lamp(desk), lamp);
-    for (size_t i = 3; i < sizeof desk; i++) same("places that stay", desk[i], 0);
+    for (uint8_t way = 0; way <= ANTHERCUP_LENIENT; way++) {
+        uint64_t wanted = word_by((struct book){edition, way}, o, n);
+        int taken = anthercup_number(wanted) == 0;
+        same("new desk", (unsigned long)anthercup_new_desk(desk, sizeof desk), 0);
+        uint64_t answer = anthercup_settle(edition, way, desk, sizeof desk, o, n);
+        same(octets, (unsigned long)answer, (unsigned long)wanted);
+        same(octets, (unsigned long)anthercup_waiting(desk), (unsigned long)(taken ? waiting : -1));
+        same(octets, anthercup_lamp(desk), taken ? lamp : ANTHERCUP_LAMP_UNKNOWN);
+        for (size_t i = 3; i < sizeof desk; i++) same("places that stay", desk[i], 0);
+    }
 }
 
 static void notice_is(const char *octets, int waiting, unsigned lamp) {
@@ -631,15 +878,16 @@ static int places_good(const uint8_t *desk) {
     return 1;
 }
 
-/* records of every size around the right one; of desks every value of every octet beside a desk of which nothing is
- * known, and beside one that is full, by some editions: 17 comes before 16, and a notice of the old edition that says
- * 13H changes nothing */
-static void other_records(void) {
-    uint8_t o[] = {0x82, 3, 0x13, 1, 2, 0x65}, texts[ANTHERCUP_TEXTS_OCTETS];
-    uint8_t record[ANTHERCUP_DRAFT_OCTETS + 16], before[sizeof record];
-    for (size_t size = 0; size < sizeof record; size++) {
+/* records of every size around the right one */
+static void other_sizes(void) {
+    uint8_t o[] = {0x82, 3, 0x13, 1, 2, 0x65}, texts[ANTHERCUP_TEXTS_OCTETS], record[ANTHERCUP_DRAFT_OCTETS + 16];
+    for (size_t k = 0; k < 3 * sizeof record; k++) {
+        size_t size = k / 3;
+        uint8_t way = k % 3 == 2 ? ANTHERCUP_LENIENT : ANTHERCUP_STRICT;
         memset(record, 0x5A, sizeof record);
         uint64_t answer = anthercup_read(ANTHERCUP_PRESENT, o, sizeof o, record, size, texts, sizeof texts);
+        if (k % 3)
+            answer = anthercup_read_way(ANTHERCUP_PRESENT, way, o, sizeof o, record, size, texts, sizeof texts);
         same("the size of a draft", (unsigned long)answer,
              size == ANTHERCUP_DRAFT_OCTETS ? 0 : ANTHERCUP_REFUSED_RECORD);
         for (size_t i = size == ANTHERCUP_DRAFT_OCTETS ? size : 0; i < sizeof record; i++)
@@ -647,43 +895,58 @@ static void other_records(void) {
         memset(record, 0, sizeof record);
         if (size >= 64) continue;
         unsigned wanted = size == ANTHERCUP_DESK_OCTETS ? 0 : ANTHERCUP_REFUSED_RECORD;
-        answer = anthercup_settle(ANTHERCUP_PRESENT, record, size, o, sizeof o);
+        answer = anthercup_settle(ANTHERCUP_PRESENT, way, record, size, o, sizeof o);
         same("the size of a desk", anthercup_number(answer), wanted);
         same("the size of a new desk", anthercup_number(anthercup_new_desk(record, size)), wanted);
     }
+}
+
+/* a notice with 13H on a desk's record: 17, then 16, then 10 where it is not listed; carried, it changes nothing */
+static void desk_by(struct book b, uint8_t *desk) {
+    uint8_t o[] = {0x82, 3, 0x13, 1, 2, 0x65}, before[ANTHERCUP_DESK_OCTETS];
+    int good = desk[0] <= 1 && (desk[0] == 1 || desk[1] == 0) && desk[2] <= 2 && desk[3] == 0 && places_good(desk);
+    uint64_t wanted = is_known(b) ? word_by(b, o, sizeof o) : ANTHERCUP_REFUSED_UNKNOWN;
+    if (!good) wanted = ANTHERCUP_REFUSED_RECORD;
+    memcpy(before, desk, sizeof before);
+    uint64_t answer = anthercup_settle(b.edition, b.way, desk, sizeof before, o, sizeof o);
+    same("a desk's codes", (unsigned long)answer, (unsigned long)wanted);
+    if (anthercup_number(wanted) == 0 && b.edition == ANTHERCUP_PRESENT)
+        same("waiting", (unsigned long)anthercup_waiting(desk), 2);
+    else
+        same("a desk that stays", (unsigned long)memcmp(before, desk, sizeof before), 0);
+}
+
+/* every value of every octet beside a desk of which nothing is known, and beside one that is full */
+static void other_desks(void) {
     for (unsigned full = 0; full < 2; full++)
         for (size_t at = 0; at < ANTHERCUP_DESK_OCTETS; at++)
-            for (unsigned k = 0; k < 256 * sizeof some_editions; k++) {
-                uint8_t desk[ANTHERCUP_DESK_OCTETS] = {(uint8_t)full, full ? 255 : 0, full ? 2 : 0, 0};
-                uint8_t edition = some_editions[k / 256];
-                for (unsigned i = 0; i < ANTHERCUP_MOST_PLACES; i++) desk[4 + 3 * i] = (uint8_t)(full ? i + 2 : 0);
-                desk[at] = (uint8_t)k;
-                int good = desk[0] <= 1 && (desk[0] == 1 || desk[1] == 0) && desk[2] <= 2 && desk[3] == 0
-                        && places_good(desk);
-                uint64_t wanted = edition > ANTHERCUP_OLD ? ANTHERCUP_REFUSED_EDITION : naming(edition);
-                memcpy(before, desk, sizeof desk);
-                uint64_t answer = anthercup_settle(edition, desk, sizeof desk, o, sizeof o);
-                same("a desk's codes", (unsigned long)answer,
-                     good ? (unsigned long)wanted : ANTHERCUP_REFUSED_RECORD);
-                if (good && edition == ANTHERCUP_PRESENT)
-                    same("waiting", (unsigned long)anthercup_waiting(desk), 2);
-                else
-                    same("a desk that stays", (unsigned long)memcmp(before, desk, sizeof desk), 0);
-            }
+            for (unsigned v = 0; v < 256; v++)
+                for (size_t k = 0; k < sizeof some_numbers * sizeof some_ways; k++) {
+                    uint8_t desk[ANTHERCUP_DESK_OCTETS] = {(uint8_t)full, full ? 255 : 0, full ? 2 : 0, 0};
+                    for (unsigned i = 0; i < ANTHERCUP_MOST_PLACES; i++) desk[4 + 3 * i] = (uint8_t)(full ? i + 2 : 0);
+                    desk[at] = (uint8_t)v;
+                    desk_by((struct book){some_numbers[k / sizeof some_ways], some_ways[k % sizeof some_ways]}, desk);
+                }
 }
 
 /* document 02, Q-6: a notice with a state and a reference, and the lamp on where it is asked for */
-static uint64_t about_in(uint8_t edition, uint8_t *desk, uint8_t state, unsigned reference, int lamp) {
+static uint64_t about_by(struct book b, uint8_t *desk, uint8_t state, unsigned reference, int lamp) {
     uint8_t o[] = {0x82, 5, 0x0D, 3, state, (uint8_t)(reference >> 8), (uint8_t)reference, 0x0B, 1, 0xFF, 0}, sum = 0;
     size_t n = lamp ? 10 : 7;
     o[1] = (uint8_t)(n - 2);
     for (size_t i = 0; i < n; i++) sum = (uint8_t)(sum + o[i]);
     o[n] = (uint8_t)(0 - sum);
-    return anthercup_settle(edition, desk, ANTHERCUP_DESK_OCTETS, o, n + 1);
+    return anthercup_settle(b.edition, b.way, desk, ANTHERCUP_DESK_OCTETS, o, n + 1);
 }
 
+/* in the present edition both ways settle it alike */
 static uint64_t about(uint8_t *desk, uint8_t state, unsigned reference, int lamp) {
-    return about_in(ANTHERCUP_PRESENT, desk, state, reference, lamp);
+    uint8_t other[ANTHERCUP_DESK_OCTETS];
+    memcpy(other, desk, sizeof other);
+    uint64_t answer = about_by(strict(ANTHERCUP_PRESENT), desk, state, reference, lamp);
+    same("lenient too", about_by(lenient(ANTHERCUP_PRESENT), other, state, reference, lamp) != answer, 0);
+    same("lenient too: desk", (unsigned long)memcmp(desk, other, sizeof other), 0);
+    return answer;
 }
 
 static void holds(const uint8_t *desk, unsigned place, int32_t reference) {
@@ -739,38 +1002,55 @@ static void places(void) {
     same("and none again", (unsigned long)about(desk, 0xFF, 107, 0), ANTHERCUP_REFUSED_NO_PLACE);
 }
 
-/* of the old edition a reference is carried: a full desk refuses none, its places stay, and the lamp is set */
+/* by the old edition a reference is carried: a full desk refuses none, its places stay, and the lamp is set; by the
+ * strict way it is refused, and nothing is set */
 static void no_references(void) {
     uint8_t desk[ANTHERCUP_DESK_OCTETS], full[ANTHERCUP_DESK_OCTETS];
+    uint64_t unlisted = refusal(ANTHERCUP_OLD, 10, 2, 1);
     anthercup_new_desk(desk, sizeof desk);
     for (unsigned i = 0; i < ANTHERCUP_MOST_PLACES; i++) about(desk, 0xFF, 100 + i, 0);
     memcpy(full, desk, sizeof full);
     for (unsigned reference = 99; reference < 118; reference++)
         for (unsigned state = 0; state < 256; state++) {
-            uint64_t answer = about_in(ANTHERCUP_OLD, desk, (uint8_t)state, reference, 0);
+            uint64_t answer = about_by(lenient(ANTHERCUP_OLD), desk, (uint8_t)state, reference, 0);
             same("old: no reference", (unsigned long)answer, (unsigned long)naming(ANTHERCUP_OLD));
+            answer = about_by(strict(ANTHERCUP_OLD), desk, (uint8_t)state, reference, state % 2);
+            same("old, strict: unlisted", (unsigned long)answer, (unsigned long)unlisted);
             same("old: all stay", (unsigned long)memcmp(full, desk, sizeof full), 0);
         }
-    about_in(ANTHERCUP_OLD, desk, 0x00, 100, 1);
+    about_by(lenient(ANTHERCUP_OLD), desk, 0x00, 100, 1);
     same("old: the lamp", anthercup_lamp(desk), ANTHERCUP_LAMP_ON);
     full[2] = ANTHERCUP_LAMP_ON;
     same("old: nothing else", (unsigned long)memcmp(full, desk, sizeof full), 0);
 }
 
-int main(void) {
-    for (uint8_t edition = 0; edition <= ANTHERCUP_OLD; edition++) {
-        for (size_t i = 0; i < by_edition[edition].count; i++) {
-            all_cuttings(edition, &by_edition[edition].rows[i]);
-            read_whole(edition, &by_edition[edition].rows[i]);
-            other_editions(edition, &by_edition[edition].rows[i]);
-            editions(&by_edition[edition].rows[i]);
-        }
-        last_parameter(edition);
-        no_captions(edition);
+/* a row through all exports by one edition and way */
+static void one_row(struct book b, const struct row *r) {
+    all_cuttings(b, r);
+    read_whole(b, r);
+    other_books(b, r);
+    no_caption(b, r);
+    lenient_too(b.edition, r);
+}
+
+static void all_rows(struct book b) {
+    for (size_t i = 0; i < by_edition[b.edition].count; i++) {
+        struct row r = row_by(b, &by_edition[b.edition].rows[i]);
+        one_row(b, &r);
+        if (b.way == ANTHERCUP_LENIENT) unknown_ones(&r);
     }
+    for (size_t i = 0; i < by_edition[b.edition].strict_count && b.way == ANTHERCUP_STRICT; i++)
+        one_row(b, &by_edition[b.edition].strict[i]);
+    last_parameter(b);
+    types_in_rooms(b);
+}
+
+int main(void) {
+    for (size_t i = 0; i < sizeof books / sizeof books[0]; i++) all_rows(books[i]);
     records_that_are_none();
     codes_in_range();
-    old_contents();
+    old_contents(strict(ANTHERCUP_OLD));
+    old_contents(lenient(ANTHERCUP_OLD));
     parameters_in_range();
     notice_is("82030B01FF70", -1, ANTHERCUP_LAMP_ON);
     notice_is("82030B01006F", -1, ANTHERCUP_LAMP_OFF);
@@ -785,7 +1065,8 @@ int main(void) {
     counts();
     old_counts();
     captions();
-    other_records();
+    other_sizes();
+    other_desks();
     references();
     places();
     no_references();

@@ -1,8 +1,8 @@
 /* The deepest message, 85 parameters in 258 octets, on a painted stack, by each
- * edition: read, settled, asked for what counts and for its caption, and heard;
- * the deepest octet touched by each call is printed. More than the header says
- * ends it with status 1: so it does where header and contents are no longer one
- * loop, since each parameter then costs stack of its own. */
+ * edition and way: read, settled, asked for what counts and for its caption, and
+ * heard; the deepest octet touched by each call is printed. More than the header
+ * says ends it with status 1: so it does where header and contents are no longer
+ * one loop, since each parameter then costs stack of its own. */
 #include <stdio.h>
 #include <string.h>
 
@@ -14,18 +14,20 @@ static uint8_t o[ANTHERCUP_MESSAGE_OCTETS], draft[ANTHERCUP_DRAFT_OCTETS],
     texts[ANTHERCUP_TEXTS_OCTETS], desk[ANTHERCUP_DESK_OCTETS],
     listener[ANTHERCUP_LISTENER_OCTETS], part[ANTHERCUP_PART_OCTETS];
 
-/* L is 255: carried texts of one octet; the checksum last */
-static size_t message(uint8_t type)
+/* L is 255: texts of one octet, by the lenient way carried ones, by the strict
+ * way first called numbers; the checksum last */
+static size_t message(uint8_t type, uint8_t way)
 {
+    int carried = way == ANTHERCUP_LENIENT;
     uint8_t sum = 0;
     size_t n = 0;
 
     o[n++] = type;
     o[n++] = 255;
     for (unsigned i = 0; i < ANTHERCUP_MOST_ENTRIES; i++) {
-        o[n++] = 0x60;
+        o[n++] = carried ? 0x60 : ANTHERCUP_PARAMETER_FIRST_CALLED;
         o[n++] = 1;
-        o[n++] = (uint8_t)i;
+        o[n++] = (uint8_t)(carried ? i : '0' + i % 10);
     }
     for (size_t i = 0; i < n; i++)
         sum = (uint8_t)(sum + o[i]);
@@ -36,9 +38,9 @@ static size_t message(uint8_t type)
 /* a call whose caller, 7, stands last, and whose directory has a line for it */
 static const uint8_t line[] = {'7', '=', 'A', 'n', 'n'};
 
-static size_t called(void)
+static size_t called(uint8_t way)
 {
-    size_t n = message(ANTHERCUP_CALL);
+    size_t n = message(ANTHERCUP_CALL, way);
 
     o[n - 1] = (uint8_t)(o[n - 1] + o[n - 4] - ANTHERCUP_PARAMETER_CALLER
                          + o[n - 2] - '7');
@@ -76,17 +78,17 @@ static int failed(const char *what, uint64_t answer)
 
 /* Each call is made between painting and looking, so that nothing else is
  * measured. */
-static int by_edition(uint8_t edition)
+static int by(uint8_t edition, uint8_t way)
 {
-    size_t n = message(ANTHERCUP_NOTICE), read, settle, listen, counted,
+    size_t n = message(ANTHERCUP_NOTICE, way), read, settle, listen, counted,
            caption;
     uint64_t answer;
 
     if (n != ANTHERCUP_MESSAGE_OCTETS)
         return 1;
     paint();
-    answer = anthercup_read(edition, o, n, draft, sizeof draft, texts,
-                            sizeof texts);
+    answer = anthercup_read_way(edition, way, o, n, draft, sizeof draft, texts,
+                                sizeof texts);
     read = touched();
     if (anthercup_number(answer)
         || anthercup_size(answer) != ANTHERCUP_MOST_ENTRIES
@@ -96,46 +98,49 @@ static int by_edition(uint8_t edition)
         || anthercup_draft_edition(draft) != edition)
         return failed("entries", answer);
     for (unsigned i = 0; i < ANTHERCUP_MOST_ENTRIES; i++)
-        if (*anthercup_entry_text(draft, i, texts) != i)
+        if (*anthercup_entry_text(draft, i, texts) != o[4 + 3 * i])
             return failed("text", answer);
 
     anthercup_new_desk(desk, sizeof desk);
     paint();
-    answer = anthercup_settle(edition, desk, sizeof desk, o, n);
+    answer = anthercup_settle(edition, way, desk, sizeof desk, o, n);
     settle = touched();
     if (anthercup_number(answer))
         return failed("settle", answer);
 
     paint();
-    answer = anthercup_counted(edition, o, n, ANTHERCUP_PARAMETER_USER);
+    answer = anthercup_counted(edition, way, o, n, ANTHERCUP_PARAMETER_USER);
     counted = touched();
     if (anthercup_number(answer) || anthercup_counts(answer))
         return failed("counted", answer);
 
-    n = called();
+    n = called(way);
     paint();
-    answer = anthercup_caption(edition, o, n, line, sizeof line, part,
+    answer = anthercup_caption(edition, way, o, n, line, sizeof line, part,
                                sizeof part);
     caption = touched();
     if (anthercup_number(answer) || anthercup_part_length(part) != 3)
         return failed("caption", answer);
-    n = message(ANTHERCUP_NOTICE);
+    n = message(ANTHERCUP_NOTICE, way);
 
-    anthercup_reset(edition, listener, sizeof listener);
+    anthercup_reset_way(edition, way, listener, sizeof listener);
     paint();
     answer = anthercup_listen(listener, sizeof listener, o, n);
     listen = touched();
     if (anthercup_size(answer) != n)
         return failed("listen", answer);
 
-    printf("stack: edition %u, 258 octets, 85 parameters: read %zu octets of "
-           "stack, settle %zu, counted %zu, caption %zu, listen %zu\n",
-           edition, read, settle, counted, caption, listen);
+    printf("stack: edition %u way %u, 258 octets, 85 parameters: read %zu "
+           "octets of stack, settle %zu, counted %zu, caption %zu, listen "
+           "%zu\n", edition, way, read, settle, counted, caption, listen);
     return read > WANTED || settle > WANTED || counted > WANTED
         || caption > WANTED || listen > WANTED;
 }
 
 int main(void)
 {
-    return by_edition(ANTHERCUP_PRESENT) || by_edition(ANTHERCUP_OLD);
+    return by(ANTHERCUP_PRESENT, ANTHERCUP_STRICT)
+        || by(ANTHERCUP_PRESENT, ANTHERCUP_LENIENT)
+        || by(ANTHERCUP_OLD, ANTHERCUP_STRICT)
+        || by(ANTHERCUP_OLD, ANTHERCUP_LENIENT);
 }

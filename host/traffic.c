@@ -1,14 +1,17 @@
-/* Traffic through the archive and the second reader in one process, of both editions (document 02, Q-5), now and then
- * of one and judged by the other: each message is heard whole, octet by octet and in runs of random cuts, and every
- * answer, place, parameter, size, edition and count of octets taken is held to what the second reader says of the
- * octets offered so far. Records are handed back after every call, the parameters begun in them held to the second
- * reader too, and their edition to that of the reset; records with another parameter's number or another edition, and
- * records of random octets, are refused with 17 or 16 as they were, or are stepped, as the header says of them. Each
- * message is read whole, with areas on both sides of what its texts need and records of other sizes: every entry, every
- * text and all that must stay. Where what counts stands is asked for some types, and the caption with directories of
- * many kinds. Each is settled on a desk, twice, and so is a history of messages about a few references, of which the
- * last word on each is kept here too. Editions that there are not are named at every export. Messages with dates at the
- * limits of their months follow. Says how many answers it compared; a difference ends it with status 1. */
+/* Traffic through the archive and the second reader in one process, of both editions (document 02, Q-5) and for both
+ * ways (Q-11), now and then built for one and judged by another: each message is heard whole, octet by octet and in
+ * runs of random cuts, and every answer, place, parameter, size, edition and count of octets taken is held to what the
+ * second reader says of the octets offered so far. Records are handed back after every call, the parameters begun in
+ * them held to the second reader too, and their edition and way to those of the reset; records with another
+ * parameter's number, edition or way, and records of random octets, are refused with 17 or 16 as they were, or are
+ * stepped, as the header says of them. Each message is read whole, with areas on both sides of what its texts need and
+ * records of other sizes: every entry, every text and all that must stay. Where what counts stands is asked for some
+ * types, and the caption with directories of many kinds. Each is settled on a desk, twice, and so is a history of
+ * messages about a few references, of which the last word on each is kept here too. What the strict way accepts is
+ * read, asked for and settled by the lenient one too, with the same words, records and areas. The calls that name no
+ * way are made in turn with those that are told the strict one. Editions and ways that there are not are named at
+ * every export. Messages with dates at the limits of their months follow. Says how many answers it compared; a
+ * difference ends it with status 1. */
 #include <stdio.h>
 #include <stdlib.h>
 #include <string.h>
@@ -25,8 +28,15 @@ static unsigned long in_first, in_later, in_last;
 /* records that octets did not lead to: heard, refused with 16, refused with 17 */
 static unsigned long records[3];
 
-/* messages judged by each edition, and those of them that are messages */
-static unsigned long judged[2], messages_of[2];
+/* what a call is told */
+struct book {
+    uint8_t edition, way;
+};
+
+/* by edition and way: messages judged, those of them that are messages, and those refused with 10 */
+static struct {
+    unsigned long judged, messages, unlisted;
+} by_book[2][2];
 
 static void differ(const char *what, const uint8_t *o, size_t n, unsigned long got, unsigned long wanted) {
     printf("traffic: %s: got %lu, wanted %lu, after", what, got, wanted);
@@ -69,10 +79,45 @@ static struct second_verdict no_record(void) {
     return v;
 }
 
-/* an edition, each as often as the other; one that there is not */
-static uint8_t either_edition(struct traffic *t) { return (uint8_t)traffic_number(t, 2); }
-static uint8_t unknown_edition(struct traffic *t) {
-    return (uint8_t)(traffic_number(t, 2) ? 2 + traffic_number(t, 2) : 2 + traffic_number(t, 254));
+/* an edition and a way, each as often as the others */
+static struct book any_book(struct traffic *t) {
+    uint32_t k = traffic_number(t, 4);
+    return (struct book){(uint8_t)(k / 2), (uint8_t)(k % 2)};
+}
+
+/* the other edition, the other way, or both */
+static struct book another_book(struct traffic *t, struct book b) {
+    uint32_t k = traffic_number(t, 3);
+    if (k != 1) b.edition = (uint8_t)(1 - b.edition);
+    if (k != 0) b.way = (uint8_t)(1 - b.way);
+    return b;
+}
+
+/* an edition or a way that there is not, or both */
+static struct book unknown_book(struct traffic *t) {
+    struct book b = any_book(t);
+    uint8_t x = (uint8_t)(traffic_number(t, 2) ? 2 + traffic_number(t, 2) : 2 + traffic_number(t, 254));
+    uint32_t k = traffic_number(t, 3);
+    if (k != 1) b.edition = x;
+    if (k != 0) b.way = x;
+    return b;
+}
+
+static int is_known(struct book b) { return b.edition <= ANTHERCUP_OLD && b.way <= ANTHERCUP_LENIENT; }
+
+static struct book book_of(const uint8_t *l) { return (struct book){l[11], l[12]}; }
+
+/* the strict way, half of the time by the function that names none */
+static uint64_t reset(struct traffic *t, struct book b, uint8_t *l, size_t size) {
+    if (b.way == ANTHERCUP_STRICT && traffic_number(t, 2)) return anthercup_reset(b.edition, l, size);
+    return anthercup_reset_way(b.edition, b.way, l, size);
+}
+
+static uint64_t read_by(struct traffic *t, struct book b, const uint8_t *o, size_t n, uint8_t *draft, size_t draft_len,
+                        uint8_t *texts, size_t area) {
+    if (b.way == ANTHERCUP_STRICT && traffic_number(t, 2))
+        return anthercup_read(b.edition, o, n, draft, draft_len, texts, area);
+    return anthercup_read_way(b.edition, b.way, o, n, draft, draft_len, texts, area);
 }
 
 /* by the header, of a record that is in range but perhaps for its parameter's number */
@@ -87,37 +132,38 @@ static int parameter_in_range(const uint8_t *l) {
     }
 }
 
-/* by the header, the classes of contents that a record of this edition may have */
-static int class_in_range(uint8_t edition, uint8_t class) {
-    if (edition == ANTHERCUP_PRESENT) return class <= 10;
-    if (edition == ANTHERCUP_OLD && class <= 10) return class == 0 || class == 1 || class == 3 || class == 5;
+/* by the header, the classes of contents that a record of this edition and way may have */
+static int class_in_range(struct book b, uint8_t class) {
+    if (class == 0) return b.way != ANTHERCUP_STRICT;
+    if (b.edition == ANTHERCUP_PRESENT) return class <= 10;
+    if (b.edition == ANTHERCUP_OLD && class <= 10) return class == 1 || class == 3 || class == 5;
     return class <= 14;
 }
 
-/* by the header, the numbers that a refusal in a record of this edition may have */
-static int number_in_range(uint8_t edition, uint8_t number) {
-    return (number >= 1 && number <= 6) || (number == 10 && edition > ANTHERCUP_OLD);
+/* by the header, the numbers that a refusal in a record of this edition and way may have */
+static int number_in_range(struct book b, uint8_t number) {
+    return (number >= 1 && number <= 6) || (number == 10 && !(is_known(b) && b.way == ANTHERCUP_LENIENT));
 }
 
 static int among(unsigned low, unsigned high, unsigned x) { return low <= x && x <= high; }
 
-/* by the header, a whole record, whatever its edition */
+/* by the header, a whole record, whatever its edition and way */
 static int in_range(const uint8_t *l) {
     unsigned octets = l[2] + 256u * l[3], room = l[8];
-    int inner = l[4] || l[5] || l[6] || l[7], kept = l[12] || l[13] || l[14] || l[15];
+    int inner = l[4] || l[5] || l[6] || l[7], kept = l[13] || l[14] || l[15];
     if (kept || !parameter_in_range(l)) return 0;
     switch (l[0]) {
     case 0:
     case 1: return !inner && octets == l[0] && !l[8] && !l[9];
     case 2: return !inner && !l[9] && among(5, 257, octets + room);
     case 3:
-        return !l[5] && !l[6] && !l[7] && !l[9] && class_in_range(l[11], l[4]) && room >= 1
+        return !l[5] && !l[6] && !l[7] && !l[9] && class_in_range(book_of(l), l[4]) && room >= 1
             && among(6, 258, octets + room);
     case 4:
-        return !l[9] && class_in_range(l[11], l[4]) && l[6] < l[5]
+        return !l[9] && class_in_range(book_of(l), l[4]) && l[6] < l[5]
             && among(5u + l[6], 257u + l[6], octets + l[5] + room);
     case 5: return !inner && !l[1] && !l[8] && !l[9] && among(6, 258, octets);
-    case 6: return !inner && !l[1] && !l[8] && number_in_range(l[11], l[9]) && octets <= 257;
+    case 6: return !inner && !l[1] && !l[8] && number_in_range(book_of(l), l[9]) && octets <= 257;
     default: return 0;
     }
 }
@@ -125,10 +171,10 @@ static int in_range(const uint8_t *l) {
 /* what a record gets at once: 17, 16, or 0 where it is heard */
 static unsigned refused_record(const uint8_t *l) {
     if (!in_range(l)) return ANTHERCUP_REFUSED_RECORD;
-    return l[11] > ANTHERCUP_OLD ? ANTHERCUP_REFUSED_EDITION : 0;
+    return is_known(book_of(l)) ? 0 : ANTHERCUP_REFUSED_UNKNOWN;
 }
 
-/* a record gets 17 or 16 alone, and stays; or it is heard by its edition, and stays of it and in range */
+/* a record gets 17 or 16 alone, and stays; or it is heard by its edition and way, and stays of them and in range */
 static void heard_or_refused(const uint8_t *o, size_t n, uint8_t *l, const uint8_t *octets, size_t run) {
     uint8_t before[ANTHERCUP_LISTENER_OCTETS];
     unsigned number = refused_record(l);
@@ -140,9 +186,11 @@ static void heard_or_refused(const uint8_t *o, size_t n, uint8_t *l, const uint8
         same("a record that is refused: stays", o, n, (unsigned long)memcmp(l, before, sizeof before), 0);
         return;
     }
-    same("a record that is heard", o, n, anthercup_number(answer) <= 6, 1);
+    number = anthercup_number(answer);
+    same("a record that is heard", o, n, number <= 6 || (number == 10 && before[12] == ANTHERCUP_STRICT), 1);
     same("a record that is heard: named", o, n, anthercup_edition(answer), before[11]);
     same("a record that is heard: its edition", o, n, l[11], before[11]);
+    same("a record that is heard: its way", o, n, l[12], before[12]);
     same("a record that is heard: in range", o, n, refused_record(l), 0);
 }
 
@@ -163,40 +211,43 @@ static void another_parameter(struct traffic *t, const uint8_t *o, size_t n, con
         return;
     }
     begun = before[10] + (before[0] == 2 ? 1u : 0u);
-    if (!anthercup_listen_waits(answer) && (number < 3 || number > 5)) begun = 0;
+    if (!anthercup_listen_waits(answer) && (number < 3 || number > 5) && number != 10) begun = 0;
     same("another parameter: kept", o, n, l[10], begun);
     same("another parameter: said", o, n, anthercup_parameter(answer), number ? begun : 0);
     same("another parameter: in range", o, n, (unsigned long)parameter_in_range(l), 1);
 }
 
-/* a record after o[0..n) with another edition, the other one or an unknown one */
-static void another_edition(struct traffic *t, const uint8_t *o, size_t n, const uint8_t *record) {
+/* a record after o[0..n) with another edition or way, the other one or an unknown one */
+static void of_another(struct traffic *t, const uint8_t *o, size_t n, const uint8_t *record) {
     uint8_t l[ANTHERCUP_LISTENER_OCTETS], octets[4];
+    struct book b = traffic_number(t, 2) ? another_book(t, book_of(record)) : unknown_book(t);
     memcpy(l, record, sizeof l);
-    l[11] = traffic_number(t, 2) ? (uint8_t)(1 - l[11]) : unknown_edition(t);
+    l[11] = b.edition, l[12] = b.way;
     for (size_t i = 0; i < sizeof octets; i++) octets[i] = (uint8_t)traffic_number(t, 256);
     heard_or_refused(o, n, l, octets, traffic_number(t, sizeof octets + 1));
 }
 
-static void in_runs(struct traffic *t, uint8_t edition, const uint8_t *o, size_t n, struct second_answer whole,
+static void in_runs(struct traffic *t, struct book b, const uint8_t *o, size_t n, struct second_answer whole,
                     uint32_t most) {
     uint8_t l[ANTHERCUP_LISTENER_OCTETS];
     size_t at = 0, taken = 0;
     memset(l, 0x5A, sizeof l);
-    same("reset", o, 0, (unsigned long)anthercup_reset(edition, l, sizeof l), word_of(0, 0, 0, whole.edition));
+    same("reset", o, 0, (unsigned long)reset(t, b, l, sizeof l), word_of(0, 0, 0, whole.edition));
     for (;;) {
         size_t run = most ? traffic_number(t, most + 1) : n;
         if (run > n - at) run = n - at;
         uint64_t answer = anthercup_listen(l, sizeof l, o + at, run);
         at += run;
         taken += anthercup_taken(answer);
-        struct second_answer s = traffic_number(t, 32) ? at_cut(whole, at) : second_listen(edition, o, at);
+        struct second_answer s = traffic_number(t, 32) ? at_cut(whole, at) : second_listen(b.edition, b.way, o, at);
         as_second(o, at, s, answer, taken);
-        same("record: parameter", o, at, l[10], s.answer == SECOND_WAITS ? second_begun(edition, o, at) : s.parameter);
-        same("record: edition", o, at, l[11], edition);
-        same("record: kept", o, at, (unsigned long)(l[12] | l[13] | l[14] | l[15]), 0);
+        size_t begun = s.answer == SECOND_WAITS ? second_begun(b.edition, o, at) : s.parameter;
+        same("record: parameter", o, at, l[10], begun);
+        same("record: edition", o, at, l[11], b.edition);
+        same("record: way", o, at, l[12], b.way);
+        same("record: kept", o, at, (unsigned long)(l[13] | l[14] | l[15]), 0);
         if (traffic_number(t, 8) == 0) another_parameter(t, o, at, l);
-        if (traffic_number(t, 8) == 0) another_edition(t, o, at, l);
+        if (traffic_number(t, 8) == 0) of_another(t, o, at, l);
         if (at == n) return;
     }
 }
@@ -209,9 +260,10 @@ static void any_record(struct traffic *t) {
         uint32_t x = traffic_number(t, 16) ? traffic_number(t, 16) : traffic_number(t, 256);
         l[i] = (uint8_t)(traffic_number(t, 3) ? 0 : x);
     }
-    if (size > 11 && traffic_number(t, 2)) {
-        l[0] = (uint8_t)(2 + traffic_number(t, 5)), l[11] = (uint8_t)traffic_number(t, 3);
-        memset(l + 12, 0, size - 12);
+    if (size > 12 && traffic_number(t, 2)) {
+        l[0] = (uint8_t)(2 + traffic_number(t, 5));
+        l[11] = (uint8_t)traffic_number(t, 3), l[12] = (uint8_t)traffic_number(t, 3);
+        memset(l + 13, 0, size - 13);
         if (l[0] < 5) l[9] = 0;
     }
     if (size == ANTHERCUP_LISTENER_OCTETS) {
@@ -250,7 +302,7 @@ static void entry_is(const uint8_t *o, size_t n, const uint8_t *draft, unsigned 
 
 /* a whole read into a record and an area that hold noise: what is not written must stay, all that is written must be
  * as the second reader has it */
-static void read_as_second(struct traffic *t, uint8_t edition, const uint8_t *o, size_t n, size_t draft_len,
+static void read_as_second(struct traffic *t, struct book b, const uint8_t *o, size_t n, size_t draft_len,
                            size_t area) {
     uint8_t draft[ANTHERCUP_DRAFT_OCTETS + 8], texts[300], draft_before[sizeof draft], texts_before[sizeof texts];
     struct second_draft s;
@@ -258,8 +310,8 @@ static void read_as_second(struct traffic *t, uint8_t edition, const uint8_t *o,
     memset(texts, (int)traffic_number(t, 256), sizeof texts);
     memcpy(draft_before, draft, sizeof draft);
     memcpy(texts_before, texts, sizeof texts);
-    uint64_t answer = anthercup_read(edition, o, n, draft, draft_len, texts, area);
-    struct second_verdict v = second_read(edition, o, n, area, &s);
+    uint64_t answer = read_by(t, b, o, n, draft, draft_len, texts, area);
+    struct second_verdict v = second_read(b.edition, b.way, o, n, area, &s);
     size_t laid = 0;
     if (draft_len != ANTHERCUP_DRAFT_OCTETS) v = no_record();
     same("read: number", o, n, anthercup_number(answer), v.number);
@@ -287,16 +339,16 @@ static void read_as_second(struct traffic *t, uint8_t edition, const uint8_t *o,
 }
 
 /* with room; some with every area near the limit; and with records of other sizes */
-static void reads(struct traffic *t, uint8_t edition, const uint8_t *o, size_t n) {
+static void reads(struct traffic *t, struct book b, const uint8_t *o, size_t n) {
     struct second_draft s;
-    read_as_second(t, edition, o, n, ANTHERCUP_DRAFT_OCTETS, ANTHERCUP_TEXTS_OCTETS);
-    if (traffic_number(t, 8) == 0 && second_read(edition, o, n, ANTHERCUP_TEXTS_OCTETS, &s).number == 0)
+    read_as_second(t, b, o, n, ANTHERCUP_DRAFT_OCTETS, ANTHERCUP_TEXTS_OCTETS);
+    if (traffic_number(t, 8) == 0 && second_read(b.edition, b.way, o, n, ANTHERCUP_TEXTS_OCTETS, &s).number == 0)
         for (size_t area = s.text_octets < 2 ? 0 : s.text_octets - 2u; area <= s.text_octets + 1u; area++)
-            read_as_second(t, edition, o, n, ANTHERCUP_DRAFT_OCTETS, area);
+            read_as_second(t, b, o, n, ANTHERCUP_DRAFT_OCTETS, area);
     if (traffic_number(t, 4) == 0) {
         size_t size = ANTHERCUP_DRAFT_OCTETS - 2 + traffic_number(t, 5);
         if (traffic_number(t, 2)) size = traffic_number(t, ANTHERCUP_DRAFT_OCTETS);
-        read_as_second(t, edition, o, n, size, traffic_number(t, 260));
+        read_as_second(t, b, o, n, size, traffic_number(t, 260));
     }
 }
 
@@ -314,11 +366,11 @@ static int same_desk(struct second_desk a, struct second_desk b) {
 }
 
 /* the same desk through both, and settled twice */
-static uint64_t settles(uint8_t edition, const uint8_t *o, size_t n, uint8_t *desk) {
+static uint64_t settles(struct book b, const uint8_t *o, size_t n, uint8_t *desk) {
     struct second_desk s = desk_of(desk), before = s;
     uint8_t once[ANTHERCUP_DESK_OCTETS];
-    struct second_verdict v = second_settle(edition, &s, o, n);
-    uint64_t answer = anthercup_settle(edition, desk, ANTHERCUP_DESK_OCTETS, o, n);
+    struct second_verdict v = second_settle(b.edition, b.way, &s, o, n);
+    uint64_t answer = anthercup_settle(b.edition, b.way, desk, sizeof once, o, n);
     same("settle: number", o, n, anthercup_number(answer), v.number);
     same("settle: place", o, n, anthercup_place(answer), v.place);
     same("settle: parameter", o, n, anthercup_parameter(answer), v.parameter);
@@ -326,18 +378,18 @@ static uint64_t settles(uint8_t edition, const uint8_t *o, size_t n, uint8_t *de
     same("settle: desk", o, n, (unsigned long)same_desk(desk_of(desk), s), 1);
     if (v.number) same("settle: desk of a refusal", o, n, (unsigned long)same_desk(s, before), 1);
     memcpy(once, desk, sizeof once);
-    same("settle: twice", o, n, anthercup_settle(edition, desk, ANTHERCUP_DESK_OCTETS, o, n) != answer, 0);
+    same("settle: twice", o, n, anthercup_settle(b.edition, b.way, desk, sizeof once, o, n) != answer, 0);
     same("settle: desk of twice", o, n, (unsigned long)memcmp(once, desk, sizeof once), 0);
     return answer;
 }
 
 /* of some types what counts, and number, place and parameter of the whole read where the octets are no message */
-static void counts(struct traffic *t, uint8_t edition, const uint8_t *o, size_t n, struct second_verdict v) {
+static void counts(struct traffic *t, struct book b, const uint8_t *o, size_t n, struct second_verdict v) {
     for (unsigned i = 0; i < 3; i++) {
         uint32_t type = traffic_number(t, i ? 32 : 256);
         size_t start = 0, length = 0;
-        int one = second_counted(edition, o, n, (uint8_t)type, &start, &length);
-        uint64_t answer = anthercup_counted(edition, o, n, (uint8_t)type);
+        int one = second_counted(b.edition, b.way, o, n, (uint8_t)type, &start, &length);
+        uint64_t answer = anthercup_counted(b.edition, b.way, o, n, (uint8_t)type);
         same("counted: number", o, n, anthercup_number(answer), v.number);
         same("counted: place", o, n, anthercup_place(answer), v.place);
         same("counted: whether", o, n, (unsigned long)anthercup_counts(answer), (unsigned long)one);
@@ -365,20 +417,20 @@ static size_t line(struct traffic *t, uint8_t *d, const uint8_t *caller, size_t 
 }
 
 /* the caption, with a directory about the caller that counts, or about 7 */
-static void caption(struct traffic *t, uint8_t edition, const uint8_t *o, size_t n) {
+static void caption(struct traffic *t, struct book b, const uint8_t *o, size_t n) {
     uint8_t d[6 * 64], part[ANTHERCUP_PART_OCTETS + 4], was[sizeof part];
     size_t size = traffic_number(t, 16) ? ANTHERCUP_PART_OCTETS : traffic_number(t, sizeof part);
     size_t octets = 0, start = 0, length = 0;
     const uint8_t *caller = (const uint8_t *)"7";
-    if (second_counted(edition, o, n, 0x02, &start, &length)) caller = o + start;
+    if (second_counted(b.edition, b.way, o, n, 0x02, &start, &length)) caller = o + start;
     else length = 1;
     for (uint32_t k = traffic_number(t, 6); k > 0; k--) octets += line(t, d + octets, caller, length);
     if (octets && traffic_number(t, 2)) octets--;
-    struct second_part s = second_caption(edition, o, n, d, octets);
+    struct second_part s = second_caption(b.edition, b.way, o, n, d, octets);
     if (size != ANTHERCUP_PART_OCTETS) s.number = ANTHERCUP_REFUSED_RECORD, s.place = s.parameter = 0, s.edition = 0;
     memset(part, 0x5A, sizeof part);
     memcpy(was, part, sizeof was);
-    uint64_t answer = anthercup_caption(edition, o, n, d, octets, part, size);
+    uint64_t answer = anthercup_caption(b.edition, b.way, o, n, d, octets, part, size);
     same("caption: word", o, n, (unsigned long)answer, word_of(s.number, s.place, s.parameter, s.edition));
     if (s.number) {
         same("caption: stays", o, n, (unsigned long)memcmp(part, was, sizeof part), 0);
@@ -393,7 +445,7 @@ static void caption(struct traffic *t, uint8_t edition, const uint8_t *o, size_t
 }
 
 /* any record at all: 17 exactly where size, codes, places or a reference twice make it none */
-static void any_desk(struct traffic *t, uint8_t edition, const uint8_t *o, size_t n) {
+static void any_desk(struct traffic *t, struct book b, const uint8_t *o, size_t n) {
     static const uint32_t ends[] = {1, 2, 3, 65535, 65536, 65537, 16777215};
     uint8_t any[ANTHERCUP_DESK_OCTETS + 4] = {0}, was[sizeof any];
     size_t size = traffic_number(t, 4) ? ANTHERCUP_DESK_OCTETS : traffic_number(t, sizeof any);
@@ -409,9 +461,9 @@ static void any_desk(struct traffic *t, uint8_t edition, const uint8_t *o, size_
     struct second_desk s = desk_of(any);
     if (any[0] > 1 || (any[0] == 0 && any[1] != 0) || any[3] != 0) s.waiting = SECOND_UNKNOWN - 1;
     if (any[2] > 2) s.lamp = 2;
-    struct second_verdict v = second_settle(edition, &s, o, n);
+    struct second_verdict v = second_settle(b.edition, b.way, &s, o, n);
     if (size != ANTHERCUP_DESK_OCTETS) v = no_record();
-    uint64_t answer = anthercup_settle(edition, any, size, o, n);
+    uint64_t answer = anthercup_settle(b.edition, b.way, any, size, o, n);
     same("any desk: number", was, size, anthercup_number(answer), v.number);
     same("any desk: place", was, size, anthercup_place(answer), v.place);
     same("any desk: parameter", was, size, anthercup_parameter(answer), v.parameter);
@@ -422,9 +474,31 @@ static void any_desk(struct traffic *t, uint8_t edition, const uint8_t *o, size_
     same("new desk", was, size, (unsigned long)answer, size == ANTHERCUP_DESK_OCTETS ? 0 : ANTHERCUP_REFUSED_RECORD);
 }
 
+/* what the strict way accepts the lenient one accepts too, with the same words, draft, area, caption and desk */
+static void lenient_too(uint8_t edition, const uint8_t *o, size_t n, const uint8_t *desk) {
+    uint8_t drafts[2][ANTHERCUP_DRAFT_OCTETS], areas[2][ANTHERCUP_TEXTS_OCTETS], parts[2][ANTHERCUP_PART_OCTETS];
+    uint8_t desks[2][ANTHERCUP_DESK_OCTETS];
+    uint64_t words[2][4];
+    memset(drafts, 0x5A, sizeof drafts), memset(areas, 0x5A, sizeof areas), memset(parts, 0x5A, sizeof parts);
+    for (uint8_t way = 0; way <= ANTHERCUP_LENIENT; way++) {
+        memcpy(desks[way], desk, sizeof desks[way]);
+        words[way][0] = anthercup_read_way(edition, way, o, n, drafts[way], sizeof drafts[way], areas[way],
+                                           sizeof areas[way]);
+        words[way][1] = anthercup_counted(edition, way, o, n, ANTHERCUP_PARAMETER_CALLER);
+        words[way][2] = anthercup_caption(edition, way, o, n, o, n, parts[way], sizeof parts[way]);
+        words[way][3] = anthercup_settle(edition, way, desks[way], sizeof desks[way], o, n);
+    }
+    same("lenient too: read", o, n, anthercup_number(words[ANTHERCUP_STRICT][0]), 0);
+    same("lenient too: words", o, n, (unsigned long)memcmp(words[0], words[1], sizeof words[0]), 0);
+    same("lenient too: draft", o, n, (unsigned long)memcmp(drafts[0], drafts[1], sizeof drafts[0]), 0);
+    same("lenient too: area", o, n, (unsigned long)memcmp(areas[0], areas[1], sizeof areas[0]), 0);
+    same("lenient too: part", o, n, (unsigned long)memcmp(parts[0], parts[1], sizeof parts[0]), 0);
+    same("lenient too: desk", o, n, (unsigned long)memcmp(desks[0], desks[1], sizeof desks[0]), 0);
+}
+
 /* messages about a few references on one desk, cleared now and then, most of the present edition, some of the old one,
- * which says nothing of references, and of unknown ones: after each, a reference is open exactly as the last notice
- * said that was done and added or removed it */
+ * which says nothing of references, by both ways, and by unknown numbers: after each, a reference is open exactly as
+ * the last notice said that was done and added or removed it */
 static void history(struct traffic *t, long messages) {
     static uint8_t last[65536];
     uint8_t o[TRAFFIC_OCTETS], desk[ANTHERCUP_DESK_OCTETS];
@@ -432,14 +506,15 @@ static void history(struct traffic *t, long messages) {
     unsigned open = 0;
     anthercup_new_desk(desk, sizeof desk);
     for (long i = 0; i < messages; i++) {
-        uint8_t edition = traffic_number(t, 4) ? ANTHERCUP_PRESENT : ANTHERCUP_OLD;
-        if (traffic_number(t, 64) == 0) edition = unknown_edition(t);
+        struct book b = any_book(t);
+        if (traffic_number(t, 2)) b.edition = ANTHERCUP_PRESENT;
+        if (traffic_number(t, 64) == 0) b = unknown_book(t);
         size_t n = traffic_about(t, o), start, length;
-        uint64_t answer = settles(edition, o, n, desk);
+        uint64_t answer = settles(b, o, n, desk);
         full += anthercup_number(answer) == ANTHERCUP_REFUSED_NO_PLACE;
-        old += edition == ANTHERCUP_OLD;
+        old += b.edition == ANTHERCUP_OLD;
         int done = anthercup_number(answer) == 0 && o[0] == 0x82;
-        if (done && second_counted(edition, o, n, 0x0D, &start, &length) && o[start] != 0x55) {
+        if (done && second_counted(b.edition, b.way, o, n, 0x0D, &start, &length) && o[start] != 0x55) {
             uint8_t *word = &last[o[start + 1] * 256 + o[start + 2]];
             open = open - *word + (o[start] == 0xFF);
             *word = o[start] == 0xFF;
@@ -462,41 +537,50 @@ static void history(struct traffic *t, long messages) {
            full);
 }
 
-/* an edition that there is not, told to every export: 16 alone, behind 17, and all that is lent stays */
+/* an edition or a way that there is not, told to every export: 16 alone, behind 17, and all that is lent stays */
 static void nowhere(struct traffic *t, const uint8_t *o, size_t n, uint8_t *desk) {
-    uint8_t edition = unknown_edition(t), l[ANTHERCUP_LISTENER_OCTETS], before[sizeof l];
-    struct second_answer s = second_listen(edition, o, n);
+    uint8_t l[ANTHERCUP_LISTENER_OCTETS], before[sizeof l];
+    struct book b = unknown_book(t);
+    struct second_answer s = second_listen(b.edition, b.way, o, n);
     struct second_draft d;
     for (size_t i = 0; i < sizeof l; i++) l[i] = (uint8_t)traffic_number(t, 256);
     memcpy(before, l, sizeof l);
-    same("reset, unknown", o, n, (unsigned long)anthercup_reset(edition, l, sizeof l), s.number);
+    same("reset, unknown", o, n, (unsigned long)reset(t, b, l, sizeof l), s.number);
     same("reset, unknown: stays", o, n, (unsigned long)memcmp(l, before, sizeof l), 0);
-    reads(t, edition, o, n);
-    counts(t, edition, o, n, second_read(edition, o, n, ANTHERCUP_TEXTS_OCTETS, &d));
-    caption(t, edition, o, n);
-    settles(edition, o, n, desk);
-    any_desk(t, edition, o, n);
+    reads(t, b, o, n);
+    counts(t, b, o, n, second_read(b.edition, b.way, o, n, ANTHERCUP_TEXTS_OCTETS, &d));
+    caption(t, b, o, n);
+    settles(b, o, n, desk);
+    any_desk(t, b, o, n);
 }
 
-/* one message through everything, by one edition; every eighth octet by octet too, and by an edition that there is
- * not */
-static void one_message(struct traffic *t, uint8_t edition, const uint8_t *o, size_t n, uint8_t *desk, long i) {
-    struct second_answer whole = second_listen(edition, o, n);
-    struct second_draft s;
+/* what came of it, by edition and way */
+static void tally(struct book b, struct second_answer whole) {
     in_first += whole.parameter == 1;
     in_later += whole.parameter > 1;
     in_last += whole.parameter == 85;
-    judged[edition]++;
-    messages_of[edition] += whole.answer == SECOND_MESSAGE;
-    in_runs(t, edition, o, n, whole, 0);
-    in_runs(t, edition, o, n, whole, 40);
-    if (i % 8 == 0) in_runs(t, edition, o, n, whole, 1);
+    by_book[b.edition][b.way].judged++;
+    by_book[b.edition][b.way].messages += whole.answer == SECOND_MESSAGE;
+    by_book[b.edition][b.way].unlisted += whole.number == 10;
+}
+
+/* one message through everything, by one edition and way; every eighth octet by octet too, and by numbers that there
+ * are not */
+static void one_message(struct traffic *t, struct book b, const uint8_t *o, size_t n, uint8_t *desk, long i) {
+    struct second_answer whole = second_listen(b.edition, b.way, o, n);
+    struct second_draft s;
+    struct second_verdict v = second_read(b.edition, b.way, o, n, ANTHERCUP_TEXTS_OCTETS, &s);
+    tally(b, whole);
+    in_runs(t, b, o, n, whole, 0);
+    in_runs(t, b, o, n, whole, 40);
+    if (i % 8 == 0) in_runs(t, b, o, n, whole, 1);
     any_record(t);
-    reads(t, edition, o, n);
-    counts(t, edition, o, n, second_read(edition, o, n, ANTHERCUP_TEXTS_OCTETS, &s));
-    caption(t, edition, o, n);
-    settles(edition, o, n, desk);
-    any_desk(t, edition, o, n);
+    reads(t, b, o, n);
+    counts(t, b, o, n, v);
+    caption(t, b, o, n);
+    if (b.way == ANTHERCUP_STRICT && v.number == 0) lenient_too(b.edition, o, n, desk);
+    settles(b, o, n, desk);
+    any_desk(t, b, o, n);
     if (i % 8 == 0) nowhere(t, o, n, desk);
     if (i % 64 == 0) anthercup_new_desk(desk, ANTHERCUP_DESK_OCTETS);
 }
@@ -508,10 +592,10 @@ static void dated(struct traffic *t, long messages) {
     unsigned long taken = 0, spoilt[2] = {0, 0};
     anthercup_new_desk(desk, sizeof desk);
     for (long i = 0; i < messages; i++) {
-        uint8_t edition = either_edition(t);
+        struct book b = any_book(t);
         size_t n = traffic_dated(t, o), date = 0;
-        struct second_answer s = second_listen(edition, o, n);
-        one_message(t, edition, o, n, desk, i);
+        struct second_answer s = second_listen(b.edition, b.way, o, n);
+        one_message(t, b, o, n, desk, i);
         if (s.answer == SECOND_MESSAGE) taken++;
         if (s.number != 5) continue;
         for (size_t place = 2; place < s.place; place += 2u + o[place + 1]) date = place;
@@ -522,7 +606,19 @@ static void dated(struct traffic *t, long messages) {
            taken, spoilt[0], spoilt[1]);
 }
 
-/* built by either edition, and judged by it, or now and then by the other */
+/* what was judged by each edition and way; of each there must be messages, and 10 by the strict way alone */
+static void say_books(const uint8_t *o) {
+    for (unsigned edition = 0; edition < 2; edition++)
+        for (unsigned way = 0; way < 2; way++) {
+            unsigned long messages = by_book[edition][way].messages, unlisted = by_book[edition][way].unlisted;
+            if (messages == 0) differ("no message by an edition and a way", o, 0, 0, 1);
+            if ((unlisted != 0) != (way == ANTHERCUP_STRICT)) differ("10 by a way", o, 0, unlisted, 0);
+            printf("edition %u way %u: %lu judged, %lu of them messages, %lu refused with 10\n", edition, way,
+                   by_book[edition][way].judged, messages, unlisted);
+        }
+}
+
+/* built for each edition and way in turn, and judged by them, or now and then by others */
 int main(int argc, char **argv) {
     struct traffic t;
     uint8_t o[TRAFFIC_OCTETS], desk[ANTHERCUP_DESK_OCTETS];
@@ -530,19 +626,18 @@ int main(int argc, char **argv) {
     traffic_start(&t, 1);
     anthercup_new_desk(desk, sizeof desk);
     for (long i = 0; i < messages; i++) {
-        t.edition = either_edition(&t);
+        struct book b = any_book(&t);
+        t.edition = b.edition, t.way = b.way;
         size_t n = traffic_next(&t, o);
-        one_message(&t, traffic_number(&t, 8) ? t.edition : (uint8_t)(1 - t.edition), o, n, desk, i);
+        one_message(&t, traffic_number(&t, 8) ? b : another_book(&t, b), o, n, desk, i);
     }
     if (by_line == 0) differ("caption: no line of a directory", o, 0, 0, 1);
     history(&t, messages / 4);
     dated(&t, messages / 8);
     if (!in_first || !in_later || !in_last) differ("no fault in the first, a later or the last parameter", o, 0, 0, 1);
-    if (!messages_of[0] || !messages_of[1]) differ("no message of an edition", o, 0, 0, 1);
     printf("parameters: %lu messages with a fault in the first, %lu in a later one, %lu of them in the 85th\n",
            in_first, in_later, in_last);
-    printf("editions: %lu judged by the present one, %lu of them messages; %lu by the old one, %lu of them messages\n",
-           judged[0], messages_of[0], judged[1], messages_of[1]);
+    say_books(o);
     if (!records[0] || !records[1] || !records[2]) differ("no other record of a kind", o, 0, 0, 1);
     printf("records: %lu that no octets led to heard, %lu with 16, %lu with 17\n", records[0], records[1], records[2]);
     printf("traffic: %ld messages, %lu answers as the second reader has them\n", messages, compared);

@@ -1,7 +1,7 @@
 /*
  * Anthercup for the boxes' firmware: the listener, the reader, what counts, the
  * caption and the desk (document 01, Listening, Drafts, What counts, The caption
- * and The desk; document 02, Q-2, Q-3, Q-5 and Q-6).
+ * and The desk; document 02, Q-2, Q-3, Q-5, Q-6 and Q-11).
  *
  * Link with the archive: cc app.c -lanthercup (tools/install puts header,
  * archive and a pkg-config file in place). The archive is for x86-64 alone,
@@ -19,10 +19,10 @@
  * Indices of entries are below anthercup_entries(), places of a desk below
  * ANTHERCUP_MOST_PLACES.
  *
- * Anything else may be handed in: a record of another size, or one that holds a
- * code or number out of range, gets number 17 and stays as it was; an edition
- * that is unknown gets 16, and nothing lent changes. No function keeps a
- * pointer, allocates, or fails to return.
+ * Anything else may be handed in: a record of another size, or one that holds
+ * a code or number out of range, gets number 17 and stays as it was; an
+ * edition or a way that is unknown gets 16, and nothing lent changes. No
+ * function keeps a pointer, allocates, or fails to return.
  *
  * Two editions. ANTHERCUP_PRESENT (0) is what the exchanges of today send;
  * ANTHERCUP_OLD (1) is the old sheet, to which some exchanges were built. Ask
@@ -34,38 +34,55 @@
  *   01H   n 8: month 01-12, a day that the month has (February 29), hour
  *         00-23, minute 00-59, as digits    the same
  *   02H   n 1-20: 0-9 * # space - ( )       n 1-18: 0-9
- *   03H   as 02H                            carried
+ *   03H   as 02H                            not listed
  *   04H   n 1: O or P                       the same
  *   07H   n 1-50: 20H-7EH                   n 1-20: 20H-7EH
- *   08H   n 1: O or P                       carried
+ *   08H   n 1: O or P                       not listed
  *   0BH   n 1: 00H or FFH                   the same
  *   0DH   n 3: 00H, 55H or FFH, and a reference of two octets, high octet
- *         first                             carried
- *   0EH   as 02H                            carried
+ *         first                             not listed
+ *   0EH   as 02H                            not listed
  *   11H   n 1: 01H-07H, 10H, 11H, 50H, 51H, 81H-FFH
- *                                           carried
+ *                                           not listed
  *   12H   as 02H                            n 1-18: 0-9
- *   13H   n 1: 0-255                        carried
+ *   13H   n 1: 0-255                        not listed
  *   15H   n 1: 00H-06H, 80H-FFH             n 1: 00H-06H
  *   16H   n 1: 00H-0FH                      n 1: 00H, 03H-05H, 0AH-0DH, 0FH
- *   all others                              carried in both
+ *   all others                              not listed in both
  *
- * Carried contents are 1 to 253 octets of any value; they never count. Message
- * types, lengths, rooms, checksum, places and parameters' numbers are the same
- * in both. In the present edition 02H and 04H are rivals, and 07H and 08H; in
- * the old one 02H and 04H alone: there 08H silences no name. A notice of the
- * old edition changes a desk's lamp and nothing else.
+ * Message types, lengths, rooms, checksum, places and parameters' numbers are
+ * the same in both. In the present edition 02H and 04H are rivals, and 07H and
+ * 08H; in the old one 02H and 04H alone: there 08H silences no name. A notice
+ * of the old edition changes a desk's lamp and nothing else.
  *
- * read, counted, caption and settle are told the edition at each call; a
- * listener is told it at its reset, and its record keeps it. Any number but 0
- * and 1 is unknown, as an argument and in a listener's record: that is 16,
- * place 0, behind 17 and before all other numbers.
+ * Two ways with a type that the edition does not list. ANTHERCUP_STRICT (0)
+ * refuses it: 10, at that octet, in any room, so ahead of 3, with the number
+ * that its parameter would have. ANTHERCUP_LENIENT (1) carries it: its
+ * contents are 1 to 253 octets of any value, which are read and never count,
+ * and 10 is never given. By the strict way a listener waits exactly while
+ * listed types can still complete the message. All else is the same by both:
+ * what the strict way accepts the lenient one accepts too, with the same
+ * answers, draft, caption and desk.
+ *
+ * anthercup_reset and anthercup_read name no way, and are strict;
+ * anthercup_reset_way and anthercup_read_way are told it, and so are counted,
+ * caption and settle. Name the lenient way where a message is wanted though
+ * parts of it are unknown, as programs do that relied on carrying: up to
+ * layout 3 every call carried.
+ *
+ * read, counted, caption and settle are told edition and way at each call; a
+ * listener is told them at its reset, and its record keeps both. Read and
+ * settle a message by the edition and the way by which it was heard: by
+ * another it may be refused, or say something else. Any number but 0 and 1 is
+ * unknown, of an edition as of a way, as an argument and in a listener's
+ * record: that is 16, place 0, behind 17 and before all other numbers.
  *
  * How a box listens. A channel seizure before the message is heard as octets
  * 55H: while no message has begun (1 at 0) reset and hunt on, and say nothing.
- * After a message, or a refusal with 2 to 6, take nothing more until the
- * carrier drops: what follows may be the rest of a spoilt message and look like
- * a whole one. When the carrier drops, reset, also in the middle of a message.
+ * After a message, or a refusal with 2 to 6 or 10, take nothing more until the
+ * carrier drops: what follows may be the rest of a spoilt message and look
+ * like a whole one. When the carrier drops, reset, also in the middle of a
+ * message.
  *
  * An answer is one word:
  *   octet 0 (lowest)  the number of a refusal; 0 where there is none
@@ -76,17 +93,17 @@
  *   octets 5 and 6    listen gives the octets that this call took, the
  *                     spoiling one included, 0 with 16 and 17; counted gives
  *                     the start of what counts; 0 in all other answers
- *   octet 7           bits 0 to 6 the parameter's number: with 3, 4 and 5
- *                     which parameter of the message is at fault, from 1 to
- *                     85, carried and repeated ones counted; a type that is
- *                     refused (3) has the number that its parameter would
- *                     have; 0 in all other answers, message type, length and
- *                     checksum (1, 2 and 6) being no parameter's. Bit 7 is
- *                     the edition by which the answer was given, refusals
- *                     too; 0 with 16 and 17, and 0 from new_desk, which is
- *                     told none
+ *   octet 7           bits 0 to 6 the parameter's number: with 3, 4, 5 and
+ *                     10 which parameter of the message is at fault, from 1
+ *                     to 85, carried and repeated ones counted; a type that
+ *                     is refused (3, 10) has the number that its parameter
+ *                     would have; 0 in all other answers, message type,
+ *                     length and checksum (1, 2 and 6) being no parameter's.
+ *                     Bit 7 is the edition by which the answer was given,
+ *                     refusals too; 0 with 16 and 17, and 0 from new_desk,
+ *                     which is told none
  * So a word of the old edition is not 0 where nothing is refused: ask for its
- * number, never for the word.
+ * number, never for the word. No word names the way.
  */
 #ifndef ANTHERCUP_H
 #define ANTHERCUP_H
@@ -100,9 +117,12 @@ extern "C" {
 
 /* ---- Sizes ---- */
 
-/* Which layout of records and words this header describes. A record that an
- * archive of another layout wrote is reset, not handed on. */
-#define ANTHERCUP_LAYOUT 3
+/* Which layout of records, words and calls this header describes. A record
+ * that an archive of another layout wrote is reset, not handed on: so every
+ * record is when the archive changes. A listener's of layout 3, which carried,
+ * would be taken for one of the strict way by its octet 12. Number 16 had the
+ * name ANTHERCUP_REFUSED_EDITION there. */
+#define ANTHERCUP_LAYOUT 4
 
 #define ANTHERCUP_MESSAGE_OCTETS 258 /* the longest message */
 #define ANTHERCUP_LISTENER_OCTETS 16
@@ -113,16 +133,18 @@ extern "C" {
 #define ANTHERCUP_MOST_ENTRIES 85
 #define ANTHERCUP_MOST_PLACES 16
 
-/* ---- Editions ---- */
+/* ---- Editions and ways ---- */
 
 enum anthercup_editions { ANTHERCUP_PRESENT = 0, ANTHERCUP_OLD = 1 };
+
+enum anthercup_ways { ANTHERCUP_STRICT = 0, ANTHERCUP_LENIENT = 1 };
 
 /* ---- What messages hold ---- */
 
 enum anthercup_messages { ANTHERCUP_CALL = 0x80, ANTHERCUP_NOTICE = 0x82 };
 
-/* The parameter types that have a row; all others are carried. The old edition
- * has TIME, CALLER, CALLER_ABSENT, NAME, LAMP, FIRST_CALLED, FORWARDED and USER
+/* The parameter types that the present edition lists. The old one lists TIME,
+ * CALLER, CALLER_ABSENT, NAME, LAMP, FIRST_CALLED, FORWARDED and USER
  * alone. */
 enum anthercup_parameters {
     ANTHERCUP_PARAMETER_TIME = 0x01,
@@ -160,7 +182,8 @@ enum anthercup_refusals {
     ANTHERCUP_REFUSED_FOLLOWED = 7, /* place: the first octet that follows */
     ANTHERCUP_REFUSED_EARLY = 8,    /* place: the number of octets */
     ANTHERCUP_REFUSED_AREA = 9,     /* place: the text octets needed */
-    ANTHERCUP_REFUSED_EDITION = 16,
+    ANTHERCUP_REFUSED_UNLISTED = 10,
+    ANTHERCUP_REFUSED_UNKNOWN = 16,
     ANTHERCUP_REFUSED_RECORD = 17,
     ANTHERCUP_REFUSED_NO_PLACE = 21
 };
@@ -189,8 +212,10 @@ static inline const char *anthercup_text(unsigned number)
         return "the message ends early, nothing wrong yet";
     case ANTHERCUP_REFUSED_AREA:
         return "the text area is too short";
-    case ANTHERCUP_REFUSED_EDITION:
-        return "the edition is unknown";
+    case ANTHERCUP_REFUSED_UNLISTED:
+        return "the edition does not list this parameter type";
+    case ANTHERCUP_REFUSED_UNKNOWN:
+        return "the edition or the way is unknown";
     case ANTHERCUP_REFUSED_RECORD:
         return "the record has a wrong size, or a code or number out of range";
     case ANTHERCUP_REFUSED_NO_PLACE:
@@ -249,10 +274,11 @@ static inline int anthercup_listen_waits(uint64_t answer)
  *    1       the sum of the octets so far modulo 256; 0 with 5 and 6
  *    2, 3    the octets so far, with 5 the message's size, with 6 the
  *            refusal's place; low octet first
- *    4       with 3 and 4 the class of contents: 0 carried, 1 date, 2 number,
- *            3 absent, 4 name, 5 lamp, 6 identity, 7 call type, 8 waiting, 9
- *            forwarded, 10 calling user; of the old edition alone 11 number,
- *            12 name, 13 forwarded, 14 calling user
+ *    4       with 3 and 4 the class of contents: 0 carried, by the lenient
+ *            way alone; 1 date, 2 number, 3 absent, 4 name, 5 lamp, 6
+ *            identity, 7 call type, 8 waiting, 9 forwarded, 10 calling user;
+ *            of the old edition alone 11 number, 12 name, 13 forwarded, 14
+ *            calling user
  *    5, 6    with 4 the length of the contents, and the index of the octet to
  *            come
  *    7       with 4 what is remembered of the contents: of a date the tens of
@@ -265,40 +291,48 @@ static inline int anthercup_listen_waits(uint64_t answer)
  *   10       the parameter's number: with 2, 3 and 4 how many parameters have
  *            begun, those counted whose type has come; with 6 the refusal's
  *   11       the edition, as the reset was told it; no call changes it
- *   12 to 15 0, kept
+ *   12       the way, likewise
+ *   13 to 15 0, kept
  *
  * A record is 17 where octet 0 is above 6, a class is none of its edition's
- * (the present one has 0 to 10, the old one 0, 1, 3, 5 and 11 to 14), an octet
- * that its stage does not use is not 0, or a number is out of range: with 0 and
- * 1 the octets so far are 0 and 1; with 2 octets and room add up to 5 to 257;
- * with 3 the room is at least 1 and they add up to 6 to 258; with 4 the index
- * is below the length, and octets, length and room add up to 5 to 257 and the
- * index; a size is 6 to 258; a refusal has a number of 1 to 6 and a place up to
- * 257. Of the parameter's number, a parameter having three octets at least:
- * with 2 three times it and 2 are at most the octets so far; with 3 it is at
- * least 1, and three times it at most the octets so far; with 4 it is at least
- * 1, and three times it, 1 and the index are together at most the octets so
- * far; a refusal's is 1 to 85 with 3, 4 and 5, and 0 with 1, 2 and 6. Sum and
+ * (the present one has 1 to 10, the old one 1, 3, 5 and 11 to 14, and both by
+ * the lenient way also 0), an octet that its stage does not use is not 0, or a
+ * number is out of range: with 0 and 1 the octets so far are 0 and 1; with 2
+ * octets and room add up to 5 to 257; with 3 the room is at least 1 and they
+ * add up to 6 to 258; with 4 the index is below the length, and octets, length
+ * and room add up to 5 to 257 and the index; a size is 6 to 258; a refusal has
+ * a number of 1 to 6, by the strict way also 10, and a place up to 257. Of the
+ * parameter's number, a parameter having three octets at least: with 2 three
+ * times it and 2 are at most the octets so far; with 3 it is at least 1, and
+ * three times it at most the octets so far; with 4 it is at least 1, and three
+ * times it, 1 and the index are together at most the octets so far; a
+ * refusal's is 1 to 85 with 3, 4, 5 and 10, and 0 with 1, 2 and 6. Sum and
  * memory are not judged: a record in range whose sum, memory or parameter's
  * number no octets lead to is stepped by the same rule.
  *
- * A record whose octet 11 is neither 0 nor 1 is 16 where all else is in range,
- * and 17 where it is not; a class may then be 0 to 14, and a refusal's number
- * also 10, with a parameter of 1 to 85. */
+ * A record whose edition or way, octet 11 or 12, is neither 0 nor 1 is 16
+ * where all else is in range, and 17 where it is not. By an unknown edition a
+ * class may then be 1 to 14, by a known one what it is with a known way; it
+ * may be 0 where octet 12 is not 0; and a refusal's number may be 10, whatever
+ * the other of the two octets. */
 
-/* Makes the record that of a new listener of this edition, whatever it holds.
- * Number 0; or 17 where listener_len is not ANTHERCUP_LISTENER_OCTETS, then 16,
- * and the record stays as it was. */
+/* Makes the record that of a new listener of this edition and way, whatever it
+ * holds. Number 0; or 17 where listener_len is not ANTHERCUP_LISTENER_OCTETS,
+ * then 16, and the record stays as it was. */
+uint64_t anthercup_reset_way(uint8_t edition, uint8_t way, uint8_t *listener,
+                             size_t listener_len);
+
+/* The same by the strict way: anthercup_reset_way told ANTHERCUP_STRICT. */
 uint64_t anthercup_reset(uint8_t edition, uint8_t *listener,
                          size_t listener_len);
 
 /* Takes a run of octets of any length, 0 included, and says what all octets
- * since the reset come to, by the edition of the reset: it waits (number and
- * size 0), has a message of a size, or refuses with a number from 1 to 6, a
- * place counted from the reset and the parameter's number, also where earlier
- * calls heard its parameters. After an answer it takes none and says the same
- * again, until it is reset. Ahead of all that 17, then 16: no octet is taken,
- * and the record stays as it was. */
+ * since the reset come to, by the edition and the way of the reset: it waits
+ * (number and size 0), has a message of a size, or refuses with a number from
+ * 1 to 6, by the strict way also 10, a place counted from the reset and the
+ * parameter's number, also where earlier calls heard its parameters. After an
+ * answer it takes none and says the same again, until it is reset. Ahead of
+ * all that 17, then 16: no octet is taken, and the record stays as it was. */
 uint64_t anthercup_listen(uint8_t *listener, size_t listener_len,
                           const uint8_t *octets, size_t octets_len);
 
@@ -307,13 +341,13 @@ uint64_t anthercup_listen(uint8_t *listener, size_t listener_len,
  * A draft's record, in octets:
  *    0       the message type: 80H a call message, 82H a notice
  *    1       the number of entries, 1 to 85
- *    2       the edition by which it was read
+ *    2       the edition by which it was read; no octet names the way
  *    3 to 7  0, kept
  *    then 85 entries of eight octets, one for each parameter in message order:
  *    0       the parameter type
  *    1       the kind of value: 0 a code, 1 a date, 2 a state with a
  *            reference, 3 a text (numbers and names), 4 a carried text (types
- *            that have no row)
+ *            that the edition does not list, by the lenient way alone)
  *    2 to 5  0: the code; 1: month, day, hour, minute; 2: the state, 0, the
  *            reference (low octet first); 3 and 4: start and length in the
  *            text area (low octets first)
@@ -333,10 +367,17 @@ enum anthercup_values {
 
 /* Reads one whole message into a draft's record and a text area, in which all
  * texts are packed from octet 0 on in message order; later octets of the area
- * stay. The record is only written: whatever it holds, only its size is judged.
- * Number 0; or, in this order, 17 where draft_len is not
- * ANTHERCUP_DRAFT_OCTETS, 16, 1 to 6, 8, 7, 9; record and area then hold what
- * they held. */
+ * stay. The record is only written: whatever it holds, only its size is
+ * judged. Number 0; or, in this order, 17 where draft_len is not
+ * ANTHERCUP_DRAFT_OCTETS, 16, one of 1 to 6 and 10 as the first octet has it
+ * that spoils the message, 8, 7, 9; record and area then hold what they held.
+ */
+uint64_t anthercup_read_way(uint8_t edition, uint8_t way,
+                            const uint8_t *octets, size_t octets_len,
+                            uint8_t *draft, size_t draft_len, uint8_t *texts,
+                            size_t texts_len);
+
+/* The same by the strict way: anthercup_read_way told ANTHERCUP_STRICT. */
 uint64_t anthercup_read(uint8_t edition, const uint8_t *octets,
                         size_t octets_len, uint8_t *draft, size_t draft_len,
                         uint8_t *texts, size_t texts_len);
@@ -434,9 +475,9 @@ anthercup_entry_text(const uint8_t *draft, unsigned i, const uint8_t *texts)
 /* Of one whole message, where the contents of a parameter type stand that
  * count: those of the first parameter of the type, unless its rival stands
  * before it (02H and 04H are rivals, and in the present edition 07H and 08H).
- * Carried types never count. Number 0; or 16, then 1 to 8. Any type may be
- * asked for. */
-uint64_t anthercup_counted(uint8_t edition, const uint8_t *octets,
+ * Carried types never count. Number 0; or 16, then 1 to 8 and 10 as read has
+ * them. Any type may be asked for. */
+uint64_t anthercup_counted(uint8_t edition, uint8_t way, const uint8_t *octets,
                            size_t octets_len, uint8_t type);
 
 /* Of counted's answer alone: whether the type counts in that message; then its
@@ -470,9 +511,9 @@ static inline unsigned anthercup_counted_length(uint64_t answer)
  *    8 to 15 where the part starts in it, low octet first
  *   16 to 23 how long it is, low octet first
  * Number 0; or 17 where part_len is not ANTHERCUP_PART_OCTETS, then 16, then 1
- * to 8, and the record holds what it held: ask of a part only after number 0.
- */
-uint64_t anthercup_caption(uint8_t edition, const uint8_t *octets,
+ * to 8 and 10 as read has them, and the record holds what it held: ask of a
+ * part only after number 0. */
+uint64_t anthercup_caption(uint8_t edition, uint8_t way, const uint8_t *octets,
                            size_t octets_len, const uint8_t *directory,
                            size_t directory_len, uint8_t *part,
                            size_t part_len);
@@ -528,20 +569,22 @@ enum anthercup_lamps {
 };
 
 /* Clears a desk: makes the record that of a new one, whatever it holds: number
- * and lamp unknown, all places free. A desk is of no edition. Number 0, or 17
- * where desk_len is not ANTHERCUP_DESK_OCTETS. */
+ * and lamp unknown, all places free. A desk is of no edition and no way.
+ * Number 0, or 17 where desk_len is not ANTHERCUP_DESK_OCTETS. */
 uint64_t anthercup_new_desk(uint8_t *desk, size_t desk_len);
 
-/* Settles one whole message on a desk: a notice sets the waiting number and the
- * lamp where it says them, to what it says; where it says a message's state, on
- * adds its reference to the lowest free place, unless it is there, off takes it
- * out, unset does nothing. A call message changes nothing. In the old edition a
- * notice says the lamp alone: 13H and 0DH are carried there. Number 0; or 17
- * for a record that is no desk's, then 16, then 1 to 8, then 21: nothing at all
- * is settled then, and the record stays as it was. The same message settled
- * twice running by one edition leaves what once left. */
-uint64_t anthercup_settle(uint8_t edition, uint8_t *desk, size_t desk_len,
-                          const uint8_t *octets, size_t octets_len);
+/* Settles one whole message on a desk: a notice sets the waiting number and
+ * the lamp where it says them, to what it says; where it says a message's
+ * state, on adds its reference to the lowest free place, unless it is there,
+ * off takes it out, unset does nothing. A call message changes nothing. In the
+ * old edition, which lists neither 13H nor 0DH, a notice says the lamp alone.
+ * Number 0; or 17 for a record that is no desk's, then 16, then 1 to 8 and 10
+ * as read has them, then 21: nothing at all is settled then, and the record
+ * stays as it was. The same message settled twice running by one edition and
+ * one way leaves what once left. */
+uint64_t anthercup_settle(uint8_t edition, uint8_t way, uint8_t *desk,
+                          size_t desk_len, const uint8_t *octets,
+                          size_t octets_len);
 
 /* The waiting number, or -1 where it is not known. */
 static inline int anthercup_waiting(const uint8_t *desk)

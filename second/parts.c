@@ -1,9 +1,9 @@
 /*
  * Writes what the program `parts` reads and what it must print: rows for 01's
- * "Drafts" and "The caption" in both editions (02, Q-5) and in unknown ones,
- * whose outcomes stand here by hand, then seeded traffic of both with what the
- * second reader says. Each case is an edition, a way (always 1: types without a
- * row are carried), a message and a directory, each behind its length in two
+ * "Drafts" and "The caption" in both editions (02, Q-5), by both ways (02,
+ * Q-11), and by unknown ones, whose outcomes stand here by hand, then seeded
+ * traffic of all four with what the second reader says. Each case is an
+ * edition, a way, a message and a directory, each behind its length in two
  * octets, and the size of a text area in two octets. Usage: parts CASES LINES
  */
 #include <stdio.h>
@@ -12,13 +12,24 @@
 #include "second.h"
 #include "traffic.h"
 
-/* Short ones, and a long one now and then, so that the files stay small. */
-static const struct counts {
-    unsigned messages, callers, longest, dated;
-} counts[SECOND_EDITIONS] = {{420, 140, 4, 60}, {280, 100, 2, 20}};
+/* What a message is read by. */
+struct book {
+    uint8_t edition, way;
+};
 
-/* built by one edition and read by the other, for each of the two */
-#define CROSSED 40
+/* Short ones, and a long one now and then, so that the files stay small;
+ * crossed ones are built for the book and read by another edition, then by
+ * another way. */
+static const struct counts {
+    struct book book;
+    unsigned messages, callers, longest, dated, crossed[2];
+} counts[] = {
+    {{SECOND_PRESENT, SECOND_LENIENT}, 420, 140, 4, 60, {40, 40}},
+    {{SECOND_OLD, SECOND_LENIENT}, 280, 100, 2, 20, {40, 40}},
+    {{SECOND_PRESENT, SECOND_STRICT}, 200, 60, 2, 20, {20, 20}},
+    {{SECOND_OLD, SECOND_STRICT}, 160, 50, 1, 10, {20, 20}},
+};
+
 #define SHORT 48
 #define LONG_EVERY 16
 #define DIRECTORY 200
@@ -61,29 +72,44 @@ static void say_written(size_t n, const struct second_draft *d)
     SAY("edition other\nunknown other\n");
 }
 
-/* Of the read's answer the edition, and that of the draft; the empty draft of a
- * refused read has it too. Written from the texts as they are packed, and from
- * another place. */
-static void say_read(size_t n, struct second_verdict v,
-                     const struct second_draft *d)
+/* Of the read's answer the edition, and that of the draft; the empty draft of
+ * a refused read has it too. */
+static void say_draft(const char *who, struct second_verdict v,
+                      const struct second_draft *d)
 {
     if (v.number) {
-        SAY("read %u at %zu in %zu edition %u %u\n", v.number, v.place,
+        SAY("%s %u at %zu in %zu edition %u %u\n", who, v.number, v.place,
             v.parameter, v.edition, v.edition);
         return;
     }
-    SAY("read %02x %u %u edition %u %u\n", d->message_type, d->entries,
+    SAY("%s %02x %u %u edition %u %u\n", who, d->message_type, d->entries,
         d->text_octets, v.edition, d->edition);
     for (size_t i = 0; i < d->entries; i++)
         say_entry(d, &d->entry[i]);
-    say_written(n, d);
-    say_written(n, d);
 }
 
-static void say_room(uint8_t edition, const uint8_t *o, size_t n, size_t room)
+/* Written from the texts as they are packed, and from another place; beside
+ * the strict way what is read by the function that names none. */
+static void say_read(struct book b, const uint8_t *o, size_t n,
+                     struct second_verdict v, const struct second_draft *d)
+{
+    struct second_draft s;
+
+    say_draft("read", v, d);
+    if (v.number == 0) {
+        say_written(n, d);
+        say_written(n, d);
+    }
+    if (b.way == SECOND_STRICT) {
+        v = second_read(b.edition, SECOND_STRICT, o, n, SECOND_TEXTS, &s);
+        say_draft("default", v, &s);
+    }
+}
+
+static void say_room(struct book b, const uint8_t *o, size_t n, size_t room)
 {
     struct second_draft d;
-    struct second_verdict v = second_read(edition, o, n, room, &d);
+    struct second_verdict v = second_read(b.edition, b.way, o, n, room, &d);
 
     if (v.number)
         SAY("room %zu: %u at %zu in %zu edition %u\n", room, v.number, v.place,
@@ -116,10 +142,11 @@ static void say_steps(const uint8_t *o, struct second_verdict v,
  * and 1 the directory. */
 #define LENT_CODE 7
 
-static void say_caption(uint8_t edition, const uint8_t *o, size_t n,
+static void say_caption(struct book b, const uint8_t *o, size_t n,
                         const uint8_t *directory, size_t octets)
 {
-    struct second_part p = second_caption(edition, o, n, directory, octets);
+    struct second_part p =
+        second_caption(b.edition, b.way, o, n, directory, octets);
     int inside = p.slice == SECOND_IN_MESSAGE;
 
     if (p.number)
@@ -140,23 +167,24 @@ static void put_behind_length(const uint8_t *o, size_t n)
         fwrite(o, 1, n, cases);
 }
 
-static void put_case(uint8_t edition, const uint8_t *o, size_t n,
+static void put_case(struct book b, const uint8_t *o, size_t n,
                      const uint8_t *directory, size_t octets, size_t room,
                      const char *by_hand)
 {
     struct second_draft d;
-    struct second_verdict v = second_read(edition, o, n, SECOND_TEXTS, &d);
-    uint8_t told[2] = {edition, 1};
+    struct second_verdict v =
+        second_read(b.edition, b.way, o, n, SECOND_TEXTS, &d);
+    uint8_t told[2] = {b.edition, b.way};
 
     fwrite(told, 1, 2, cases);
     put_behind_length(o, n);
     put_behind_length(directory, octets);
     put_behind_length(NULL, room);
     end = 0;
-    say_read(n, v, &d);
-    say_room(edition, o, n, room);
+    say_read(b, o, n, v, &d);
+    say_room(b, o, n, room);
     say_steps(o, v, &d);
-    say_caption(edition, o, n, directory, octets);
+    say_caption(b, o, n, directory, octets);
     fputs(by_hand ? by_hand : said, lines);
     if (by_hand && strcmp(by_hand, said)) {
         printf("parts: by hand\n%sthe second reader\n%s", by_hand, said);
@@ -166,32 +194,55 @@ static void put_case(uint8_t edition, const uint8_t *o, size_t n,
 
 /* ---- By hand: 01's "Drafts" and "The caption" ----
  *
- * The edition that every answer of a case names stands once, with the case, and
- * is put into each line that says it. */
+ * The edition that every answer of a case names stands once, with the case,
+ * and is put into each line that says it. By the strict way what stands behind
+ * `read`, up to what is written, is put behind `default` too, ahead of the
+ * room. */
 
 static char named[sizeof said];
 
-static const char *naming(const char *by_hand, unsigned edition)
+/* One line of a case, n octets, naming the edition where such a line does. */
+static size_t name_line(size_t at, const char *line, int n, unsigned edition)
 {
-    size_t at = 0;
+    if (strncmp(line, "write ", 6) == 0)
+        return at + (size_t)sprintf(named + at, "%.*s edition %u same\n",
+                                    n - (int)strlen(" same"), line, edition);
+    if (strncmp(line, "read ", 5) == 0)
+        return at + (size_t)sprintf(named + at, "%.*s edition %u %u\n", n,
+                                    line, edition, edition);
+    if (strncmp(line, "room ", 5) == 0 || strncmp(line, "step ", 5) == 0
+        || strncmp(line, "find ", 5) == 0)
+        return at + (size_t)sprintf(named + at, "%.*s edition %u\n", n, line,
+                                    edition);
+    return at + (size_t)sprintf(named + at, "%.*s\n", n, line);
+}
+
+/* The head line and the entries of the case's read, up to `behind`, once more
+ * with `default` in the place of `read`. */
+static size_t name_default(size_t at, size_t behind)
+{
+    static const char was[] = "read", is[] = "default";
+    size_t rest = behind - strlen(was);
+
+    memcpy(named + at, is, strlen(is));
+    memcpy(named + at + strlen(is), named + strlen(was), rest);
+    return at + strlen(is) + rest;
+}
+
+static const char *naming(const char *by_hand, unsigned edition, int strict)
+{
+    size_t at = 0, read = 0;
 
     for (const char *next; *by_hand != '\0'; by_hand = next) {
         int n = (int)strcspn(by_hand, "\n");
 
         next = by_hand + n + 1;
-        if (strncmp(by_hand, "write ", 6) == 0)
-            at += (size_t)sprintf(named + at, "%.*s edition %u same\n",
-                                  n - (int)strlen(" same"), by_hand, edition);
-        else if (strncmp(by_hand, "read ", 5) == 0)
-            at += (size_t)sprintf(named + at, "%.*s edition %u %u\n", n,
-                                  by_hand, edition, edition);
-        else if (strncmp(by_hand, "room ", 5) == 0
-                 || strncmp(by_hand, "step ", 5) == 0
-                 || strncmp(by_hand, "find ", 5) == 0)
-            at += (size_t)sprintf(named + at, "%.*s edition %u\n", n, by_hand,
-                                  edition);
-        else
-            at += (size_t)sprintf(named + at, "%.*s\n", n, by_hand);
+        if (read == 0 && (strncmp(by_hand, "write ", 6) == 0
+                          || strncmp(by_hand, "room ", 5) == 0))
+            read = at;
+        if (strict && strncmp(by_hand, "room ", 5) == 0)
+            at = name_default(at, read);
+        at = name_line(at, by_hand, n, edition);
     }
     return named;
 }
@@ -218,6 +269,14 @@ struct row {
     const char *lines;
 };
 
+/* By the lenient way the row, by the strict one this refusal of a type that is
+ * not listed (02, Q-11). */
+struct unlisted_row {
+    struct row row;
+    const char *refusal;
+};
+
+/* The present edition, by both ways. */
 static const struct row rows[] = {
     /* the text after the first = on the first line for the caller */
     {CALLER, "40912=Odile\n", 5,
@@ -265,19 +324,13 @@ static const struct row rows[] = {
      REFUSED("0", "6 at 5 in 0")},
     {"82 03 0B 01 FF 70 00", "", 253,
      REFUSED("253", "7 at 6 in 0")},
-    /* a date; a state with a reference; a carried type, and a repeat */
+    /* a date; a repeat */
     {"80 11 01 08 30 36 31 35 31 34 33 30 02 05 34 30 39 31 32 CB",
      "40912=x\n", 4,
      "read 80 2 5\n01 1 6 15 14 30\n02 3 3430393132\n"
      TWICE(WRITTEN("20", "other"))
      "room 4: 9 at 5 in 0\nstep 01 4 8\nstep 02 14 5\nstep none\nstep none\n"
      "begins 2\nfind directory 6 1\ncaption 1=78\n"},
-    {"82 0F 0D 03 FF 01 02 05 02 00 FF 13 01 02 03 01 31 0C", "", 3,
-     "read 82 4 3\n0d 2 255 258 0 0\n05 4 00ff\n13 0 2 0 0 0\n03 3 31\n"
-     TWICE(WRITTEN("18", "other"))
-     "room 3: texts 3\nstep 0d 4 3\nstep 05 9 2\nstep 13 13 1\n"
-     "step 03 16 1\nstep none\nstep none\nbegins 4\nfind message 0 0\n"
-     "caption 0=\n"},
     {"82 06 13 01 02 13 01 05 49", "", 0,
      "read 82 2 0\n13 0 2 0 0 0\n13 0 5 0 0 0\n" TWICE(WRITTEN("9", "same"))
      "room 0: texts 0\nstep 13 4 1\nstep 13 7 1\nstep none\nstep none\n"
@@ -293,7 +346,7 @@ static const struct row rows[] = {
      REFUSED("0", "5 at 7 in 1")},
     /* 02, Q-3: the parameter at fault: none in message type, length and
      * checksum; type, length and contents of the first, the second and the
-     * third, behind a carried one and a repeat too; 9 is of none */
+     * third, behind a repeat too; 9 is of none */
     {"81", "7=x\n", 0, REFUSED("0", "1 at 0 in 0")},
     {"80 02", "", 1, REFUSED("1", "2 at 1 in 0")},
     {"80 04 04", "", 0, REFUSED("0", "3 at 2 in 1")},
@@ -301,7 +354,6 @@ static const struct row rows[] = {
     {"80 07 04 01 50 04", "", 0, REFUSED("0", "3 at 5 in 2")},
     {"80 06 04 01 50 02 02", "", 0, REFUSED("0", "4 at 6 in 2")},
     {"80 06 02 01 37 02 01 2F", "7=x\n", 253, REFUSED("253", "5 at 7 in 2")},
-    {"80 09 05 01 00 05 01 00 04 01 51", "", 0, REFUSED("0", "5 at 10 in 3")},
     {"82 09 13 01 02 13 01 05 0B 01 01", "", 0, REFUSED("0", "5 at 10 in 3")},
     {"80 06 02 01 37 02 01 37 09", "", 0, REFUSED("0", "6 at 8 in 0")},
     {"80 06 02 01 37 02 01 38 05", "7=x\n", 1,
@@ -310,18 +362,45 @@ static const struct row rows[] = {
      "begins 2\nfind directory 2 1\ncaption 1=78\n"},
 };
 
-/* Source 001's edition (02, Q-5). */
+/* With types that it does not list: a state with a reference and something
+ * carried; a fault behind carried ones. */
+static const struct unlisted_row unlisted_rows[] = {
+    {{"82 0F 0D 03 FF 01 02 05 02 00 FF 13 01 02 03 01 31 0C", "", 3,
+      "read 82 4 3\n0d 2 255 258 0 0\n05 4 00ff\n13 0 2 0 0 0\n03 3 31\n"
+      TWICE(WRITTEN("18", "other"))
+      "room 3: texts 3\nstep 0d 4 3\nstep 05 9 2\nstep 13 13 1\n"
+      "step 03 16 1\nstep none\nstep none\nbegins 4\nfind message 0 0\n"
+      "caption 0=\n"},
+     "10 at 7 in 2"},
+    {{"80 09 05 01 00 05 01 00 04 01 51", "", 0, REFUSED("0", "5 at 10 in 3")},
+     "10 at 2 in 1"},
+    /* alone, behind a caller and before one; cut off behind its type; with
+     * octets that follow, and with a wrong sum */
+    {{"80 03 05 01 41 36", "7=x\n", 1,
+      "read 80 1 1\n05 4 41\n" TWICE(WRITTEN("6", "other"))
+      "room 1: texts 1\nstep 05 4 1\nstep none\nstep none\nbegins 1\n"
+      "find message 0 0\ncaption 0=\n"},
+     "10 at 2 in 1"},
+    {{"80 07 02 01 37 FF 02 00 01 3D", "7=x\n", 2,
+      "read 80 2 3\n02 3 37\nff 4 0001\n" TWICE(WRITTEN("10", "other"))
+      "room 2: 9 at 3 in 0\nstep 02 4 1\nstep ff 7 2\nstep none\nstep none\n"
+      "begins 2\nfind directory 2 1\ncaption 1=78\n"},
+     "10 at 5 in 2"},
+    {{"80 06 17 01 50 02 01 37 D8", "7=x\n", 0,
+      "read 80 2 2\n17 4 50\n02 3 37\n" TWICE(WRITTEN("9", "other"))
+      "room 0: 9 at 2 in 0\nstep 17 4 1\nstep 02 7 1\nstep none\nstep none\n"
+      "begins 2\nfind directory 2 1\ncaption 1=78\n"},
+     "10 at 2 in 1"},
+    {{"80 06 02 01 37 00", "", 0, REFUSED("0", "8 at 6 in 0")},
+     "10 at 5 in 2"},
+    {{"80 03 05 01 41 36 00", "", 0, REFUSED("0", "7 at 6 in 0")},
+     "10 at 2 in 1"},
+    {{"80 06 02 01 37 80 01 41 7F", "", 9, REFUSED("9", "6 at 8 in 0")},
+     "10 at 5 in 2"},
+};
+
+/* Source 001's edition (02, Q-5), by both ways. */
 static const struct row old_rows[] = {
-    /* 08H is carried, of any length, and silences no name */
-    {"80 06 08 01 4F 07 01 41 D9", "", 2,
-     "read 80 2 2\n08 4 4f\n07 3 41\n" TWICE(WRITTEN("9", "other"))
-     "room 2: texts 2\nstep 08 4 1\nstep 07 7 1\nstep none\nstep none\n"
-     "begins 2\nfind message 7 1\ncaption 0=41\n"},
-    {"80 0D 08 05 00 01 02 03 04 07 01 41 02 01 37 D9", "7=x\n", 6,
-     "read 80 3 7\n08 4 0001020304\n07 3 41\n02 3 37\n"
-     TWICE(WRITTEN("16", "other"))
-     "room 6: 9 at 7 in 0\nstep 08 4 5\nstep 07 11 1\nstep 02 14 1\n"
-     "step none\nstep none\nbegins 3\nfind message 11 1\ncaption 0=41\n"},
     /* a caller of 18 digits, its line in the directory; 19, and no digit */
     {"80 14 02 12 31 31 31 31 31 31 31 31 31 31 31 31 31 31 31 31 "
      "31 31 E6",
@@ -345,23 +424,6 @@ static const struct row old_rows[] = {
      "read 80 2 1\n02 3 37\n04 0 80 0 0 0\n" TWICE(WRITTEN("9", "other"))
      "room 1: texts 1\nstep 02 4 1\nstep 04 7 1\nstep none\nstep none\n"
      "begins 2\nfind directory 2 1\ncaption 1=78\n"},
-    /* 13H, 0DH, 03H, 0EH and 11H are carried, with any contents */
-    {"82 03 13 01 02 65", "", 1,
-     "read 82 1 1\n13 4 02\n" TWICE(WRITTEN("6", "other"))
-     "room 1: texts 1\nstep 13 4 1\nstep none\nstep none\nbegins 1\n"
-     "find message 0 0\ncaption 0=\n"},
-    {"82 0F 0D 03 FF 01 02 05 02 00 FF 13 01 02 03 01 31 0C", "", 6,
-     "read 82 4 7\n0d 4 ff0102\n05 4 00ff\n13 4 02\n03 4 31\n"
-     TWICE(WRITTEN("18", "other"))
-     "room 6: 9 at 7 in 0\nstep 0d 4 3\nstep 05 9 2\nstep 13 13 1\n"
-     "step 03 16 1\nstep none\nstep none\nbegins 4\nfind message 0 0\n"
-     "caption 0=\n"},
-    {"80 0D 0D 01 41 0E 01 FF 11 01 00 13 02 01 02 EC", "=x\n", 5,
-     "read 80 4 5\n0d 4 41\n0e 4 ff\n11 4 00\n13 4 0102\n"
-     TWICE(WRITTEN("16", "other"))
-     "room 5: texts 5\nstep 0d 4 1\nstep 0e 7 1\nstep 11 10 1\n"
-     "step 13 13 2\nstep none\nstep none\nbegins 4\nfind message 0 0\n"
-     "caption 0=\n"},
     /* date, first called, lamp, forwarding and user, on both sides */
     {"82 16 01 08 30 32 32 39 32 33 35 39 12 01 39 0B 01 00 15 01 06 16 01 0F "
      "25",
@@ -373,10 +435,9 @@ static const struct row old_rows[] = {
      "find message 0 0\ncaption 0=\n"},
     {"80 0A 01 08 30 32 33 30 30 30 30 30 E8", "", 0,
      REFUSED("0", "5 at 6 in 1")},
-    {"80 06 05 01 00 15 01 80 DE", "", 0, REFUSED("0", "5 at 7 in 2")},
     {"80 03 15 01 07 60", "", 0, REFUSED("0", "5 at 4 in 1")},
     {"80 03 16 01 01 65", "", 0, REFUSED("0", "5 at 4 in 1")},
-    /* a name of 20 characters, and one of 21 behind something carried */
+    /* a name of 20 characters */
     {"82 16 07 14 41 41 41 41 41 41 41 41 41 41 41 41 41 41 41 41 "
      "41 41 41 41 39",
      "", 20,
@@ -385,9 +446,6 @@ static const struct row old_rows[] = {
      "room 20: texts 20\nstep 07 4 20\nstep none\nstep none\nbegins 1\n"
      "find message 4 20\n"
      "caption 0=4141414141414141414141414141414141414141\n"},
-    {"82 1A 05 01 00 07 15 41 41 41 41 41 41 41 41 41 41 41 41 41 "
-     "41 41 41 41 41 41 41 41 ED",
-     "", 21, REFUSED("21", "4 at 6 in 2")},
     /* what no edition bears on */
     {"", "40912=x\n", 0, REFUSED("0", "8 at 0 in 0")},
     {"81", "7=x\n", 0, REFUSED("0", "1 at 0 in 0")},
@@ -395,14 +453,70 @@ static const struct row old_rows[] = {
     {"82 03 0B 01 FF 70 00", "", 253, REFUSED("253", "7 at 6 in 0")},
 };
 
-/* Editions that there are not: 16 to everything, whatever the octets, and no
- * edition is named. */
-static const uint8_t unknown[] = {2, 3, 128, 255};
+/* With types that the sheet does not list. */
+static const struct unlisted_row old_unlisted_rows[] = {
+    /* 08H is carried, of any length, and silences no name */
+    {{"80 06 08 01 4F 07 01 41 D9", "", 2,
+      "read 80 2 2\n08 4 4f\n07 3 41\n" TWICE(WRITTEN("9", "other"))
+      "room 2: texts 2\nstep 08 4 1\nstep 07 7 1\nstep none\nstep none\n"
+      "begins 2\nfind message 7 1\ncaption 0=41\n"},
+     "10 at 2 in 1"},
+    {{"80 0D 08 05 00 01 02 03 04 07 01 41 02 01 37 D9", "7=x\n", 6,
+      "read 80 3 7\n08 4 0001020304\n07 3 41\n02 3 37\n"
+      TWICE(WRITTEN("16", "other"))
+      "room 6: 9 at 7 in 0\nstep 08 4 5\nstep 07 11 1\nstep 02 14 1\n"
+      "step none\nstep none\nbegins 3\nfind message 11 1\ncaption 0=41\n"},
+     "10 at 2 in 1"},
+    /* 13H, 0DH, 03H, 0EH and 11H are carried, with any contents */
+    {{"82 03 13 01 02 65", "", 1,
+      "read 82 1 1\n13 4 02\n" TWICE(WRITTEN("6", "other"))
+      "room 1: texts 1\nstep 13 4 1\nstep none\nstep none\nbegins 1\n"
+      "find message 0 0\ncaption 0=\n"},
+     "10 at 2 in 1"},
+    {{"82 0F 0D 03 FF 01 02 05 02 00 FF 13 01 02 03 01 31 0C", "", 6,
+      "read 82 4 7\n0d 4 ff0102\n05 4 00ff\n13 4 02\n03 4 31\n"
+      TWICE(WRITTEN("18", "other"))
+      "room 6: 9 at 7 in 0\nstep 0d 4 3\nstep 05 9 2\nstep 13 13 1\n"
+      "step 03 16 1\nstep none\nstep none\nbegins 4\nfind message 0 0\n"
+      "caption 0=\n"},
+     "10 at 2 in 1"},
+    {{"80 0D 0D 01 41 0E 01 FF 11 01 00 13 02 01 02 EC", "=x\n", 5,
+      "read 80 4 5\n0d 4 41\n0e 4 ff\n11 4 00\n13 4 0102\n"
+      TWICE(WRITTEN("16", "other"))
+      "room 5: texts 5\nstep 0d 4 1\nstep 0e 7 1\nstep 11 10 1\n"
+      "step 13 13 2\nstep none\nstep none\nbegins 4\nfind message 0 0\n"
+      "caption 0=\n"},
+     "10 at 2 in 1"},
+    /* a fault behind something carried: in forwarding, in a name of 21
+     * characters */
+    {{"80 06 05 01 00 15 01 80 DE", "", 0, REFUSED("0", "5 at 7 in 2")},
+     "10 at 2 in 1"},
+    {{"82 1A 05 01 00 07 15 41 41 41 41 41 41 41 41 41 41 41 41 41 "
+      "41 41 41 41 41 41 41 41 ED",
+      "", 21, REFUSED("21", "4 at 6 in 2")},
+     "10 at 2 in 1"},
+    /* 08H and 03H behind what is listed */
+    {{"80 09 07 01 41 02 01 37 08 01 50 9B", "7=x\n", 3,
+      "read 80 3 3\n07 3 41\n02 3 37\n08 4 50\n" TWICE(WRITTEN("12", "other"))
+      "room 3: texts 3\nstep 07 4 1\nstep 02 7 1\nstep 08 10 1\nstep none\n"
+      "step none\nbegins 3\nfind message 4 1\ncaption 0=41\n"},
+     "10 at 8 in 3"},
+    {{"80 06 02 01 37 03", "", 0, REFUSED("0", "8 at 6 in 0")},
+     "10 at 5 in 2"},
+};
+
+/* Editions and ways that there are not, one or both: 16 to everything,
+ * whatever the octets, and no edition is named. */
+static const struct book unknown[] = {
+    {2, 1}, {3, 1}, {128, 1}, {255, 1}, {2, 0}, {255, 0}, {0, 2},
+    {0, 3}, {0, 128}, {1, 2}, {1, 255}, {2, 2}, {255, 255},
+};
 
 static const struct row unknown_rows[] = {
     {CALLER, "40912=Odile\n", 5, REFUSED("5", "16 at 0 in 0")},
     {"82 03 0B 01 FF 70", "", 253, REFUSED("253", "16 at 0 in 0")},
     {"82 03 0B 01 FF 71", "", 0, REFUSED("0", "16 at 0 in 0")},
+    {"80 03 05", "", 0, REFUSED("0", "16 at 0 in 0")},
     {"81", "7=x\n", 0, REFUSED("0", "16 at 0 in 0")},
     {"", "", 0, REFUSED("0", "16 at 0 in 0")},
 };
@@ -421,28 +535,55 @@ static size_t octets_of(const char *hex, uint8_t *o)
     return n;
 }
 
-/* Told this edition, the case's answers name that one. */
-static void put_row(uint8_t edition, unsigned names, const struct row *row)
+/* Told this book, the case's answers name that edition. */
+static void put_row(struct book b, unsigned names, const struct row *row)
 {
     uint8_t o[TRAFFIC_OCTETS];
 
-    put_case(edition, o, octets_of(row->hex, o),
-             (const uint8_t *)row->directory, strlen(row->directory), row->room,
-             naming(row->lines, names));
+    put_case(b, o, octets_of(row->hex, o), (const uint8_t *)row->directory,
+             strlen(row->directory), row->room,
+             naming(row->lines, names, b.way == SECOND_STRICT));
+}
+
+static void put_both_ways(uint8_t edition, const struct row *of, size_t n)
+{
+    for (size_t i = 0; i < n; i++)
+        for (uint8_t way = 0; way < SECOND_WAYS; way++)
+            put_row((struct book){edition, way}, edition, &of[i]);
+}
+
+/* By the strict way refused, whatever is asked. */
+static void put_unlisted(uint8_t edition, const struct unlisted_row *of,
+                         size_t n)
+{
+    char lines_of[200];
+
+    for (size_t i = 0; i < n; i++) {
+        const char *r = of[i].refusal;
+        struct row row = of[i].row;
+
+        put_row((struct book){edition, SECOND_LENIENT}, edition, &row);
+        sprintf(lines_of, "read %s\nroom %zu: %s\nstep %s\nstep %s\nbegins 0\n"
+                "find %s\ncaption 7=\n", r, row.room, r, r, r, r);
+        row.lines = lines_of;
+        put_row((struct book){edition, SECOND_STRICT}, edition, &row);
+    }
 }
 
 static void put_rows(void)
 {
-    for (size_t i = 0; i < sizeof rows / sizeof *rows; i++)
-        put_row(SECOND_PRESENT, 0, &rows[i]);
-    for (size_t i = 0; i < sizeof old_rows / sizeof *old_rows; i++)
-        put_row(SECOND_OLD, 1, &old_rows[i]);
-    for (size_t k = 0; k < sizeof unknown; k++)
+    put_both_ways(SECOND_PRESENT, rows, sizeof rows / sizeof *rows);
+    put_unlisted(SECOND_PRESENT, unlisted_rows,
+                 sizeof unlisted_rows / sizeof *unlisted_rows);
+    put_both_ways(SECOND_OLD, old_rows, sizeof old_rows / sizeof *old_rows);
+    put_unlisted(SECOND_OLD, old_unlisted_rows,
+                 sizeof old_unlisted_rows / sizeof *old_unlisted_rows);
+    for (size_t k = 0; k < sizeof unknown / sizeof *unknown; k++)
         for (size_t i = 0; i < sizeof unknown_rows / sizeof *unknown_rows; i++)
             put_row(unknown[k], 0, &unknown_rows[i]);
 }
 
-/* ---- Both sides of the old edition's limits, read by each edition ---- */
+/* ---- Both sides of the old edition's limits, by each edition and way ---- */
 
 /* A call: n octets x of a type, and behind them the caller 7. */
 static void put_limit(uint8_t type, uint8_t n, uint8_t x)
@@ -457,9 +598,9 @@ static void put_limit(uint8_t type, uint8_t n, uint8_t x)
     for (size_t i = 0; i < size; i++)
         sum = (uint8_t)(sum + o[i]);
     o[size++] = (uint8_t)(0 - sum);
-    for (uint8_t edition = 0; edition < SECOND_EDITIONS; edition++)
-        put_case(edition, o, size, (const uint8_t *)directory,
-                 strlen(directory), n, NULL);
+    for (uint8_t i = 0; i < SECOND_EDITIONS * SECOND_WAYS; i++)
+        put_case((struct book){i / SECOND_WAYS, i % SECOND_WAYS}, o, size,
+                 (const uint8_t *)directory, strlen(directory), n, NULL);
 }
 
 static void put_limits(void)
@@ -486,14 +627,18 @@ static void put_limits(void)
             put_limit(octets[i].type, 1, x);
 }
 
-/* A message that both editions take, by editions that there are not. */
+/* A message that all take, by editions and by ways that there are not. */
 static void put_unknown(void)
 {
     static const uint8_t o[] = {0x80, 0x03, 0x02, 0x01, 0x37, 0x43};
-    static const uint8_t editions[] = {2, 4, 8, 16, 32, 64, 128, 129, 254};
+    static const uint8_t numbers[] = {2, 4, 8, 16, 32, 64, 128, 129, 254};
 
-    for (size_t i = 0; i < sizeof editions; i++)
-        put_case(editions[i], o, sizeof o, (const uint8_t *)"7=x", 3, 1, NULL);
+    for (size_t i = 0; i < 2 * sizeof numbers; i++) {
+        uint8_t x = numbers[i / 2], known = i / 2 % 2;
+        struct book b = {i % 2 ? known : x, i % 2 ? x : known};
+
+        put_case(b, o, sizeof o, (const uint8_t *)"7=x", 3, 1, NULL);
+    }
 }
 
 /* ---- Traffic, with directories ---- */
@@ -548,14 +693,14 @@ static void add_line(struct traffic *t, struct directory *d,
 }
 
 /* Lines around the caller that counts in the message, or around any. */
-static void make_directory(struct traffic *t, uint8_t edition,
-                           const uint8_t *o, size_t n, struct directory *d)
+static void make_directory(struct traffic *t, struct book b, const uint8_t *o,
+                           size_t n, struct directory *d)
 {
     const uint8_t *caller = (const uint8_t *)"40912";
     size_t start = 0, length = 5, count = traffic_number(t, 6);
 
     d->n = 0;
-    if (second_counted(edition, o, n, 0x02, &start, &length))
+    if (second_counted(b.edition, b.way, o, n, 0x02, &start, &length))
         caller = o + start;
     for (size_t i = 0; i < count; i++) {
         add_line(t, d, caller, length);
@@ -565,77 +710,99 @@ static void make_directory(struct traffic *t, uint8_t edition,
 }
 
 /* Often the texts' own size, or one less. */
-static size_t choose_room(struct traffic *t, uint8_t edition,
-                          const uint8_t *o, size_t n)
+static size_t choose_room(struct traffic *t, struct book b, const uint8_t *o,
+                          size_t n)
 {
     struct second_draft d;
-    struct second_verdict v = second_read(edition, o, n, SECOND_TEXTS, &d);
-    size_t way = traffic_number(t, 4);
+    struct second_verdict v =
+        second_read(b.edition, b.way, o, n, SECOND_TEXTS, &d);
+    size_t sort = traffic_number(t, 4);
 
-    if (v.number || way == 0)
+    if (v.number || sort == 0)
         return traffic_number(t, SECOND_TEXTS + 1);
-    return way == 1 || d.text_octets == 0 ? d.text_octets
-                                          : d.text_octets - 1u;
+    return sort == 1 || d.text_octets == 0 ? d.text_octets
+                                           : d.text_octets - 1u;
 }
 
-static void put_traffic(struct traffic *t, uint8_t edition, const uint8_t *o,
+static void put_traffic(struct traffic *t, struct book b, const uint8_t *o,
                         size_t n)
 {
     struct directory d;
 
-    make_directory(t, edition, o, n, &d);
-    put_case(edition, o, n, d.octets, d.n, choose_room(t, edition, o, n), NULL);
+    make_directory(t, b, o, n, &d);
+    put_case(b, o, n, d.octets, d.n, choose_room(t, b, o, n), NULL);
 }
 
 /* A short message in which a caller counts and no name does. */
-static int goes_by_caller(uint8_t edition, const uint8_t *o, size_t n)
+static int goes_by_caller(struct book b, const uint8_t *o, size_t n)
 {
     size_t start, length;
 
-    return n <= SHORT && second_counted(edition, o, n, 0x02, &start, &length)
-        && !second_counted(edition, o, n, 0x07, &start, &length);
+    return n <= SHORT
+        && second_counted(b.edition, b.way, o, n, 0x02, &start, &length)
+        && !second_counted(b.edition, b.way, o, n, 0x07, &start, &length);
 }
 
-static void put_messages(uint8_t edition)
+/* So many short messages that are built for one book, to be read by
+ * another. */
+static void put_crossed(struct traffic *t, struct book of, struct book by,
+                        unsigned many)
 {
-    struct traffic t;
+    uint8_t o[TRAFFIC_OCTETS];
+
+    for (unsigned kept = 0; kept < many;) {
+        size_t n = traffic_next(t, o);
+
+        if (n > SHORT || !second_is_message(of.edition, of.way, o, n))
+            continue;
+        kept++;
+        put_traffic(t, by, o, n);
+    }
+}
+
+static void put_messages(struct traffic *t, const struct counts *c)
+{
     uint8_t o[TRAFFIC_OCTETS];
     unsigned kept = 0, passed = 0;
 
-    traffic_start(&t, 3u + edition);
-    t.edition = edition;
-    while (kept < counts[edition].messages) {
-        size_t n = traffic_next(&t, o);
+    while (kept < c->messages) {
+        size_t n = traffic_next(t, o);
         if (n > SHORT && ++passed % LONG_EVERY)
             continue;
         kept++;
-        put_traffic(&t, edition, o, n);
+        put_traffic(t, c->book, o, n);
     }
-    for (kept = 0; kept < counts[edition].callers;) {
-        size_t n = traffic_next(&t, o);
-        if (!goes_by_caller(edition, o, n))
+    for (kept = 0; kept < c->callers;) {
+        size_t n = traffic_next(t, o);
+        if (!goes_by_caller(c->book, o, n))
             continue;
         kept++;
-        put_traffic(&t, edition, o, n);
+        put_traffic(t, c->book, o, n);
     }
-    for (kept = 0; kept < counts[edition].longest;) {
-        size_t n = traffic_next(&t, o);
-        if (n != 258 || !second_is_message(edition, o, n))
+    for (kept = 0; kept < c->longest;) {
+        size_t n = traffic_next(t, o);
+        if (n != 258 || !second_is_message(c->book.edition, c->book.way, o, n))
             continue;
         kept++;
-        put_traffic(&t, edition, o, n);
+        put_traffic(t, c->book, o, n);
     }
-    for (kept = 0; kept < counts[edition].dated; kept++) {
-        size_t n = traffic_dated(&t, o);
-        put_traffic(&t, edition, o, n);
+    for (kept = 0; kept < c->dated; kept++) {
+        size_t n = traffic_dated(t, o);
+        put_traffic(t, c->book, o, n);
     }
-    for (kept = 0; kept < CROSSED;) {
-        size_t n = traffic_next(&t, o);
-        if (n > SHORT || !second_is_message(edition, o, n))
-            continue;
-        kept++;
-        put_traffic(&t, edition == SECOND_PRESENT, o, n);
-    }
+}
+
+static void put_book(const struct counts *c)
+{
+    struct book of = c->book;
+    struct traffic t;
+
+    traffic_start(&t, 3u + of.edition + 2u * (of.way == SECOND_STRICT));
+    t.edition = of.edition;
+    t.way = of.way;
+    put_messages(&t, c);
+    put_crossed(&t, of, (struct book){1 - of.edition, of.way}, c->crossed[0]);
+    put_crossed(&t, of, (struct book){of.edition, 1 - of.way}, c->crossed[1]);
 }
 
 int main(int argc, char **argv)
@@ -649,8 +816,8 @@ int main(int argc, char **argv)
     put_rows();
     put_limits();
     put_unknown();
-    put_messages(SECOND_PRESENT);
-    put_messages(SECOND_OLD);
+    for (size_t i = 0; i < sizeof counts / sizeof *counts; i++)
+        put_book(&counts[i]);
     wrong |= ferror(cases) | ferror(lines);
     wrong |= fclose(cases) | fclose(lines);
     return wrong ? 1 : 0;

@@ -3,7 +3,7 @@
  * traffic, then some accepted messages with one wrong octet at every place,
  * then both again with dates at the limits of their months; each message
  * behind its length in two octets, and the second reader's listing of each.
- * All of it is of the present edition, as listings are.
+ * All of it is of the present edition and the lenient way, as listings are.
  * Usage: replay MESSAGES LISTINGS
  */
 #include <stdio.h>
@@ -36,12 +36,17 @@ static void put(const uint8_t *o, size_t n)
 static void put_spoilt(const uint8_t *o, size_t n)
 {
     for (size_t at = 0; at < n; at++)
-        for (int way = 0; way < 2; way++) {
+        for (int high = 0; high < 2; high++) {
             uint8_t p[TRAFFIC_OCTETS];
             memcpy(p, o, n);
-            p[at] = (uint8_t)(way ? p[at] ^ 0x80 : p[at] + 1);
+            p[at] = (uint8_t)(high ? p[at] ^ 0x80 : p[at] + 1);
             put(p, n);
         }
+}
+
+static int is_listable(const uint8_t *o, size_t n)
+{
+    return second_is_message(SECOND_PRESENT, SECOND_LENIENT, o, n);
 }
 
 int main(int argc, char **argv)
@@ -66,7 +71,7 @@ int main(int argc, char **argv)
     }
     for (kept = 0; kept < SPOILT;) {
         size_t n = traffic_next(&t, o);
-        if (n > SHORT || !second_is_message(SECOND_PRESENT, o, n))
+        if (n > SHORT || !is_listable(o, n))
             continue;
         kept++;
         put_spoilt(o, n);
@@ -77,7 +82,7 @@ int main(int argc, char **argv)
     }
     for (kept = 0; kept < DATED_SPOILT;) {
         size_t n = traffic_dated(&t, o);
-        if (n != DATE_ALONE || !second_is_message(SECOND_PRESENT, o, n))
+        if (n != DATE_ALONE || !is_listable(o, n))
             continue;
         kept++;
         put_spoilt(o, n);

@@ -2,10 +2,10 @@
  * Writes what the program `rows` reads and what it must print: the rows of
  * 01's table, of 02's calendar (Q-2) and parameters at fault (Q-3) and of the
  * other editions and ways, whose outcomes stand here by hand, and both sides
- * of every limit of both editions, with what the second reader says; of the
- * limits of 02 the refusals stand here too. Each case is an edition (0 the
- * present one, 1 the old, Q-5), a way (0 types without a row refused, 1
- * carried), the octets' number in two octets, and the octets. Usage: rows CASES
+ * of every limit of both editions by both ways, with what the second reader
+ * says; of the limits of 02 the refusals stand here too. Each case is an
+ * edition (0 the present one, 1 the old, Q-5), a way (0 strict, 1 lenient,
+ * Q-11), the octets' number in two octets, and the octets. Usage: rows CASES
  * LINES
  */
 #include <stdio.h>
@@ -18,11 +18,18 @@ static int wrong;
 
 /* ---- One case ---- */
 
-static void put(unsigned edition, unsigned way, const uint8_t *o, size_t n,
-                const char *line)
+/* The edition and the way of the cases made from here on. */
+static uint8_t edition = SECOND_PRESENT, way = SECOND_LENIENT;
+
+static void go_by(unsigned of_edition, unsigned of_way)
 {
-    uint8_t head[4] = {(uint8_t)edition, (uint8_t)way, (uint8_t)(n >> 8),
-                       (uint8_t)n};
+    edition = (uint8_t)of_edition;
+    way = (uint8_t)of_way;
+}
+
+static void put(const uint8_t *o, size_t n, const char *line)
+{
+    uint8_t head[4] = {edition, way, (uint8_t)(n >> 8), (uint8_t)n};
 
     fwrite(head, 1, 4, cases);
     fwrite(o, 1, n, cases);
@@ -31,44 +38,70 @@ static void put(unsigned edition, unsigned way, const uint8_t *o, size_t n,
     fprintf(lines, "| %s\n", line);
 }
 
-/* The edition of the cases made from here on that name none. */
-static uint8_t edition = SECOND_PRESENT;
+/* ---- What the second reader says ---- */
 
-/* The lenient way: what the second reader says. A listing stands ahead of it in
- * the present edition. */
-static void put_case(const uint8_t *o, size_t n, const char *by_hand)
+static char said[2 * SECOND_LISTING];
+
+/* A listing is of the present edition and the lenient way; the others have a
+ * title. Gives where it ends, as do all of these. */
+static size_t say_title(const uint8_t *o, size_t n)
 {
-    struct second_answer heard = second_listen(edition, o, n);
+    size_t listed;
+
+    if (edition != SECOND_PRESENT || way != SECOND_LENIENT)
+        return (size_t)sprintf(said, "edition %u way %u ", edition, way);
+    listed = second_listing(o, n, said);
+    for (size_t i = 0; i < listed; i++)
+        said[i] = said[i] == '\n' ? ' ' : said[i];
+    return listed;
+}
+
+static size_t say_heard(size_t at, const char *who, struct second_answer heard)
+{
+    at += (size_t)sprintf(said + at, "| %s ", who);
+    if (heard.answer == SECOND_WAITS)
+        at += (size_t)sprintf(said + at, "waits");
+    else if (heard.answer == SECOND_MESSAGE)
+        at += (size_t)sprintf(said + at, "size %zu", heard.size);
+    else
+        at += (size_t)sprintf(said + at, "%u at %zu in %zu", heard.number,
+                              heard.place, heard.parameter);
+    return at + (size_t)sprintf(said + at, ", took %zu, edition %u",
+                                heard.taken, heard.edition);
+}
+
+static size_t say_read(size_t at, const uint8_t *o, size_t n)
+{
     struct second_draft draft;
     struct second_verdict read =
-        second_read(edition, o, n, SECOND_TEXTS, &draft);
-    char text[SECOND_LISTING], said[2 * SECOND_LISTING];
-    size_t listed = second_listing(o, n, text), at = 0;
+        second_read(edition, way, o, n, SECOND_TEXTS, &draft);
 
-    if (edition != SECOND_PRESENT)
-        listed = (size_t)sprintf(text, "edition %u way 1 ", edition);
-    for (size_t i = 0; i < listed; i++)
-        said[at++] = text[i] == '\n' ? ' ' : text[i];
-    if (heard.answer == SECOND_WAITS)
-        at += (size_t)sprintf(said + at, "| L waits");
-    else if (heard.answer == SECOND_MESSAGE)
-        at += (size_t)sprintf(said + at, "| L size %zu", heard.size);
-    else
-        at += (size_t)sprintf(said + at, "| L %u at %zu in %zu", heard.number,
-                              heard.place, heard.parameter);
-    at += (size_t)sprintf(said + at, ", took %zu, edition %u", heard.taken,
-                          heard.edition);
-    if (edition >= SECOND_EDITIONS)
-        said[at] = '\0';
-    else if (read.number)
-        sprintf(said + at, " | read %u at %zu in %zu", read.number, read.place,
-                read.parameter);
-    else
-        sprintf(said + at, " | read size %zu", n);
+    if (read.number)
+        return at + (size_t)sprintf(said + at, " | read %u at %zu in %zu",
+                                    read.number, read.place, read.parameter);
+    return at + (size_t)sprintf(said + at, " | read size %zu", n);
+}
 
-    put(edition, 1, o, n, by_hand ? by_hand : said);
+/* A listener that is reset by the function that names no way is strict, and
+ * stands beside one that is told the strict way. By an unknown number nothing
+ * is read. */
+static void put_case(const uint8_t *o, size_t n, const char *by_hand)
+{
+    size_t at = say_title(o, n);
+
+    at = say_heard(at, "L", second_listen(edition, way, o, n));
+    if (way == SECOND_STRICT) {
+        said[at++] = ' ';
+        at = say_heard(at, "default",
+                       second_listen(edition, SECOND_STRICT, o, n));
+    }
+    if (edition < SECOND_EDITIONS && way < SECOND_WAYS)
+        at = say_read(at, o, n);
+    said[at] = '\0';
+    put(o, n, by_hand ? by_hand : said);
     if (by_hand && strcmp(by_hand, said)) {
-        printf("rows: by hand %s\n      the second reader %s\n", by_hand, said);
+        printf("rows: by hand %s\n      the second reader %s\n", by_hand,
+               said);
         wrong = 1;
     }
 }
@@ -97,7 +130,7 @@ static void hex_case(const char *hex, const char *by_hand)
 static void spoilt_case(const uint8_t *o, size_t n, unsigned number,
                         size_t place, size_t parameter)
 {
-    struct second_answer heard = second_listen(edition, o, n);
+    struct second_answer heard = second_listen(edition, way, o, n);
 
     put_case(o, n, NULL);
     if (heard.number != number || heard.place != place
@@ -109,8 +142,9 @@ static void spoilt_case(const uint8_t *o, size_t n, unsigned number,
     }
 }
 
-/* By hand, in the present edition: a refusal with number, place, parameter and
- * octets taken; octets that end early; an accepted message. */
+/* By hand, in the present edition by the lenient way: a refusal with number,
+ * place, parameter and octets taken; octets that end early; an accepted
+ * message. */
 #define SPOILT(k, p, q, taken)                                             \
     "refused=" k " at=" p " in=" q " | L " k " at " p " in " q ", took "   \
     taken ", edition 0 | read " k " at " p " in " q
@@ -225,8 +259,7 @@ static const char *const parameter_table[][2] = {
 };
 
 /* ---- The other editions and ways, by hand: number, place and parameter, 0
- * where a listener waits, SIZE where the octets are a message. The second
- * reader knows the lenient way alone, and must say the same there. ---- */
+ * where a listener waits, SIZE where the octets are a message ---- */
 
 #define SIZE 255
 
@@ -236,13 +269,25 @@ static const struct {
     unsigned number, place, parameter;
 } by_hand[] = {
     /* an unlisted type, in any room and ahead of 3; listed ones as ever */
+    {0, 0, "", 0, 0, 0},
+    {0, 0, "81", 1, 0, 0},
+    {0, 0, "80 02", 2, 1, 0},
+    {0, 0, "80 03", 0, 0, 0},
     {0, 0, "80 03 05", 10, 2, 1},
     {0, 0, "80 04 05", 10, 2, 1},
     {0, 0, "80 FF 05", 10, 2, 1},
     {0, 0, "80 03 00", 10, 2, 1},
     {0, 0, "80 03 17", 10, 2, 1},
     {0, 0, "80 03 FF", 10, 2, 1},
+    {0, 0, "80 0B 05", 10, 2, 1},
+    {0, 0, "80 FF 05 FD", 10, 2, 1},
+    {0, 0, "80 FF 05 FC", 10, 2, 1},
+    {0, 0, "80 03 05 01 00 77", 10, 2, 1},
+    {0, 0, "80 03 05 01 00 78", 10, 2, 1},
     {0, 0, "82 06 13 01 02 05", 10, 5, 2},
+    {0, 0, "82 06 13 01 02 05 01 00 5C", 10, 5, 2},
+    {0, 0, "82 06 05 01 00 0B 01 01", 10, 2, 1},
+    {0, 0, "80 09 05 01 00 05 01 00 04 01 51", 10, 2, 1},
     {0, 0, "80 04 04", 3, 2, 1},
     {0, 0, "80 06 0D", 3, 2, 1},
     {0, 0, "80 05 0D", 0, 0, 0},
@@ -252,6 +297,8 @@ static const struct {
     {0, 0, "80 03 16 01 01", 0, 0, 0},
     {0, 0, "82 03 13 01 02 65", SIZE, 0, 0},
     {0, 0, "82 03 13 01 02 66", 6, 5, 0},
+    {0, 0, "82 06 13 01 02 13 01 05 49", SIZE, 0, 0},
+    {0, 0, "80 06 04 01 50 02 01 37 EB", SIZE, 0, 0},
     /* dates by the calendar (02, Q-2) in both editions */
     {0, 0, "80 0A 01 08 30 32 32 39", 0, 0, 0},
     {0, 0, "80 0A 01 08 30 32 33", 5, 6, 1},
@@ -346,6 +393,10 @@ static const struct {
     {1, 1, "80 FF 0D FC", 4, 3, 1},
     {1, 1, "80 06 02 01 37 04 01 50 EB", SIZE, 0, 0},
     /* and in the strict way refused */
+    {1, 0, "", 0, 0, 0},
+    {1, 0, "81", 1, 0, 0},
+    {1, 0, "80 02", 2, 1, 0},
+    {1, 0, "80 03", 0, 0, 0},
     {1, 0, "80 03 05", 10, 2, 1},
     {1, 0, "80 03 03", 10, 2, 1},
     {1, 0, "80 04 08", 10, 2, 1},
@@ -355,6 +406,10 @@ static const struct {
     {1, 0, "80 03 13", 10, 2, 1},
     {1, 0, "80 03 14", 10, 2, 1},
     {1, 0, "82 06 0B 01 FF 13", 10, 5, 2},
+    {1, 0, "82 03 13 01 02 65", 10, 2, 1},
+    {1, 0, "82 05 0D 03 FF 01 02 67", 10, 2, 1},
+    {1, 0, "80 06 07 01 41 08 01 4F D9", 10, 5, 2},
+    {1, 0, "80 06 08 01 4F 07 01 41 D9", 10, 2, 1},
     {1, 0, "80 0A 01", 0, 0, 0},
     {1, 0, "80 0B 01", 3, 2, 1},
     {1, 0, "80 03 02", 0, 0, 0},
@@ -416,95 +471,127 @@ static const struct {
     {1, 1, "80 06 04 01 50 02 01 37 EB", SIZE, 0, 0},
 };
 
-static void told_case(unsigned of_edition, unsigned way, const uint8_t *o,
-                      size_t n, unsigned number, unsigned place,
-                      unsigned parameter)
+/* By hand: what a listener of this name says. */
+static size_t tell_heard(char *line, const char *who, size_t n,
+                         unsigned number, unsigned place, unsigned parameter)
 {
-    char line[200];
-    size_t at = (size_t)sprintf(line, "edition %u way %u ", of_edition, way);
+    size_t at = (size_t)sprintf(line, "| %s ", who), taken = n;
 
     if (number == 0)
-        sprintf(line + at,
-                "| L waits, took %zu, edition %u | read 8 at %zu in 0", n,
-                of_edition, n);
+        at += (size_t)sprintf(line + at, "waits");
     else if (number == SIZE)
-        sprintf(line + at, "| L size %zu, took %zu, edition %u | read size %zu",
-                n, n, of_edition, n);
+        at += (size_t)sprintf(line + at, "size %zu", n);
     else
-        sprintf(line + at,
-                "| L %u at %u in %u, took %u, edition %u | read %u at %u in %u",
-                number, place, parameter, place + 1, of_edition, number, place,
-                parameter);
-    if (way == 0) {
-        put(of_edition, way, o, n, line);
-        return;
-    }
-    edition = (uint8_t)of_edition;
+        at += (size_t)sprintf(line + at, "%u at %u in %u", number, place,
+                              parameter);
+    if (number != 0 && number != SIZE)
+        taken = place + 1;
+    return at + (size_t)sprintf(line + at, ", took %zu, edition %u ", taken,
+                                edition);
+}
+
+static void told_case(const uint8_t *o, size_t n, unsigned number,
+                      unsigned place, unsigned parameter)
+{
+    char line[300];
+    size_t at = (size_t)sprintf(line, "edition %u way %u ", edition, way);
+
+    at += tell_heard(line + at, "L", n, number, place, parameter);
+    if (way == SECOND_STRICT)
+        at += tell_heard(line + at, "default", n, number, place, parameter);
+    if (number == 0)
+        sprintf(line + at, "| read 8 at %zu in 0", n);
+    else if (number == SIZE)
+        sprintf(line + at, "| read size %zu", n);
+    else
+        sprintf(line + at, "| read %u at %u in %u", number, place, parameter);
     put_case(o, n, line);
-    edition = SECOND_PRESENT;
 }
 
 static void told(void)
 {
     uint8_t o[300];
 
-    for (size_t i = 0; i < sizeof by_hand / sizeof *by_hand; i++)
-        told_case(by_hand[i].edition, by_hand[i].way, o,
-                  octets_of(by_hand[i].hex, o), by_hand[i].number,
+    for (size_t i = 0; i < sizeof by_hand / sizeof *by_hand; i++) {
+        go_by(by_hand[i].edition, by_hand[i].way);
+        told_case(o, octets_of(by_hand[i].hex, o), by_hand[i].number,
                   by_hand[i].place, by_hand[i].parameter);
+    }
 }
 
 /* ---- Unknown editions and ways: 16, whatever the octets; no edition is
  * named, and none of the octets is taken ---- */
 
+#define SIXTEEN "16 at 0 in 0, took 0, edition 0"
+#define UNKNOWN(title) title " | L " SIXTEEN
+#define UNKNOWN_STRICT(title) title " | L " SIXTEEN " | default " SIXTEEN
+
 static const struct {
     uint8_t edition, way;
     const char *line;
 } unknown[] = {
-    {2, 1, "edition 2 way 1 | L 16 at 0 in 0, took 0, edition 0"},
-    {3, 1, "edition 3 way 1 | L 16 at 0 in 0, took 0, edition 0"},
-    {128, 1, "edition 128 way 1 | L 16 at 0 in 0, took 0, edition 0"},
-    {255, 1, "edition 255 way 1 | L 16 at 0 in 0, took 0, edition 0"},
-    {2, 0, "edition 2 way 0 | L 16 at 0 in 0, took 0, edition 0"},
-    {255, 0, "edition 255 way 0 | L 16 at 0 in 0, took 0, edition 0"},
-    {0, 2, "edition 0 way 2 | L 16 at 0 in 0, took 0, edition 0"},
-    {1, 2, "edition 1 way 2 | L 16 at 0 in 0, took 0, edition 0"},
-    {0, 255, "edition 0 way 255 | L 16 at 0 in 0, took 0, edition 0"},
-    {1, 255, "edition 1 way 255 | L 16 at 0 in 0, took 0, edition 0"},
-    {2, 2, "edition 2 way 2 | L 16 at 0 in 0, took 0, edition 0"},
-    {255, 255, "edition 255 way 255 | L 16 at 0 in 0, took 0, edition 0"},
+    {2, 1, UNKNOWN("edition 2 way 1")},
+    {3, 1, UNKNOWN("edition 3 way 1")},
+    {128, 1, UNKNOWN("edition 128 way 1")},
+    {255, 1, UNKNOWN("edition 255 way 1")},
+    {2, 0, UNKNOWN_STRICT("edition 2 way 0")},
+    {3, 0, UNKNOWN_STRICT("edition 3 way 0")},
+    {128, 0, UNKNOWN_STRICT("edition 128 way 0")},
+    {255, 0, UNKNOWN_STRICT("edition 255 way 0")},
+    {0, 2, UNKNOWN("edition 0 way 2")},
+    {1, 2, UNKNOWN("edition 1 way 2")},
+    {0, 3, UNKNOWN("edition 0 way 3")},
+    {1, 128, UNKNOWN("edition 1 way 128")},
+    {0, 255, UNKNOWN("edition 0 way 255")},
+    {1, 255, UNKNOWN("edition 1 way 255")},
+    {2, 2, UNKNOWN("edition 2 way 2")},
+    {255, 255, UNKNOWN("edition 255 way 255")},
 };
 
 static void unknown_ones(void)
 {
-    /* nothing; not refused yet; refused with 1; a message; more behind it */
-    static const char *const octets[] = {"", "80 03", "81",
+    /* nothing; not refused yet; refused with 1, by the strict way with 10; a
+     * message; more behind it */
+    static const char *const octets[] = {"", "80 03", "81", "80 03 05",
                                          "82 03 0B 01 FF 70",
                                          "82 03 0B 01 FF 70 00"};
     uint8_t o[300];
 
     for (size_t i = 0; i < sizeof unknown / sizeof *unknown; i++)
         for (size_t k = 0; k < sizeof octets / sizeof *octets; k++) {
-            size_t n = octets_of(octets[k], o);
-
-            edition = unknown[i].edition;
-            if (unknown[i].way == 1)
-                put_case(o, n, unknown[i].line);
-            else
-                put(edition, unknown[i].way, o, n, unknown[i].line);
+            go_by(unknown[i].edition, unknown[i].way);
+            put_case(o, octets_of(octets[k], o), unknown[i].line);
         }
-    /* a message that both editions take, by every edition that there is not */
-    for (edition = SECOND_EDITIONS; edition != 0; edition++)
-        hex_case("80 03 02 01 37 43", NULL);
-    edition = SECOND_PRESENT;
+    /* a message that all take, by every edition and every way that there is
+     * not */
+    for (unsigned x = SECOND_EDITIONS; x < 256; x++)
+        go_by(x, SECOND_LENIENT), hex_case("80 03 02 01 37 43", NULL);
+    for (unsigned x = SECOND_WAYS; x < 256; x++)
+        go_by(x % SECOND_EDITIONS, x), hex_case("80 03 02 01 37 43", NULL);
 }
 
 /* ---- Both sides of every limit ---- */
 
-/* the listed types, and carried ones beside and between them */
+/* the listed types, and unlisted ones beside and between them */
 static const uint8_t types[] = {0x00, 0x01, 0x02, 0x03, 0x04, 0x05, 0x07,
                                 0x08, 0x0B, 0x0D, 0x0E, 0x11, 0x12, 0x13,
                                 0x15, 0x16, 0x17, 0xFF};
+
+/* types that neither edition lists, and those that the old one does not */
+static const uint8_t unlisted[] = {0x00, 0x05, 0x17, 0x20, 0x80, 0xFF,
+                                   0x03, 0x08, 0x0D, 0x0E, 0x11, 0x13};
+
+static size_t unlisted_types(void)
+{
+    return edition == SECOND_OLD ? sizeof unlisted : 6;
+}
+
+/* By the strict way such a type is refused, and no length comes behind it. */
+static int is_refused(uint8_t type)
+{
+    return way == SECOND_STRICT
+        && memchr(unlisted, type, unlisted_types()) != NULL;
+}
 
 /* lengths on both sides of 1, 3, 8, 20, 50 and 253; in the old edition of 1, 8,
  * 18, 20 and 253 */
@@ -538,8 +625,9 @@ static const struct contents contents[] = {
     {0, 0, NULL},
 };
 
-/* those of the old edition, which carries six more types; of four, and of the
- * caller, every octet is tried besides */
+/* those of the old edition, which does not list six of the types; of four, and
+ * of the caller, every octet is tried besides, or by the strict way those at
+ * the limits */
 static const struct contents old_contents[] = {
     {0x12, 1, "00 1F 20 23 28 29 2A 2D 2F 30 31 38 39 3A 41 61 80 B0 B9 FF"},
     {0x07, 1, "00 1F 20 21 7D 7E 7F 80 A0 FE FF"},
@@ -557,6 +645,15 @@ static const struct contents old_contents[] = {
 };
 
 static const uint8_t all_octets_of[] = {0x02, 0x04, 0x0B, 0x15, 0x16};
+
+static const struct contents some_octets[] = {
+    {0x02, 1, "1F 20 23 28 29 2A 2D 2F 30 39 3A B0 FF"},
+    {0x04, 1, "00 4E 4F 50 51 FF"},
+    {0x0B, 1, "00 01 7F 80 FE FF"},
+    {0x15, 1, "00 06 07 7F 80 FF"},
+    {0x16, 1, "00 01 02 03 05 06 09 0A 0D 0E 0F 10 FF"},
+    {0, 0, NULL},
+};
 
 /* dates up to an octet on a side of a limit */
 static const char *const dates[] = {
@@ -592,10 +689,34 @@ static void octet_case(uint8_t type, uint8_t n, uint8_t x, int wrong_sum)
         put_case(o, size + 1, NULL);
 }
 
+/* each octet of contents, alone and as the message's last parameter */
+static void contents_cases(const struct contents *of_types)
+{
+    for (; of_types->n != 0; of_types++) {
+        uint8_t x[32];
+        size_t n = octets_of(of_types->octets, x);
+
+        for (size_t i = 0; i < n; i++)
+            octet_case(of_types->type, of_types->n, x[i], 1);
+    }
+}
+
+/* each length, with nothing, 1, 2 and 3 octets left after it */
+static void lengths_of(uint8_t type)
+{
+    for (size_t i = 0; i < LENGTHS; i++)
+        for (unsigned left = 0; left <= 3; left++) {
+            unsigned room = 2 + lengths[edition][i] + left;
+            uint8_t o[4] = {0x80, (uint8_t)room, type,
+                            (uint8_t)lengths[edition][i]};
+
+            if (room >= 3 && room <= 255)
+                put_case(o, 4, NULL);
+        }
+}
+
 static void limits(const struct contents *of_types)
 {
-    uint8_t o[300] = {0x80, 3};
-
     for (unsigned x = 0x7F; x <= 0x83; x++)
         for (unsigned l = 0; l <= 4; l++) {
             uint8_t start[2] = {(uint8_t)x, (uint8_t)l};
@@ -604,36 +725,16 @@ static void limits(const struct contents *of_types)
     hex_case("00", NULL);
     hex_case("FF", NULL);
     hex_case("82 FF", NULL);
-
     /* each type in each room on a side of a limit */
     for (size_t t = 0; t < sizeof types; t++)
         for (unsigned room = 3; room <= 14; room++) {
-            o[1] = (uint8_t)room;
-            o[2] = types[t];
+            uint8_t o[3] = {0x80, (uint8_t)room, types[t]};
             put_case(o, 3, NULL);
         }
-
-    /* each length, with nothing, 1, 2 and 3 octets left after it */
     for (size_t t = 0; t < sizeof types; t++)
-        for (size_t i = 0; i < LENGTHS; i++)
-            for (unsigned left = 0; left <= 3; left++) {
-                unsigned room = 2 + lengths[edition][i] + left;
-                if (room < 3 || room > 255)
-                    continue;
-                o[1] = (uint8_t)room;
-                o[2] = types[t];
-                o[3] = (uint8_t)lengths[edition][i];
-                put_case(o, 4, NULL);
-            }
-
-    /* each octet of contents, alone and as the message's last parameter */
-    for (; of_types->n != 0; of_types++) {
-        uint8_t x[32];
-        size_t n = octets_of(of_types->octets, x);
-        for (size_t i = 0; i < n; i++)
-            octet_case(of_types->type, of_types->n, x[i], 1);
-    }
-
+        if (!is_refused(types[t]))
+            lengths_of(types[t]);
+    contents_cases(of_types);
     for (size_t i = 0; i < sizeof dates / sizeof *dates; i++) {
         uint8_t d[12] = {0x80, 0x0A, 0x01, 0x08};
         size_t n = strlen(dates[i]);
@@ -787,6 +888,22 @@ static void whole(void)
     end();
 }
 
+/* As many parameters and octets of listed types as there can be, and rooms
+ * that callers of 1 to 3 digits fill. */
+static void listed_whole(void)
+{
+    begin(0x82);
+    for (int i = 0; i < 85; i++)
+        add(i % 2 ? 0x0B : 0x04, 1, i % 2 ? 0xFF : 'P');
+    end();
+    begin(0x80);
+    for (int i = 0; i < 11; i++)
+        add(0x07, 20, 'A');
+    add(0x12, 11, '9'), end();
+    for (uint8_t n = 1; n <= 3; n++)
+        begin(0x80), add(0x02, n, '1'), add(0x02, 1, '2'), end();
+}
+
 /* ---- 02, Q-5: whole messages at the old edition's limits ---- */
 
 /* Digits and characters, as many as it takes and one more; behind them another
@@ -817,10 +934,17 @@ static void old_whole(void)
 static const struct {
     uint8_t type, x;
 } before[][2] = {
-    {{0x05, 0x00}, {0x05, 0x00}}, /* carried ones */
     {{0x04, 0x50}, {0x04, 0x50}}, /* a type that is listed, repeated */
+    {{0x0B, 0xFF}, {0x04, 0x50}}, /* two in turn, which both editions list */
+    {{0x05, 0x00}, {0x05, 0x00}}, /* carried ones */
     {{0x13, 0xFF}, {0x99, 0x13}}, /* in turn */
 };
+
+/* How many of these every parameter is taken of. */
+static size_t sorts_before(void)
+{
+    return way == SECOND_STRICT ? 2 : sizeof before / sizeof *before;
+}
 
 /* Parameters up to the k-th, which has this room; gives its place. */
 static size_t before_the(size_t sort, size_t k, uint8_t room)
@@ -832,8 +956,9 @@ static size_t before_the(size_t sort, size_t k, uint8_t room)
     return 3 * k - 1;
 }
 
-/* A fault in each octet of the k-th parameter, and in the checksum after it;
- * for the 85th there is room for three octets and no more. */
+/* A fault in each octet of the k-th parameter, by the strict way an unlisted
+ * type too, and in the checksum after it; for the 85th there is room for three
+ * octets and no more. */
 static void faults_in(size_t sort, size_t k)
 {
     size_t at = before_the(sort, k, k < 85 ? 4 : 3);
@@ -843,6 +968,9 @@ static void faults_in(size_t sort, size_t k)
     at = before_the(sort, k, 3);
     built[at] = edition == SECOND_OLD ? 0x01 : 0x0D;
     spoilt_case(built, at + 1, 3, at, k);
+    built[at] = edition == SECOND_OLD ? 0x13 : 0x05;
+    if (way == SECOND_STRICT)
+        spoilt_case(built, at + 1, 10, at, k);
     memcpy(built + at, "\x02\x02", 2);
     spoilt_case(built, at + 2, 4, at + 1, k);
     memcpy(built + at, "\x02\x01\x2F", 3);
@@ -855,32 +983,128 @@ static void faults_in(size_t sort, size_t k)
     spoilt_case(built, at + 4, 0, 0, 0);
 }
 
-/* In the strict way an unlisted type as the k-th; the old edition lists no
- * 13H. */
-static void unlisted_as(size_t k)
-{
-    size_t at = before_the(1, k, 3);
-
-    built[at] = 0x05;
-    told_case(0, 0, built, at + 1, 10, (unsigned)at, (unsigned)k);
-    built[at] = 0x13;
-    told_case(1, 0, built, at + 1, 10, (unsigned)at, (unsigned)k);
-}
-
 static void parameters(void)
 {
     static const size_t at_fault[] = {1, 2, 3, 84, 85};
 
-    for (size_t i = 0; i < sizeof at_fault / sizeof *at_fault; i++) {
-        for (size_t sort = 0; sort < sizeof before / sizeof *before; sort++)
+    for (size_t i = 0; i < sizeof at_fault / sizeof *at_fault; i++)
+        for (size_t sort = 0; sort < sorts_before(); sort++)
             if (sort == 0 || at_fault[i] > 1)
                 faults_in(sort, at_fault[i]);
-        if (edition == SECOND_PRESENT)
-            unlisted_as(at_fault[i]);
-    }
     /* as late in the message, and only the second */
     begin(0x80), add(0x05, 250, 0x04), add(0x04, 1, 'Q');
-    spoilt_case(built, 257, 5, 256, 2);
+    if (way == SECOND_STRICT)
+        spoilt_case(built, 257, 10, 2, 1);
+    else
+        spoilt_case(built, 257, 5, 256, 2);
+}
+
+/* ---- 02, Q-11: an unlisted type in the strict way ---- */
+
+/* In this room as the first parameter, the second, the third, and the last
+ * that has so much room behind parameters of three octets. */
+static void unlisted_in(uint8_t type, uint8_t room)
+{
+    const size_t last = (255u - room) / 3 + 1, as[4] = {1, 2, 3, last};
+
+    for (size_t i = 0; i < 4; i++) {
+        size_t at;
+
+        if (as[i] > last || (i == 3 && last <= 3))
+            continue;
+        at = before_the(1, as[i], room);
+        built[at] = type;
+        spoilt_case(built, at + 1, 10, at, as[i]);
+    }
+}
+
+/* A message that is right but for the type of its k-th parameter; the same
+ * octets by the lenient way are one. */
+static void unlisted_in_whole(uint8_t type, size_t k)
+{
+    size_t at = 3 * k - 1;
+
+    begin(0x82);
+    for (size_t i = 1; i <= 4; i++)
+        add(i == k ? type : 0x0B, 1, 0xFF);
+    built[14] = sum_before(14);
+    spoilt_case(built, 15, 10, at, k);
+    go_by(edition, SECOND_LENIENT);
+    spoilt_case(built, 15, 0, 0, 0);
+    go_by(edition, SECOND_STRICT);
+}
+
+static void unlisted_ones(void)
+{
+    static const uint8_t rooms[] = {3, 4, 5, 6, 10, 255};
+
+    for (size_t t = 0; t < unlisted_types(); t++)
+        for (size_t i = 0; i < sizeof rooms; i++)
+            unlisted_in(unlisted[t], rooms[i]);
+    for (size_t k = 1; k <= 4; k++) {
+        unlisted_in_whole(0x05, k);
+        unlisted_in_whole(0xFF, k);
+        if (edition == SECOND_OLD)
+            unlisted_in_whole(0x13, k);
+    }
+}
+
+/* ---- All of it ---- */
+
+/* 01's rows and 02's, those that stand by hand for the present edition by the
+ * lenient way: with their lines, or as the second reader says. */
+static void tables(int hand)
+{
+    for (size_t i = 0; i < sizeof table / sizeof *table; i++)
+        hex_case(table[i][0], hand ? table[i][1] : NULL);
+    for (size_t i = 0; i < sizeof calendar_table / sizeof *calendar_table; i++)
+        hex_case(calendar_table[i][0], hand ? calendar_table[i][1] : NULL);
+    for (size_t i = 0; i < sizeof parameter_table / sizeof *parameter_table;
+         i++)
+        hex_case(parameter_table[i][0], hand ? parameter_table[i][1] : NULL);
+}
+
+static void present_edition(void)
+{
+    limits(contents);
+    calendar();
+    whole();
+    parameters();
+}
+
+static void old_edition(void)
+{
+    limits(old_contents);
+    if (way == SECOND_STRICT)
+        contents_cases(some_octets);
+    else
+        all_octets();
+    calendar();
+    whole();
+    old_whole();
+    parameters();
+}
+
+static void all_cases(void)
+{
+    tables(1);
+    told();
+    unknown_ones();
+    go_by(SECOND_PRESENT, SECOND_LENIENT);
+    present_edition();
+    go_by(SECOND_OLD, SECOND_LENIENT);
+    tables(0);
+    old_edition();
+    for (unsigned e = 0; e < SECOND_EDITIONS; e++) {
+        go_by(e, SECOND_STRICT);
+        tables(0);
+        if (e == SECOND_PRESENT)
+            present_edition();
+        else
+            old_edition();
+        listed_whole();
+        unlisted_ones();
+    }
 }
 
 int main(int argc, char **argv)
@@ -891,26 +1115,7 @@ int main(int argc, char **argv)
     lines = fopen(argv[2], "wb");
     if (!cases || !lines)
         return 2;
-    for (size_t i = 0; i < sizeof table / sizeof *table; i++)
-        hex_case(table[i][0], table[i][1]);
-    for (size_t i = 0; i < sizeof calendar_table / sizeof *calendar_table; i++)
-        hex_case(calendar_table[i][0], calendar_table[i][1]);
-    for (size_t i = 0; i < sizeof parameter_table / sizeof *parameter_table;
-         i++)
-        hex_case(parameter_table[i][0], parameter_table[i][1]);
-    told();
-    unknown_ones();
-    limits(contents);
-    calendar();
-    whole();
-    parameters();
-    edition = SECOND_OLD;
-    limits(old_contents);
-    all_octets();
-    calendar();
-    whole();
-    old_whole();
-    parameters();
+    all_cases();
     wrong |= ferror(cases) | ferror(lines);
     wrong |= fclose(cases) | fclose(lines);
     return wrong ? 1 : 0;

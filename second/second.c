@@ -4,13 +4,17 @@
  * a message or can still become one; the read, the desk, the caption and the
  * listing look only at octets that are known to be a message. No state is
  * handed from octet to octet. Each edition has a table of its own: source
- * 001's is the old one's (02, Q-5). -DSECOND_WRONG=N makes it wrong on
- * purpose: 1 in a limit, 2 in the line for a caller, 3 in what counts, 4 in
- * the days of February, 5 in where a 30th of February is refused; in the
- * parameter's number 6, which counts from 0, and 7, which passes over carried
- * ones; in the old edition 8, which takes 19 digits, 9, which has the present
- * pairs, and 10, which has the present calling users; 11 names no edition, and
- * 12 takes unknown editions for the present one.
+ * 001's is the old one's (02, Q-5); by the strict way a message is made of its
+ * rows alone (02, Q-11). -DSECOND_WRONG=N makes it wrong on purpose: 1 in a
+ * limit, 2 in the line for a caller, 3 in what counts, 4 in the days of
+ * February, 5 in where a 30th of February is refused; in the parameter's
+ * number 6, which counts from 0, and 7, which passes over carried ones; in the
+ * old edition 8, which takes 19 digits, 9, which has the present pairs, and
+ * 10, which has the present calling users; 11 names no edition, and 12 takes
+ * unknown editions for the present one; in the strict way 13, which refuses an
+ * unlisted type at its length only, 14, which says 3 for 10, 15, which goes by
+ * the present table in the old edition, and 16, which carries; 17 takes
+ * unknown ways for the lenient one, and 18 settles by the lenient way alone.
  */
 #include "second.h"
 
@@ -139,9 +143,10 @@ static const struct rule carried = {
     "", 1, SECOND_TEXTS, SECOND_CARRIED, ANY, AS_IT_IS, 0
 };
 
-static int is_known(uint8_t edition)
+static int is_known(uint8_t edition, uint8_t way)
 {
-    return edition < SECOND_EDITIONS || SECOND_WRONG == 12;
+    return (edition < SECOND_EDITIONS || SECOND_WRONG == 12)
+        && (way < SECOND_WAYS || SECOND_WRONG == 17);
 }
 
 static const struct rule *table_of(uint8_t edition)
@@ -165,6 +170,15 @@ static int is_listed(uint8_t edition, uint8_t type)
 static const struct rule *rule_of(uint8_t edition, uint8_t type)
 {
     return is_listed(edition, type) ? &table_of(edition)[type] : &carried;
+}
+
+/* Whether a parameter of this type is taken at all: not by the strict way
+ * where the edition does not list it (02, Q-11). */
+static int is_taken(uint8_t edition, uint8_t way, uint8_t type)
+{
+    if (way != SECOND_STRICT || SECOND_WRONG == 16)
+        return 1;
+    return is_listed(SECOND_WRONG == 15 ? SECOND_PRESENT : edition, type);
 }
 
 /* ---- Whole contents ---- */
@@ -237,12 +251,13 @@ static int legal_contents(uint8_t edition, uint8_t type, const uint8_t *c,
  * whole before end. Gives the place after the last of them, or 0 if one of
  * them is not legal.
  */
-static size_t split(uint8_t edition, const uint8_t *o, size_t end)
+static size_t split(uint8_t edition, uint8_t way, const uint8_t *o, size_t end)
 {
     size_t place = 2;
 
     while (place + 2 <= end && place + 2 + o[place + 1] <= end) {
-        if (!legal_contents(edition, o[place], o + place + 2, o[place + 1]))
+        if (!is_taken(edition, way, o[place])
+            || !legal_contents(edition, o[place], o + place + 2, o[place + 1]))
             return 0;
         place += 2u + o[place + 1];
     }
@@ -263,18 +278,19 @@ static unsigned sum_of(const uint8_t *o, size_t n)
     return sum % 256u;
 }
 
-int second_is_message(uint8_t edition, const uint8_t *o, size_t n)
+int second_is_message(uint8_t edition, uint8_t way, const uint8_t *o, size_t n)
 {
-    return is_known(edition) && n >= 6 && is_message_type(o[0]) && o[1] >= 3
-        && n == o[1] + 3u && split(edition, o, n - 1) == n - 1
-        && sum_of(o, n) == 0;
+    return is_known(edition, way) && n >= 6 && is_message_type(o[0])
+        && o[1] >= 3 && n == o[1] + 3u
+        && split(edition, way, o, n - 1) == n - 1 && sum_of(o, n) == 0;
 }
 
 /* ---- What can still become a whole message ---- */
 
-/* Some parameters fill the room: none if it is 0, one carried parameter of
- * room - 2 octets if it is at least 3; 1 and 2 are too small for any. So in
- * every edition, each carrying some types. */
+/* Some parameters of listed types fill the room: none if it is 0, callers of 1
+ * to 3 digits, which take 3 to 5 octets each, if it is at least 3; 1 and 2 are
+ * too small for any. So in both editions, each listing callers, and by both
+ * ways (02, Q-11). */
 static int can_be_filled(size_t room)
 {
     return room == 0 || room >= 3;
@@ -336,22 +352,24 @@ static int begins_contents(uint8_t edition, uint8_t type, const uint8_t *c,
 
 /* q[0..heard) is less than one parameter, in a room of its own and of all
  * that follow it. */
-static int begins_parameters(uint8_t edition, const uint8_t *q, size_t heard,
-                             size_t room)
+static int begins_parameters(uint8_t edition, uint8_t way, const uint8_t *q,
+                             size_t heard, size_t room)
 {
     if (heard == 0)
         return can_be_filled(room);
+    if (!is_taken(edition, way, q[0]))
+        return SECOND_WRONG == 13 && heard == 1;
     if (heard == 1)
         return some_length_allowed(edition, q[0], room);
     return length_allowed(edition, q[0], q[1], room)
         && begins_contents(edition, q[0], q + 2, heard - 2, q[1]);
 }
 
-int second_can_go_on(uint8_t edition, const uint8_t *o, size_t n)
+int second_can_go_on(uint8_t edition, uint8_t way, const uint8_t *o, size_t n)
 {
     size_t place;
 
-    if (!is_known(edition))
+    if (!is_known(edition, way))
         return 0;
     if (n == 0)
         return 1;
@@ -361,9 +379,9 @@ int second_can_go_on(uint8_t edition, const uint8_t *o, size_t n)
         return 1;
     if (o[1] < 3 || n >= o[1] + 3u)
         return 0;
-    place = split(edition, o, n);
+    place = split(edition, way, o, n);
     return place != 0
-        && begins_parameters(edition, o + place, n - place,
+        && begins_parameters(edition, way, o + place, n - place,
                              o[1] + 2u - place);
 }
 
@@ -381,8 +399,10 @@ size_t second_begun(uint8_t edition, const uint8_t *o, size_t n)
 /* ---- "Listening" ---- */
 
 /* The number that belongs to the role of the octet at place, the octets
- * before it being the beginning of some message. */
-static unsigned number_of_role(const uint8_t *o, size_t place)
+ * before it being the beginning of some message: 10 for a type that is not
+ * taken, in any room, so ahead of 3 (02, Q-11). */
+static unsigned number_of_role(uint8_t edition, uint8_t way, const uint8_t *o,
+                               size_t place)
 {
     size_t begin = 2;
 
@@ -392,6 +412,8 @@ static unsigned number_of_role(const uint8_t *o, size_t place)
         return 6;
     while (begin + 2 <= place && begin + 2 + o[begin + 1] <= place)
         begin += 2u + o[begin + 1];
+    if (!is_taken(edition, way, o[begin]))
+        return SECOND_WRONG == 14 ? 3 : 10;
     return place == begin ? 3 : place == begin + 1 ? 4 : 5;
 }
 
@@ -406,23 +428,24 @@ static size_t parameter_of_role(uint8_t edition, const uint8_t *o,
     return second_begun(edition, o, place + 1);
 }
 
-struct second_answer second_listen(uint8_t edition, const uint8_t *o, size_t n)
+struct second_answer second_listen(uint8_t edition, uint8_t way,
+                                   const uint8_t *o, size_t n)
 {
     static const struct second_answer unknown = {SECOND_REFUSED, 16, 0, 0, 0,
                                                  0, 0};
     struct second_answer a = {SECOND_WAITS, 0, 0, 0, 0, n, named(edition)};
 
-    if (!is_known(edition))
+    if (!is_known(edition, way))
         return unknown;
     for (size_t k = 0; k <= n; k++) {
-        if (second_is_message(edition, o, k)) {
+        if (second_is_message(edition, way, o, k)) {
             a.answer = SECOND_MESSAGE;
             a.size = a.taken = k;
             break;
         }
-        if (!second_can_go_on(edition, o, k)) {
+        if (!second_can_go_on(edition, way, o, k)) {
             a.answer = SECOND_REFUSED;
-            a.number = number_of_role(o, k - 1);
+            a.number = number_of_role(edition, way, o, k - 1);
             a.place = k - 1;
             a.parameter = parameter_of_role(edition, o, k - 1);
             a.taken = k;
@@ -432,10 +455,11 @@ struct second_answer second_listen(uint8_t edition, const uint8_t *o, size_t n)
     return a;
 }
 
-/* The whole read without its text area: 16, 1 to 6, then 8, then 7. */
-static struct second_verdict judge(uint8_t edition, const uint8_t *o, size_t n)
+/* The whole read without its text area: 16, 1 to 6 or 10, then 8, then 7. */
+static struct second_verdict judge(uint8_t edition, uint8_t way,
+                                   const uint8_t *o, size_t n)
 {
-    struct second_answer a = second_listen(edition, o, n);
+    struct second_answer a = second_listen(edition, way, o, n);
     struct second_verdict v = {0, 0, 0, a.edition};
 
     if (a.answer == SECOND_REFUSED) {
@@ -488,12 +512,13 @@ static int counts(uint8_t edition, const uint8_t *o, uint8_t type,
     return 0;
 }
 
-int second_counted(uint8_t edition, const uint8_t *o, size_t n, uint8_t type,
-                   size_t *start, size_t *length)
+int second_counted(uint8_t edition, uint8_t way, const uint8_t *o, size_t n,
+                   uint8_t type, size_t *start, size_t *length)
 {
     struct parameter q;
 
-    if (!second_is_message(edition, o, n) || !counts(edition, o, type, &q))
+    if (!second_is_message(edition, way, o, n)
+        || !counts(edition, o, type, &q))
         return 0;
     *start = q.start;
     *length = q.length;
@@ -553,10 +578,11 @@ static void set_entry(uint8_t edition, struct second_draft *draft, uint8_t type,
     }
 }
 
-struct second_verdict second_read(uint8_t edition, const uint8_t *o, size_t n,
-                                  size_t area_len, struct second_draft *draft)
+struct second_verdict second_read(uint8_t edition, uint8_t way,
+                                  const uint8_t *o, size_t n, size_t area_len,
+                                  struct second_draft *draft)
 {
-    struct second_verdict v = judge(edition, o, n);
+    struct second_verdict v = judge(edition, way, o, n);
     struct parameter q;
     size_t place = 2;
 
@@ -621,15 +647,18 @@ static void replace(struct second_desk *desk, long from, long to)
         desk->open[i] = to;
 }
 
-struct second_verdict second_settle(uint8_t edition, struct second_desk *desk,
-                                    const uint8_t *o, size_t n)
+struct second_verdict second_settle(uint8_t edition, uint8_t way,
+                                    struct second_desk *desk, const uint8_t *o,
+                                    size_t n)
 {
     struct second_verdict v = {17, 0, 0, 0};
     struct parameter q;
 
     if (out_of_range(desk))
         return v;
-    v = judge(edition, o, n);
+    if (SECOND_WRONG == 18 && way == SECOND_STRICT)
+        way = SECOND_LENIENT;
+    v = judge(edition, way, o, n);
     if (v.number != 0 || o[0] != 0x82)
         return v;
     if (counts(edition, o, 0x0D, &q)) {
@@ -774,7 +803,7 @@ size_t second_listing(const uint8_t *o, size_t n, char *out)
 
     if (n > SHOWMSG_LOOKS_AT)
         n = SHOWMSG_LOOKS_AT;
-    v = judge(SECOND_PRESENT, o, n);
+    v = judge(SECOND_PRESENT, SECOND_LENIENT, o, n);
     if (v.number == 0) {
         put_message(&page, o);
     } else {
@@ -818,10 +847,11 @@ static int look_up(const uint8_t *d, size_t octets, const uint8_t *caller,
     return 0;
 }
 
-struct second_part second_caption(uint8_t edition, const uint8_t *o, size_t n,
+struct second_part second_caption(uint8_t edition, uint8_t way,
+                                  const uint8_t *o, size_t n,
                                   const uint8_t *directory, size_t octets)
 {
-    struct second_verdict v = judge(edition, o, n);
+    struct second_verdict v = judge(edition, way, o, n);
     struct second_part part = {v.number, v.place, v.parameter, v.edition,
                                SECOND_IN_MESSAGE, 0, 0};
     struct parameter q;

@@ -2,9 +2,10 @@
  * The second reader: an independent reading of 01 to compare the built
  * listener, reader, desk, caption finder and showmsg against. It starts from
  * whole messages ("The message") and derives every other answer from them.
- * Every question names the edition: the present one's types are 01's table,
- * the old one's are source 001's (02, Q-5). Types without a row are carried.
- * Clarity comes before speed.
+ * Every question names the edition and the way: the present edition's types
+ * are 01's table, the old one's are source 001's (02, Q-5); types without a
+ * row in the edition's own table are refused by the strict way, and carried by
+ * the lenient one (02, Q-11). Clarity comes before speed.
  */
 #ifndef SECOND_H
 #define SECOND_H
@@ -12,24 +13,27 @@
 #include <stddef.h>
 #include <stdint.h>
 
-/* ---- Editions (02, Q-5) ---- */
+/* ---- Editions (02, Q-5) and ways (02, Q-11) ---- */
 
-/* All other numbers are unknown: 16, at 0 in 0, ahead of all numbers but 17;
- * the answer then names no edition, and its field is 0. */
+/* All other numbers are unknown, of an edition as of a way: 16, at 0 in 0,
+ * ahead of all numbers but 17; the answer then names no edition, and its field
+ * is 0. No answer names the way. */
 enum { SECOND_PRESENT, SECOND_OLD, SECOND_EDITIONS };
+enum { SECOND_STRICT, SECOND_LENIENT, SECOND_WAYS };
 
 /* ---- Is it a message? ("The message") ---- */
 
 /* 1 if o[0..n) is, from its first octet to its last, one accepted message of
- * the edition. Of an unknown edition there is none. */
-int second_is_message(uint8_t edition, const uint8_t *o, size_t n);
+ * the edition by the way. By an unknown number there is none. */
+int second_is_message(uint8_t edition, uint8_t way, const uint8_t *o,
+                      size_t n);
 
 /* 1 if some accepted message begins with o[0..n) and is longer than n. */
-int second_can_go_on(uint8_t edition, const uint8_t *o, size_t n);
+int second_can_go_on(uint8_t edition, uint8_t way, const uint8_t *o, size_t n);
 
 /* How many parameters begin among o[0..n), carried ones and repeats too: those
- * whose type octet is there (02, Q-3). The octets are a message or begin one;
- * the last may be the one that spoils it. */
+ * whose type octet is there (02, Q-3), whatever the way. The octets are a
+ * message or begin one; the last may be the one that spoils it. */
 size_t second_begun(uint8_t edition, const uint8_t *o, size_t n);
 
 /* ---- "Listening" ---- */
@@ -39,7 +43,7 @@ enum { SECOND_WAITS, SECOND_MESSAGE, SECOND_REFUSED };
 /* Fields without a meaning for the answer are 0. */
 struct second_answer {
     int answer;       /* SECOND_WAITS, SECOND_MESSAGE or SECOND_REFUSED */
-    unsigned number;  /* 1 to 6 when refused, or 16 */
+    unsigned number;  /* 1 to 6 or 10 when refused, or 16 */
     size_t place;     /* of the spoiling octet, counted from the reset */
     size_t parameter; /* that it belongs to, from 1, or 0 (02, Q-3) */
     size_t size;      /* of the message */
@@ -48,8 +52,8 @@ struct second_answer {
 };
 
 /* What a listener says that was offered o[0..n) since its reset. */
-struct second_answer second_listen(uint8_t edition, const uint8_t *o,
-                                   size_t n);
+struct second_answer second_listen(uint8_t edition, uint8_t way,
+                                   const uint8_t *o, size_t n);
 
 /* ---- "Drafts" and the whole read ---- */
 
@@ -88,10 +92,12 @@ struct second_draft {
     uint8_t texts[SECOND_TEXTS];
 };
 
-/* The whole read with a text area of area_len octets: declines with 16, 1 to
- * 6, 8, 7 or 9, the draft then holding what it held; else the draft is set. */
-struct second_verdict second_read(uint8_t edition, const uint8_t *o, size_t n,
-                                  size_t area_len, struct second_draft *draft);
+/* The whole read with a text area of area_len octets: declines with 16, 1 to 6
+ * or 10, 8, 7 or 9, the draft then holding what it held; else the draft is
+ * set. A draft holds no way. */
+struct second_verdict second_read(uint8_t edition, uint8_t way,
+                                  const uint8_t *o, size_t n, size_t area_len,
+                                  struct second_draft *draft);
 
 /* ---- "The desk", and Q-6 of 02 ---- */
 
@@ -109,17 +115,18 @@ struct second_desk {
 void second_clear(struct second_desk *desk);
 
 /* Settles a notice: 0, or 17 for a desk out of range or with a reference
- * twice, or 16, or 1 to 8, or 21 for a reference without a place. */
-struct second_verdict second_settle(uint8_t edition, struct second_desk *desk,
-                                    const uint8_t *o, size_t n);
+ * twice, or 16, or 1 to 8 or 10, or 21 for a reference without a place. */
+struct second_verdict second_settle(uint8_t edition, uint8_t way,
+                                    struct second_desk *desk, const uint8_t *o,
+                                    size_t n);
 
 /* ---- "What counts" ---- */
 
-/* 1 if o[0..n) is an accepted message of the edition in which a parameter of
- * this type, which it lists, counts; its contents are then
- * o[start..start+length). Else 0, and start and length stay. */
-int second_counted(uint8_t edition, const uint8_t *o, size_t n, uint8_t type,
-                   size_t *start, size_t *length);
+/* 1 if o[0..n) is an accepted message of the edition by the way, in which a
+ * parameter of this type, which the edition lists, counts; its contents are
+ * then o[start..start+length). Else 0, and start and length stay. */
+int second_counted(uint8_t edition, uint8_t way, const uint8_t *o, size_t n,
+                   uint8_t type, size_t *start, size_t *length);
 
 /* ---- "What showmsg prints" ---- */
 
@@ -127,7 +134,7 @@ int second_counted(uint8_t edition, const uint8_t *o, size_t n, uint8_t type,
 
 /* What showmsg prints for o[0..n), without a closing zero. out has room for
  * SECOND_LISTING octets; at most 259 octets of o are looked at. Listings are
- * of the present edition. */
+ * of the present edition, by the lenient way. */
 size_t second_listing(const uint8_t *o, size_t n, char *out);
 
 /* ---- "The caption" ---- */
@@ -135,7 +142,7 @@ size_t second_listing(const uint8_t *o, size_t n, char *out);
 enum { SECOND_IN_MESSAGE, SECOND_IN_DIRECTORY };
 
 struct second_part {
-    unsigned number;  /* 0, or 16, 1 to 8 with the empty part at the start */
+    unsigned number;  /* 0, or 16, 1 to 8 or 10 with the empty part at 0 */
     size_t place;
     size_t parameter; /* at fault, likewise */
     uint8_t edition;  /* that the answer names */
@@ -144,7 +151,8 @@ struct second_part {
     size_t length;
 };
 
-struct second_part second_caption(uint8_t edition, const uint8_t *o, size_t n,
+struct second_part second_caption(uint8_t edition, uint8_t way,
+                                  const uint8_t *o, size_t n,
                                   const uint8_t *directory, size_t octets);
 
 #endif

@@ -1,12 +1,14 @@
 /*
  * Traffic after 01's "The message": a builder that fills a room L with legal
- * parameters, and the ways to damage what it built. Its tables of types, one
- * for each edition, say how contents are made, apart from any reader's tables
- * of how they are judged.
+ * parameters, for the strict way with those of listed types alone, and what
+ * damages what it built. Its tables of types, one for each edition, say how
+ * contents are made, apart from any reader's tables of how they are judged.
  */
 #include "traffic.h"
 
 #include <string.h>
+
+enum { STRICT, LENIENT };
 
 /* ---- The generator of numbers ---- */
 
@@ -15,6 +17,7 @@ void traffic_start(struct traffic *t, uint64_t seed)
     t->seed = seed;
     t->sort = TRAFFIC_VALID;
     t->edition = 0;
+    t->way = LENIENT;
 }
 
 uint32_t traffic_number(struct traffic *t, uint32_t below)
@@ -52,10 +55,10 @@ static size_t near_limits(struct traffic *t, size_t low, size_t high)
 
 /* ---- The tables of types ---- */
 
-enum way { RANGES, DATE, IDENTITY };
+enum form { RANGES, DATE, IDENTITY };
 
 struct make {
-    uint8_t type, low, high, way;
+    uint8_t type, low, high, form;
     uint8_t ranges;
     uint8_t range[6][2];
 };
@@ -67,6 +70,7 @@ struct make {
 #define DIGITS 1, {{'0', '9'}}
 
 #define MAKES 15
+#define CALLER 1 /* in both editions */
 #define CARRIED (MAKES - 1)
 
 /* By edition: those that it lists, then those that only the other one lists,
@@ -115,6 +119,19 @@ static const struct make *make_of(const struct traffic *t, size_t row)
     return &makes[t->edition][row];
 }
 
+/* How many of them messages are made of. */
+static uint32_t rows_for(const struct traffic *t)
+{
+    return t->way == STRICT ? listed[t->edition] : MAKES;
+}
+
+/* What fills a room: something carried; for the strict way a caller, up to 18
+ * digits. */
+static const struct make *filler(const struct traffic *t)
+{
+    return make_of(t, t->way == STRICT ? CALLER : CARRIED);
+}
+
 static int is_carried(const struct make *make)
 {
     return make->high == 253;
@@ -135,6 +152,14 @@ static uint8_t carried_type(struct traffic *t)
     if (traffic_number(t, 2) == 0)
         return (uint8_t)from_to(t, 0x17, 0xFF);
     return unlisted[traffic_number(t, sizeof unlisted)];
+}
+
+/* Likewise; in the old edition often one that the present one lists. */
+static uint8_t unlisted_type(struct traffic *t)
+{
+    size_t row = from_to(t, listed[t->edition], CARRIED);
+
+    return row == CARRIED ? carried_type(t) : make_of(t, row)->type;
 }
 
 /* ---- Legal contents ---- */
@@ -169,12 +194,12 @@ static void make_date(struct traffic *t, uint8_t *c)
 static void make_contents(struct traffic *t, const struct make *make,
                           uint8_t *c, size_t n)
 {
-    if (make->way == DATE && n == 8) {
+    if (make->form == DATE && n == 8) {
         make_date(t, c);
         return;
     }
     for (size_t i = 0; i < n; i++) {
-        int free = make->way == IDENTITY && i > 0;
+        int free = make->form == IDENTITY && i > 0;
 
         c[i] = free ? any_octet(t) : octet_of(t, make);
     }
@@ -191,7 +216,7 @@ struct palette {
 
 static void add_type(const struct traffic *t, struct palette *p, uint8_t type)
 {
-    for (size_t i = 0; i < MAKES; i++) {
+    for (size_t i = 0; i < rows_for(t); i++) {
         if (make_of(t, i)->type == type)
             p->of[p->count++] = (uint8_t)i;
     }
@@ -200,21 +225,21 @@ static void add_type(const struct traffic *t, struct palette *p, uint8_t type)
 static void choose_palette(struct traffic *t, struct palette *p)
 {
     static const uint8_t pairs[4] = {0x02, 0x04, 0x07, 0x08};
-    uint32_t way = traffic_number(t, 8);
+    uint32_t sort = traffic_number(t, 8);
 
     p->count = 0;
     p->shortest = traffic_number(t, 4) == 0;
-    if (way == 0) {
+    if (sort == 0) {
         for (size_t i = 0; i < 4; i++)
             add_type(t, p, pairs[i]);
-    } else if (way == 1) {
+    } else if (sort == 1) {
         for (size_t i = 0; i < 7; i++)
             add_type(t, p, shortest_types[i]);
-    } else if (way < 4) {
+    } else if (sort < 4) {
         for (size_t i = 0; i < 2; i++)
-            p->of[p->count++] = (uint8_t)traffic_number(t, MAKES);
+            p->of[p->count++] = (uint8_t)traffic_number(t, rows_for(t));
     } else {
-        for (size_t i = 0; i < MAKES; i++)
+        for (size_t i = 0; i < rows_for(t); i++)
             p->of[p->count++] = (uint8_t)i;
     }
 }
@@ -238,8 +263,9 @@ static int fits(size_t n, size_t room)
     return n + 2 == room || n + 5 <= room;
 }
 
-/* A type of the palette and a length for the room; one carried parameter
- * fills the room if many tries find none. */
+/* A type of the palette and a length for the room; if many tries find none one
+ * parameter fills the room, or, where that is too large for a caller, takes
+ * three octets of it. */
 static const struct make *choose(struct traffic *t, const struct palette *p,
                                  size_t room, size_t *n)
 {
@@ -256,8 +282,8 @@ static const struct make *choose(struct traffic *t, const struct palette *p,
         if (fits(*n, room))
             return make;
     }
-    *n = room - 2;
-    return make_of(t, CARRIED);
+    *n = t->way == LENIENT || room <= 20 ? room - 2 : 1;
+    return filler(t);
 }
 
 static void lay_down(struct traffic *t, const struct make *make, uint8_t *q,
@@ -301,8 +327,8 @@ static size_t build(struct traffic *t, uint8_t *out, size_t room)
     return last;
 }
 
-/* 85 parameters, or one carried parameter of 253 octets; gives the place of
- * the last one. */
+/* 85 parameters, or one carried parameter of 253 octets, for the strict way
+ * any that fill 255; gives the place of the last one. */
 static size_t build_longest(struct traffic *t, uint8_t *out)
 {
     size_t last = 2;
@@ -310,13 +336,16 @@ static size_t build_longest(struct traffic *t, uint8_t *out)
     out[0] = traffic_number(t, 2) == 0 ? 0x80 : 0x82;
     out[1] = 255;
     if (traffic_number(t, 2) == 0) {
+        if (t->way == STRICT)
+            return build(t, out, 255);
         lay_down(t, make_of(t, CARRIED), out + 2, 253);
     } else {
         for (size_t i = 0; i < 85; i++) {
             struct palette p = {0, {0}, 0};
 
             last = 2 + 3 * i;
-            add_type(t, &p, shortest_types[traffic_number(t, 7)]);
+            while (p.count == 0)
+                add_type(t, &p, shortest_types[traffic_number(t, 7)]);
             lay_down(t, make_of(t, p.of[0]), out + last, 1);
         }
     }
@@ -384,7 +413,7 @@ static size_t bad_room(struct traffic *t, uint8_t *out)
 /* After valid parameters comes one with a length that is not its type's. */
 static size_t bad_length(struct traffic *t, uint8_t *out, int zero)
 {
-    const struct make *make = make_of(t, traffic_number(t, MAKES));
+    const struct make *make = make_of(t, traffic_number(t, rows_for(t)));
     size_t n = 0, place;
 
     build(t, out, from_to(t, 3, 150));
@@ -394,7 +423,7 @@ static size_t bad_length(struct traffic *t, uint8_t *out, int zero)
     lay_down(t, make, out + place, n);
     out[1] = (uint8_t)(out[1] + 2 + n);
     if (traffic_number(t, 2) == 0) { /* not the last parameter */
-        lay_down(t, make_of(t, CARRIED), out + place + 2 + n, 4);
+        lay_down(t, filler(t), out + place + 2 + n, 4);
         out[1] = (uint8_t)(out[1] + 6);
     }
     set_sum(out);
@@ -425,11 +454,11 @@ static size_t bad_contents(struct traffic *t, uint8_t *out)
  * length does not fill, or fills but for 1 or 2. */
 static size_t bad_type(struct traffic *t, uint8_t *out)
 {
-    const struct make *make = make_of(t, traffic_number(t, MAKES));
+    const struct make *make = make_of(t, traffic_number(t, rows_for(t)));
     size_t room, place;
 
     while (make->low != make->high)
-        make = make_of(t, traffic_number(t, MAKES));
+        make = make_of(t, traffic_number(t, rows_for(t)));
     room = make->low + from_to(t, 3, 4);
     if (make->low > 1 && traffic_number(t, 2) == 0)
         room = from_to(t, 3, make->low + 1u);
@@ -460,6 +489,21 @@ static size_t noise(struct traffic *t, uint8_t *out)
         out[3] = (uint8_t)from_to(t, 0, 21);
     }
     return n;
+}
+
+/* Some parameter, now and then more than one, has a type that the edition does
+ * not list; all else is right. */
+static void unlist(struct traffic *t, uint8_t *out)
+{
+    size_t at[85];
+    uint32_t count = 0;
+
+    for (size_t place = 2; place < out[1] + 2u; place += 2u + out[place + 1])
+        at[count++] = place;
+    do {
+        out[at[traffic_number(t, count)]] = unlisted_type(t);
+    } while (traffic_number(t, 8) == 0);
+    set_sum(out);
 }
 
 static size_t damage(struct traffic *t, uint8_t *out, size_t n, size_t last)
@@ -495,6 +539,9 @@ static size_t damage(struct traffic *t, uint8_t *out, size_t n, size_t last)
         return n;
     case TRAFFIC_NOISE:
         return noise(t, out);
+    case TRAFFIC_UNLISTED:
+        unlist(t, out);
+        return n;
     default:
         return n;
     }
@@ -507,7 +554,9 @@ size_t traffic_next(struct traffic *t, uint8_t out[TRAFFIC_OCTETS])
     memset(out, 0, TRAFFIC_OCTETS);
     t->sort = TRAFFIC_VALID;
     if (traffic_number(t, 5) >= 2)
-        t->sort = (enum traffic_sort)from_to(t, 1, TRAFFIC_SORTS - 1);
+        t->sort = (enum traffic_sort)from_to(t, 1, TRAFFIC_UNLISTED - 1);
+    if (t->way == STRICT && traffic_number(t, 6) == 0)
+        t->sort = TRAFFIC_UNLISTED;
     if (traffic_number(t, 64) == 0)
         last = build_longest(t, out);
     else

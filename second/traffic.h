@@ -1,8 +1,8 @@
 /*
  * Seeded traffic to compare listeners and readers on: messages built from the
- * rules of 01's "The message", or of the old edition (02, Q-5), and damaged
- * ones, with every limit on both of its sides. The same seed gives the same
- * messages.
+ * rules of 01's "The message", or of the old edition (02, Q-5), for either way
+ * (02, Q-11), and damaged ones, with every limit on both of its sides. The
+ * same seed gives the same messages.
  */
 #ifndef TRAFFIC_H
 #define TRAFFIC_H
@@ -29,6 +29,8 @@ enum traffic_sort {
     TRAFFIC_SHORT_L,        /* L below 3 */
     TRAFFIC_LATE,           /* right up to one of the last octets */
     TRAFFIC_NOISE,
+    TRAFFIC_UNLISTED,       /* a type that the edition does not list; for the
+                             * strict way only, and common there */
     TRAFFIC_SORTS
 };
 
@@ -36,9 +38,12 @@ struct traffic {
     uint64_t seed;          /* the generator's own state */
     enum traffic_sort sort; /* of the last message given */
     uint8_t edition;        /* that messages are built by: 0, or 1 the old */
+    uint8_t way;            /* likewise: 0, of listed types alone; or 1, of
+                             * all types */
 };
 
-/* Of the present edition; another may be set at any time. */
+/* Of the present edition and for the lenient way; another of each may be set
+ * at any time. */
 void traffic_start(struct traffic *t, uint64_t seed);
 
 /* A number from 0 to below - 1, for callers that need one too. */
@@ -46,19 +51,20 @@ uint32_t traffic_number(struct traffic *t, uint32_t below);
 
 /* Writes the next message and gives its number of octets, 0 to 300. In the old
  * edition the types that only the present one lists are common, with any
- * contents. */
+ * contents; for the strict way only as TRAFFIC_UNLISTED. */
 size_t traffic_next(struct traffic *t, uint8_t out[TRAFFIC_OCTETS]);
 
 /* Likewise a message about one of some 24 references (02, Q-6): mostly a
  * notice that adds it, removes it or leaves it unset, often with a lamp and a
  * number; now and then a second reference, a call message, or a wrong sum.
- * Both editions take the same of these. */
+ * Both editions take the same of these by the lenient way; by the strict one
+ * the old edition, which does not list 0DH, takes none. */
 size_t traffic_about(struct traffic *t, uint8_t out[TRAFFIC_OCTETS]);
 
 /* Likewise a message with a date at a limit of its month or beside it (02,
  * Q-2), February and the months of 30 days more often than the others; now
- * and then cut inside the date, changed in it, or with a wrong sum. Likewise
- * the same in both editions. */
+ * and then cut inside the date, changed in it, or with a wrong sum. Both
+ * editions list its types, so it is the same for all. */
 size_t traffic_dated(struct traffic *t, uint8_t out[TRAFFIC_OCTETS]);
 
 #endif

@@ -9,3 +9,4 @@ pub mod Directory
 pub mod Callers
 pub mod Finds
 pub mod Editions
+pub mod Ways

@@ -1,5 +1,5 @@
 -- The caption of a message: a part of the message or of the directory (document 01, The caption), by an edition and a
--- way (document 02, Q-5).
+-- way (document 02, Q-5 and Q-11).
 -- Assumes nothing.
 use Prim.Native.Nat.{ℕ, suc, _+_, _-_, _≤_, _<_}
 use mathlib.Core.Path.{_≡_}

@@ -11,3 +11,4 @@ pub mod Words
 pub mod Settled
 pub mod Promised
 pub mod One
+pub mod Ways

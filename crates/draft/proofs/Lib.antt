@@ -5,3 +5,4 @@ pub mod Promised
 pub mod Alike
 pub mod Packing
 pub mod Meaning
+pub mod Ways

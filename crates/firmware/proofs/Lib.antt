@@ -14,5 +14,6 @@ pub mod DraftRecord
 pub mod PartRecord
 pub mod RecordParts
 pub mod Coding
-pub mod OtherEdition
+pub mod OtherNumbers
 pub mod RecordCodes
+pub mod Ways

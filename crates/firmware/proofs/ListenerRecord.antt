@@ -18,9 +18,9 @@ use Rattle.firmware.specs.Word.{packed}
 use Rattle.firmware.specs.Exports.{badRecord, wordOf, heardWordOf, answered, recorded, listenAnswer, listenRecord}
 
 -- `known` of a test on two numbers
-pub known-eq : (v : ℕ) (r : Decoded) (a b : ℕ) (s : State) → r ≡ known v (eqb a b) s → r ≡ known v (a =? b) s
+pub known-eq : (v y : ℕ) (r : Decoded) (a b : ℕ) (s : State) → r ≡ known v y (eqb a b) s → r ≡ known v y (a =? b) s
 unfolding _=?_
-known-eq v r a b s e = e
+known-eq v y r a b s e = e
 
 -- ---- a call of the listener
 module _ (c o : List ℕ) (got : Decoded) (p : got ≡ decodeOf c) where

@@ -11,7 +11,7 @@ use lib.Dec.{T}
 use Rattle.rules.specs.Tests.{_=?_}
 use Rattle.rules.proofs.Tests.{decide, eq-of, of-eq}
 use Rattle.rules.specs.Table.{rulesOf}
-use Rattle.rules.specs.Editions.{lenient, bookOf}
+use Rattle.rules.specs.Editions.{bookOf}
 use Rattle.rules.specs.Message.{Accepts}
 use Rattle.rules.specs.Counting.{counted}
 use Rattle.rules.proofs.Counting.{counted-iff}
@@ -98,10 +98,10 @@ record-hears-one L e h o w v A B = go (decide (wordNumber w =? 0)) (decide (word
     go (inr a) b = refused (positive (wordNumber w) a)
 
 -- reading
-pub record-reads-one : (k : ℕ) (o c t : List ℕ) (w : ℕ) (c' t' : List ℕ) (v : ℕ) (d u : List ℕ) →
-    RecordReads k o c t w c' t' → RecordReads k o c t v d u → (w ≡ v) × (c' ≡ d) × (t' ≡ u)
-record-reads-one k o c t w c' t' v d u A B =
-    let e = reads-one (rulesOf (bookOf k lenient)) o t (A .reading) t' (B .reading) u (A .reads) (B .reads) in
+pub record-reads-one : (k y : ℕ) (o c t : List ℕ) (w : ℕ) (c' t' : List ℕ) (v : ℕ) (d u : List ℕ) →
+    RecordReads k y o c t w c' t' → RecordReads k y o c t v d u → (w ≡ v) × (c' ≡ d) × (t' ≡ u)
+record-reads-one k y o c t w c' t' v d u A B =
+    let e = reads-one (rulesOf (bookOf k y)) o t (A .reading) t' (B .reading) u (A .reads) (B .reads) in
     let a = ap (λ (r : Reading). r .answer) (e .0) in (
       A .word .whole ∙ (λ i. packed k (reader.told (a i) .number) (reader.told (a i) .place) (reader.told
           (a i) .parameter)
@@ -123,10 +123,10 @@ record-reads-one k o c t w c' t' v d u A B =
         A .refused l ∙ sym (B .refused (subst (λ (r : Reading). 1 ≤ reader.told (r .answer) .number) e l))
 
 -- settling
-pub record-settles-one : (k : ℕ) (d : Desk) (o : List ℕ) (w : ℕ) (c : List ℕ) (v : ℕ) (e : List ℕ) →
-    RecordSettles k d o w c → RecordSettles k d o v e → (w ≡ v) × (c ≡ e)
-record-settles-one k d o w c v e A B =
-    let x = settles-by-one k lenient d o (A .settling) (B .settling) (A .settles) (B .settles) in (
+pub record-settles-one : (k y : ℕ) (d : Desk) (o : List ℕ) (w : ℕ) (c : List ℕ) (v : ℕ) (e : List ℕ) →
+    RecordSettles k y d o w c → RecordSettles k y d o v e → (w ≡ v) × (c ≡ e)
+record-settles-one k y d o w c v e A B =
+    let x = settles-by-one k y d o (A .settling) (B .settling) (A .settles) (B .settles) in (
       A .word .whole ∙ (λ i. packed (x i .edition) (desk.told (x i .outcome .answer) .number)
           (desk.told (x i .outcome .answer) .place) (desk.told (x i .outcome .answer) .parameter) 0 0)
           ∙ sym (B .word .whole),
@@ -134,21 +134,21 @@ record-settles-one k d o w c v e A B =
     )
 
 -- what counts
-pub record-counts-one : (b : ℕ) (o : List ℕ) (t w v : ℕ) → RecordCounts b o t w → RecordCounts b o t v → w ≡ v
+pub record-counts-one : (b y : ℕ) (o : List ℕ) (t w v : ℕ) → RecordCounts b y o t w → RecordCounts b y o t v → w ≡ v
 unfolding message.told
-record-counts-one b o t w v A B = go (A .verdict) refl
+record-counts-one b y o t w v A B = go (A .verdict) refl
   where
-    of-message : (a : Accepts (rulesOf (bookOf b lenient)) o) (x : Option (List ℕ)) →
-        counted (rulesOf (bookOf b lenient)) (a .0) t ≡ x → w ≡ v
+    of-message : (a : Accepts (rulesOf (bookOf b y)) o) (x : Option (List ℕ)) →
+        counted (rulesOf (bookOf b y)) (a .0) t ≡ x → w ≡ v
     of-message (m, l, e) none z = words-one b 0 0 0 0 0 w v (A .none-counts m l e z) (B .none-counts m l e z)
-    of-message (m, l, e) (some y) z =
-        let c = counted-iff (rulesOf (bookOf b lenient)) m t y .0 z in
-        words-one _ _ _ _ _ _ w v (A .counts m l e y c) (B .counts m l e y c)
+    of-message (m, l, e) (some x) z =
+        let c = counted-iff (rulesOf (bookOf b y)) m t x .0 z in
+        words-one _ _ _ _ _ _ w v (A .counts m l e x c) (B .counts m l e x c)
 
     go : (x : Verdict) → A .verdict ≡ x → w ≡ v
     go (Accepted n) e = of-message (accepted-iff (A .judged) n .0 e .1) _ refl
     go (Declined f) e =
-        let k = judges-one (languageOf (bookOf b lenient)) o _ _ (A .judged) (B .judged) in
+        let k = judges-one (languageOf (bookOf b y)) o _ _ (A .judged) (B .judged) in
         let l : 1 ≤ message.told (A .verdict) .number =
         subst (λ (x : Verdict). 1 ≤ message.told x .number) (sym e) (some-number (A .judged) f e) in
         words-one _ _ _ _ _ _ w v (A .refused l)
@@ -157,9 +157,9 @@ record-counts-one b o t w v A B = go (A .verdict) refl
         (B .refused (subst (λ (x : Verdict). 1 ≤ message.told x .number) k l)))
 
 -- the caption
-pub record-finds-one : (k : ℕ) (o d c : List ℕ) (w : ℕ) (c' : List ℕ) (v : ℕ) (e : List ℕ) →
-    RecordFinds k o d c w c' → RecordFinds k o d c v e → (w ≡ v) × (c' ≡ e)
-record-finds-one k o d c w c' v e A B = (
+pub record-finds-one : (k y : ℕ) (o d c : List ℕ) (w : ℕ) (c' : List ℕ) (v : ℕ) (e : List ℕ) →
+    RecordFinds k y o d c w c' → RecordFinds k y o d c v e → (w ≡ v) × (c' ≡ e)
+record-finds-one k y o d c w c' v e A B = (
   A .word .whole ∙ (λ i. packed (x i .edition) (caption.told (x i .shown) .number) (caption.told (x i .shown) .place)
       (caption.told (x i .shown) .parameter) 0 0)
       ∙ sym (B .word .whole),
@@ -167,7 +167,7 @@ record-finds-one k o d c w c' v e A B = (
 )
   where
     x : A .finding ≡ B .finding
-    x = finds-by-one k lenient o d (A .finding) (B .finding) (A .finds) (B .finds)
+    x = finds-by-one k y o d (A .finding) (B .finding) (A .finds) (B .finds)
 
     shown : caption.told (A .finding .shown) .number ≡ 0 → c' ≡ e
     shown z =

@@ -13,8 +13,7 @@ use Rattle.rules.specs.Tests.{_=?_}
 use Rattle.rules.proofs.Tests.{pick-yes, pick-not, of-eq, eq-of, decide, clash}
 use Rattle.rules.specs.Octets.{Octets}
 use Rattle.rules.specs.Table.{rulesOf}
-use Rattle.rules.specs.Editions.{lenient, edition, known, bookOf}
-use Rattle.rules.proofs.Editions.{edition-of}
+use Rattle.rules.specs.Editions.{known, bookOf}
 use Rattle.rules.specs.declared.Book.{Book}
 use Rattle.rules.specs.declared.Fault.{Fault}
 use Rattle.rules.specs.Message.{Message, octets, LegalMessage, Accepts}
@@ -44,7 +43,7 @@ use Rattle.firmware.specs.Word.{packed, Unpacked, unpacked, plain-word, 
 use Rattle.firmware.specs.PartRecord.{partRecord, partSide, partStart, partLength}
 use Rattle.firmware.proofs.PartRecord.{part-back}
 use Rattle.firmware.specs.Exports.{badRecord, partWord, countedUnder, countedAnswer, foundWord, partFrom, captionAnswer, captionRecord}
-use Rattle.firmware.proofs.RecordHears.{edition-small}
+use Rattle.firmware.proofs.RecordHears.{known-small}
 use Rattle.firmware.specs.RecordParts.{RecordCounts, RecordFinds}
 use Rattle.firmware.specs.Sizes.{partSize}
 
@@ -58,26 +57,26 @@ refusal-word b v h o q f e =
     (omega (arith, told-small (spoken-of b) _ (number-of j f e) .1))
     (omega (arith, near-declined j f e)) (omega (arith, few-declined j f e)) (omega arith) (omega arith)
 
--- an unknown edition is 16
-pub no-edition : (e : ℕ) (o : List ℕ) (t w : ℕ) → w ≡ countedAnswer e o t → (T (edition e) → ⊥) →
+-- an unknown edition or way is 16
+pub no-book : (e y : ℕ) (o : List ℕ) (t w : ℕ) → w ≡ countedAnswer e y o t → (T (known e y) → ⊥) →
     Unpacked 0 16 0 0 0 0 w
 unfolding countedAnswer
-no-edition e o t w a n = plain-word 16 w (omega arith) (a ∙ pick-not _ _ _ n)
+no-book e y o t w a n = plain-word 16 w (omega arith) (a ∙ pick-not _ _ _ n)
 
-module _ (e : ℕ) (k : T (edition e)) (o : List ℕ) (t w : ℕ) (a' : w ≡ countedAnswer e o t) (q : Octets o) where
+module _ (e y : ℕ) (k : T (known e y)) (o : List ℕ) (t w : ℕ) (a' : w ≡ countedAnswer e y o t) (q : Octets o) where
   abbrev b : Book
-  b = bookOf e lenient
+  b = bookOf e y
 
   abbrev v : Verdict
   v = verdictOf (rulesOf b) o
 
-  a : w ≡ countedUnder e v o t
+  a : w ≡ countedUnder e y v o t
   unfolding countedAnswer
   a = a' ∙ pick-yes _ _ _ k
 
   refused-is : (f : Fault) → v ≡ Declined f → w ≡ packed e (f .number) (f .place) (f .parameter) 0 0
   unfolding countedUnder
-  refused-is f z = a ∙ ap (λ (x : Verdict). countedUnder e x o t) z
+  refused-is f z = a ∙ ap (λ (x : Verdict). countedUnder e y x o t) z
 
   refused-word : (x : Verdict) → v ≡ x → 1 ≤ message.told x .number →
       Unpacked e (message.told x .number) (message.told x .place) (message.told x .parameter) 0 0 w
@@ -85,26 +84,26 @@ module _ (e : ℕ) (k : T (edition e)) (o : List ℕ) (t w : ℕ) (a' : w ≡ co
   refused-word (Accepted n) z l = absurd (omega arith)
   refused-word (Declined f) z l =
       subst (Unpacked e (f .number) (f .place) (f .parameter) 0 0) (sym (refused-is f z))
-      (refusal-word b e (edition-small e k) o q f z)
+      (refusal-word b e (known-small e y k) o q f z)
 
   part-is : (m : Message) → LegalMessage (rulesOf b) m → octets m ≡ o →
       w ≡ partWord e (countedAt (rulesOf b) o t)
   unfolding countedUnder
   part-is m l z =
-      a ∙ ap (λ (x : Verdict). countedUnder e x o t)
+      a ∙ ap (λ (x : Verdict). countedUnder e y x o t)
       (accepted-iff (judges-of b o q) (length o) .1 (refl, (m, l, z)))
 
   counts-word : (m : Message) → LegalMessage (rulesOf b) m → octets m ≡ o →
       (x : List ℕ) (c : Counts (rulesOf b) m t x) → Unpacked e 0 0 0 (length x) (contentsAt (c .first)) w
   unfolding partWord
-  counts-word m l y x c =
-      let p = ap (λ (z : List ℕ). countedAt (rulesOf b) z t) (sym y)
+  counts-word m l is x c =
+      let p = ap (λ (z : List ℕ). countedAt (rulesOf b) z t) (sym is)
       ∙ counted-at (rulesOf b) m t x c in
       let i = counted-inside o (rulesOf b) t _ _ p in
-      let n = accepted-size (rulesOf b) o (m, l, y) .1 in
-      subst (Unpacked e 0 0 0 (length x) (contentsAt (c .first))) (sym (part-is m l y ∙ ap (partWord e) p))
-      (unpacked e 0 0 0 (length x) (contentsAt (c .first)) (edition-small e k) (omega arith) (omega arith) (omega arith) (omega (arith, i, n))
-      (omega (arith, i, n)))
+      let n = accepted-size (rulesOf b) o (m, l, is) .1 in
+      subst (Unpacked e 0 0 0 (length x) (contentsAt (c .first))) (sym (part-is m l is ∙ ap (partWord e) p))
+      (unpacked e 0 0 0 (length x) (contentsAt (c .first)) (known-small e y k) (omega arith) (omega arith) (omega arith)
+      (omega (arith, i, n)) (omega (arith, i, n)))
 
   nowhere : (p : Part) → partOf o p ≡ none → partWord e p ≡ packed e 0 0 0 0 0
   unfolding partOf partWord
@@ -113,13 +112,13 @@ module _ (e : ℕ) (k : T (edition e)) (o : List ℕ) (t w : ℕ) (a' : w ≡ co
 
   none-word : (m : Message) → LegalMessage (rulesOf b) m → octets m ≡ o →
       counted (rulesOf b) m t ≡ none → Unpacked e 0 0 0 0 0 w
-  none-word m l y n =
-      let p = ap (λ (z : List ℕ). partOf z (countedAt (rulesOf b) z t)) (sym y)
+  none-word m l i n =
+      let p = ap (λ (z : List ℕ). partOf z (countedAt (rulesOf b) z t)) (sym i)
       ∙ counted-part (rulesOf b) m t ∙ n in
-      subst (Unpacked e 0 0 0 0 0) (sym (part-is m l y ∙ nowhere _ p))
-      (unpacked e 0 0 0 0 0 (edition-small e k) (omega arith) (omega arith) (omega arith) (omega arith) (omega arith))
+      subst (Unpacked e 0 0 0 0 0) (sym (part-is m l i ∙ nowhere _ p))
+      (unpacked e 0 0 0 0 0 (known-small e y k) (omega arith) (omega arith) (omega arith) (omega arith) (omega arith))
 
-  pub record-counts : RecordCounts e o t w
+  pub record-counts : RecordCounts e y o t w
   record-counts = record {
     verdict = v;
     judged = judges-of b o q;
@@ -128,8 +127,8 @@ module _ (e : ℕ) (k : T (edition e)) (o : List ℕ) (t w : ℕ) (a' : w ≡ co
     none-counts = none-word;
   }
 
-module _ (e : ℕ) (o d c : List ℕ) (w : ℕ) (c' : List ℕ) (a : w ≡ captionAnswer e o d c)
-    (b : c' ≡ captionRecord e o d c) where
+module _ (e y : ℕ) (o d c : List ℕ) (w : ℕ) (c' : List ℕ) (a : w ≡ captionAnswer e y o d c)
+    (b : c' ≡ captionRecord e y o d c) where
   -- another size than 24 is 17, and the record stays
   pub no-part : (length c ≡ partSize → ⊥) → Seventeen c w c'
   unfolding captionAnswer captionRecord
@@ -139,13 +138,13 @@ module _ (e : ℕ) (o d c : List ℕ) (w : ℕ) (c' : List ℕ) (a : w ≡ capti
 
   module _ (q : Octets o) (n : length c ≡ partSize) where
     abbrev found-by : Finding
-    found-by = findIn e lenient o d
+    found-by = findIn e y o d
 
     abbrev r : Shown
     r = found-by .shown
 
-    said : FindsBy e lenient o d found-by
-    said = finds-by e lenient o d q
+    said : FindsBy e y o d found-by
+    said = finds-by e y o d q
 
     -- by a book, number, place and parameter fit their octets
     found-small : (v : Book) (x : Shown) → Finds (rulesOf v) o d x → (y : Shown) → x ≡ y →
@@ -161,11 +160,11 @@ module _ (e : ℕ) (o d c : List ℕ) (w : ℕ) (c' : List ℕ) (a : w ≡ capti
         )
 
     small : (told r .number < 256) × (told r .place ≤ 258) × (told r .parameter ≤ 85)
-    small = go (decide (known e lenient))
+    small = go (decide (known e y))
       where
-        go : T (known e lenient) ⊎ (T (known e lenient) → ⊥) →
+        go : T (known e y) ⊎ (T (known e y) → ⊥) →
             (told r .number < 256) × (told r .place ≤ 258) × (told r .parameter ≤ 85)
-        go (inl t) = found-small (bookOf e lenient) r (said .by-book t) r refl
+        go (inl t) = found-small (bookOf e y) r (said .by-book t) r refl
         go (inr n) =
             let z = said .sixteen 0 0 .1 (refl, refl, n) in (
               omega (arith, ap (λ (x : Told). x .number) z),
@@ -174,13 +173,13 @@ module _ (e : ℕ) (o d c : List ℕ) (w : ℕ) (c' : List ℕ) (a : w ≡ capti
             )
 
     named-small : found-by .edition < 2
-    named-small = go (decide (told r .number =? 16)) (decide (known e lenient))
+    named-small = go (decide (told r .number =? 16)) (decide (known e y))
       where
         go : T (told r .number =? 16) ⊎ (T (told r .number =? 16) → ⊥) →
-            T (known e lenient) ⊎ (T (known e lenient) → ⊥) → found-by .edition < 2
+            T (known e y) ⊎ (T (known e y) → ⊥) → found-by .edition < 2
         go (inl x) t = omega (arith, said .names-none (eq-of _ _ x))
         go (inr x) (inl t) =
-            omega (arith, said .names (λ z. x (of-eq _ _ z)), edition-small e (edition-of e lenient t))
+            omega (arith, said .names (λ z. x (of-eq _ _ z)), known-small e y t)
         go (inr x) (inr t) = absurd (x (of-eq _ _ (said .unknown t)))
 
     word-is : Unpacked (found-by .edition) (told r .number) (told r .place) (told r .parameter) 0 0 w
@@ -219,23 +218,23 @@ module _ (e : ℕ) (o d c : List ℕ) (w : ℕ) (c' : List ℕ) (a : w ≡ capti
     part-is-found : told r .number ≡ 0 → c' ≡ partRecord (told r .side) (told r .start) (told r .size)
     part-is-found e = cells-are ∙ part-from r (λ f z. subst Clear z (said .clear)) e
 
-    accepted : told r .number ≡ 0 → Accepts (rulesOf (bookOf e lenient)) o
-    accepted z = go (decide (known e lenient))
+    accepted : told r .number ≡ 0 → Accepts (rulesOf (bookOf e y)) o
+    accepted z = go (decide (known e y))
       where
-        go : T (known e lenient) ⊎ (T (known e lenient) → ⊥) → Accepts (rulesOf (bookOf e lenient)) o
+        go : T (known e y) ⊎ (T (known e y) → ⊥) → Accepts (rulesOf (bookOf e y)) o
         go (inl t) = said .by-book t .done .0 z
         go (inr n) = absurd (omega (arith, z, said .unknown n))
 
     back : length d < 256 ^ 8 → told r .number ≡ 0 →
         (partSide c' ≡ told r .side) × (partStart c' ≡ told r .start) × (partLength c' ≡ told r .size)
     back h z =
-        let i = slices-small h (accepted-size (rulesOf (bookOf e lenient)) o (accepted z) .1) r in
+        let i = slices-small h (accepted-size (rulesOf (bookOf e y)) o (accepted z) .1) r in
         subst (λ (z : List ℕ). (partSide z ≡ told r .side) × (partStart z ≡ told r .start)
         × (partLength z ≡ told r .size)) (sym (part-is-found z))
         (part-back (told r .side) (told r .start) (told r .size)
         (omega (arith, i, said .inside)) (omega (arith, i, said .inside)))
 
-    pub record-finds : RecordFinds e o d c w c'
+    pub record-finds : RecordFinds e y o d c w c'
     unfolding partFrom
     record-finds =
         record {

@@ -8,7 +8,6 @@ use native.Mathlib.Numerals.{add-one}
 use native.Mathlib.Omega.{arith}
 use lib.ListN.{length, length-set, take, drop, set, getD}
 use lib.Seq.{take-all, take-suc, take-suc-set, drop-drop}
-use Rattle.rules.specs.Editions.{lenient}
 use Rattle.rules.proofs.Returns.{pick-t, pick-f, via}
 use Rattle.desk.specs.declared.Desk.{Desk}
 use Rattle.desk.specs.declared.Settling.{Settling}
@@ -123,17 +122,17 @@ first-four (p ∷ q ∷ r ∷ []) h a b x y = absurd (omega arith)
 first-four (p ∷ q ∷ r ∷ s ∷ cells) h a b x y = refl
 
 -- ---- settling
-module _ (v : ℕ) (c o : List ℕ) (b : Bool) (p : b ≡ isRecord c) where
+module _ (v y : ℕ) (c o : List ℕ) (b : Bool) (p : b ≡ isRecord c) where
   pub settles-known : b ≡ true → (d : Desk) (x : Settling) (w : ℕ) (last : List ℕ) → d ≡ deskIn c →
-      x ≡ settleIn v lenient d o → w ≡ deskWord (x .edition) (x .outcome .answer) →
-      last ≡ deskRecord (x .outcome .desk) → (w ≡ settleAnswer v c o) × (last ≡ settleRecord v c o)
+      x ≡ settleIn v y d o → w ≡ deskWord (x .edition) (x .outcome .answer) →
+      last ≡ deskRecord (x .outcome .desk) → (w ≡ settleAnswer v y c o) × (last ≡ settleRecord v y c o)
   unfolding settleAnswer settleRecord
   settles-known t d x w last q k f g =
-      let e : x ≡ settleIn v lenient (deskIn c) o = k ∙ ap (λ (y : Desk). settleIn v lenient y o) q in (
+      let e : x ≡ settleIn v y (deskIn c) o = k ∙ ap (λ (u : Desk). settleIn v y u o) q in (
         pick-t _ _ _ _ (via _ _ _ p t) (f ∙ ap (λ (y : Settling). deskWord (y .edition) (y .outcome .answer)) e),
         pick-t _ _ _ _ (via _ _ _ p t) (g ∙ ap (λ (y : Settling). deskRecord (y .outcome .desk)) e),
       )
 
-  pub settles-unknown : b ≡ false → (w : ℕ) → w ≡ badRecord → (w ≡ settleAnswer v c o) × (c ≡ settleRecord v c o)
+  pub settles-unknown : b ≡ false → (w : ℕ) → w ≡ badRecord → (w ≡ settleAnswer v y c o) × (c ≡ settleRecord v y c o)
   unfolding settleAnswer settleRecord
   settles-unknown t w g = (pick-f _ _ _ _ (via _ _ _ p t) g, pick-f _ _ _ _ (via _ _ _ p t) refl)

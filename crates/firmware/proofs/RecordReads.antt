@@ -11,8 +11,8 @@ use Rattle.rules.specs.Tests.{_≤?_, _=?_}
 use Rattle.rules.proofs.Tests.{pick-yes, pick-not, of-eq, eq-of, le-of, not-le, decide, clash}
 use Rattle.rules.specs.Octets.{Octets}
 use Rattle.rules.specs.Table.{Rules}
-use Rattle.rules.specs.Editions.{lenient, edition, bookOf}
-use Rattle.rules.proofs.Editions.{book-edition, by-lenient}
+use Rattle.rules.specs.Editions.{known, bookOf}
+use Rattle.rules.proofs.Editions.{book-edition}
 use Rattle.rules.proofs.ContentLaw.{SoundRules, sound-rules}
 use Rattle.rules.specs.Message.{Message, Accepts}
 use Rattle.rules.specs.declared.Fault.{Fault}
@@ -30,13 +30,13 @@ use Rattle.reader.proofs.Told.{short-iff, drafted-as, texts-accepted, some-numb
 use Rattle.firmware.specs.Word.{Unpacked, unpacked, Sixteen, sixteen, Seventeen, seventeen}
 use Rattle.firmware.specs.DraftRecord.{draftRecord, entryIn}
 use Rattle.firmware.proofs.DraftRecord.{entry-back, draft-inside}
-use Rattle.firmware.specs.Exports.{badRecord, noEdition, rulesBy, packedWord, recordFrom, readAnswer, readRecord, readTexts}
-use Rattle.firmware.proofs.RecordHears.{edition-small}
+use Rattle.firmware.specs.Exports.{badRecord, noBook, rulesBy, packedWord, recordFrom, readAnswer, readRecord, readTexts}
+use Rattle.firmware.proofs.RecordHears.{known-small}
 use Rattle.firmware.specs.RecordReads.{RecordReads}
 use Rattle.firmware.specs.Sizes.{draftSize}
 
-module _ (v : ℕ) (o c t : List ℕ) (w : ℕ) (c' t' : List ℕ) (a : w ≡ readAnswer v o c t)
-    (b : c' ≡ readRecord v o c t) (d : t' ≡ readTexts v o c t) where
+module _ (v y : ℕ) (o c t : List ℕ) (w : ℕ) (c' t' : List ℕ) (a : w ≡ readAnswer v y o c t)
+    (b : c' ≡ readRecord v y o c t) (d : t' ≡ readTexts v y o c t) where
   pub unread : (length c ≡ draftSize → ⊥) → Seventeen c w c' × (t' ≡ t)
   unfolding readAnswer readRecord readTexts
   unread n =
@@ -46,21 +46,21 @@ module _ (v : ℕ) (o c t : List ℕ) (w : ℕ) (c' t' : List ℕ) (a : w ≡ re
         d ∙ pick-not (length c =? draftSize) _ t f,
       )
 
-  pub no-edition : length c ≡ draftSize → (T (edition v) → ⊥) → Sixteen c w c' × (t' ≡ t)
+  pub no-book : length c ≡ draftSize → (T (known v y) → ⊥) → Sixteen c w c' × (t' ≡ t)
   unfolding readAnswer readRecord readTexts
-  no-edition n k =
+  no-book n k =
       let f = of-eq (length c) draftSize n in (
-        sixteen c w c' (a ∙ pick-yes (length c =? draftSize) _ badRecord f ∙ pick-not (edition v) _ noEdition k)
-            (b ∙ pick-yes (length c =? draftSize) _ c f ∙ pick-not (edition v) _ c k),
-        d ∙ pick-yes (length c =? draftSize) _ t f ∙ pick-not (edition v) _ t k,
+        sixteen c w c' (a ∙ pick-yes (length c =? draftSize) _ badRecord f ∙ pick-not (known v y) _ noBook k)
+            (b ∙ pick-yes (length c =? draftSize) _ c f ∙ pick-not (known v y) _ c k),
+        d ∙ pick-yes (length c =? draftSize) _ t f ∙ pick-not (known v y) _ t k,
       )
 
-  module _ (q : Octets o) (n : length c ≡ draftSize) (known : T (edition v)) where
+  module _ (q : Octets o) (n : length c ≡ draftSize) (is : T (known v y)) where
     abbrev R : Rules
-    R = rulesBy v
+    R = rulesBy v y
 
     S : SoundRules R
-    S = sound-rules (bookOf v lenient)
+    S = sound-rules (bookOf v y)
 
     abbrev p : Packed
     p = packOf R o (length t)
@@ -70,18 +70,18 @@ module _ (v : ℕ) (o c t : List ℕ) (w : ℕ) (c' t' : List ℕ) (a : w ≡ re
     word-is =
         let k = near R S o t q in
         subst (Unpacked v (told p .number) (told p .place) (told p .parameter) (told p .size) 0)
-        (sym (a ∙ pick-yes (length c =? draftSize) _ badRecord (of-eq _ _ n) ∙ pick-yes (edition v) _ noEdition known))
-        (unpacked v (told p .number) (told p .place) (told p .parameter) (told p .size) 0 (edition-small v known)
+        (sym (a ∙ pick-yes (length c =? draftSize) _ badRecord (of-eq _ _ n) ∙ pick-yes (known v y) _ noBook is))
+        (unpacked v (told p .number) (told p .place) (told p .parameter) (told p .size) 0 (known-small v y is)
         (omega (arith, k .number))
         (omega (arith, k .place)) (omega (arith, k .parameter)) (omega (arith, k .size)) (omega arith))
 
     cells-are : c' ≡ recordFrom R o c p
     unfolding readRecord
-    cells-are = b ∙ pick-yes (length c =? draftSize) _ c (of-eq _ _ n) ∙ pick-yes (edition v) _ c known
+    cells-are = b ∙ pick-yes (length c =? draftSize) _ c (of-eq _ _ n) ∙ pick-yes (known v y) _ c is
 
     texts-are : t' ≡ areaAfter R o t
     unfolding readTexts
-    texts-are = d ∙ pick-yes (length c =? draftSize) _ t (of-eq _ _ n) ∙ pick-yes (edition v) _ t known
+    texts-are = d ∙ pick-yes (length c =? draftSize) _ t (of-eq _ _ n) ∙ pick-yes (known v y) _ t is
 
     abbrev r : Reading
     r = readOf R o (length t)
@@ -108,7 +108,7 @@ module _ (v : ℕ) (o c t : List ℕ) (w : ℕ) (c' t' : List ℕ) (a : w ≡ re
 
     of-edition : (m : Message) → draftOf R m .edition ≡ v
     unfolding draftOf
-    of-edition m = book-edition v lenient (by-lenient v known)
+    of-edition m = book-edition v y is
 
     -- an accepted message that was read had room for its texts, which are 253 octets at most
     back : (k : ℕ) → r .answer ≡ Texts k →
@@ -148,7 +148,7 @@ module _ (v : ℕ) (o c t : List ℕ) (w : ℕ) (c' t' : List ℕ) (a : w ≡ re
             let x = short-iff reads-is (length (texts R m)) .1 (m, l, z, refl, not-le _ _ h) in
             clash (cc (e, x))
 
-    pub record-reads : RecordReads v o c t w c' t'
+    pub record-reads : RecordReads v y o c t w c' t'
     unfolding readOf draftFrom recordFrom
     record-reads = record {
       reading = r;

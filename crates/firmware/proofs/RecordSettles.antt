@@ -14,11 +14,10 @@ use Rattle.rules.specs.Tests.{_=?_}
 use Rattle.rules.proofs.Tests.{pick-yes, pick-not, decide, of-eq, eq-of}
 use Rattle.rules.specs.Octets.{Octets}
 use Rattle.rules.specs.Table.{rulesOf}
-use Rattle.rules.specs.Editions.{lenient, edition, known, bookOf}
-use Rattle.rules.proofs.Editions.{edition-of, by-lenient}
+use Rattle.rules.specs.Editions.{known, bookOf}
 use Rattle.rules.specs.declared.Book.{Book}
 use Rattle.message.specs.Judges.{verdictNumber}
-use Rattle.message.proofs.Judges.{told-small, near-declined, few-declined, verdict-lenient}
+use Rattle.message.proofs.Judges.{told-small, near-declined, few-declined}
 use Rattle.rules.specs.declared.Fault.{Fault}
 use Rattle.rules.specs.Refusals.{noted}
 use Rattle.rules.specs.Language.{languageOf}
@@ -42,8 +41,7 @@ use Rattle.firmware.specs.DeskRecord.{isRecord, deskIn, deskRecord}
 use Rattle.firmware.proofs.DeskRecord.{Small, small-in, record-is, decode-encode, encode-decode}
 use Rattle.firmware.specs.Word as word
 use Rattle.firmware.specs.Word.{wordNumber, Unpacked, unpacked, Seventeen}
-use Rattle.firmware.proofs.Classes.{carries}
-use Rattle.firmware.proofs.RecordHears.{edition-small}
+use Rattle.firmware.proofs.RecordHears.{known-small}
 use Rattle.firmware.specs.Exports.{badRecord, deskWord, newDeskAnswer, newDeskRecord, settleAnswer, settleRecord}
 use Rattle.firmware.specs.RecordSettles.{RecordSettles, IsDesk, RecordCall, saidIn, lastSaidIn, NamesIn, SaysIn}
 use Rattle.firmware.specs.Sizes.{deskSize}
@@ -80,8 +78,8 @@ module _ (v : Book) (d : Desk) (o : List ℕ) (x : Outcome) (s : Settles (rulesO
       go (inr (inl h)) = omega (arith, ap (λ (g : Fault). g .parameter) (noted-at s f e 17 h (inl refl)))
       go (inr (inr h)) = omega (arith, ap (λ (g : Fault). g .parameter) (noted-at s f e 21 h (inr refl)))
 
--- ---- by any edition
-module _ (v : ℕ) (d : Desk) (o : List ℕ) (x : Settling) (s : SettlesBy v lenient d o x) where
+-- ---- by any numbers
+module _ (v y : ℕ) (d : Desk) (o : List ℕ) (x : Settling) (s : SettlesBy v y d o x) where
   abbrev tells : Told
   tells = told (x .outcome .answer)
 
@@ -90,7 +88,7 @@ module _ (v : ℕ) (d : Desk) (o : List ℕ) (x : Settling) (s : SettlesBy v len
   as-refusal k e = λ i. refusal (e i) (tells .place) (tells .parameter)
 
   fields-small : (tells .number ≤ 21) × (tells .place ≤ 258) × (tells .parameter ≤ 85)
-  fields-small = go (decide (known v lenient))
+  fields-small = go (decide (known v y))
     where
       of-number : (k : ℕ) → tells .number ≡ k → k ≤ 21 → (tells .place ≡ 0) × (tells .parameter ≡ 0) →
           (tells .number ≤ 21) × (tells .place ≤ 258) × (tells .parameter ≤ 85)
@@ -103,29 +101,29 @@ module _ (v : ℕ) (d : Desk) (o : List ℕ) (x : Settling) (s : SettlesBy v len
       by-none (inr e) =
           let z = s .seventeen _ _ .0 (as-refusal 17 e) in of-number 17 e (omega arith) (z .0, z .1)
 
-      go : T (known v lenient) ⊎ (T (known v lenient) → ⊥) →
+      go : T (known v y) ⊎ (T (known v y) → ⊥) →
           (tells .number ≤ 21) × (tells .place ≤ 258) × (tells .parameter ≤ 85)
       go (inl t) =
           let b = s .by-book t in (
-            number-small (bookOf v lenient) d o (x .outcome) b _ refl,
-            near (bookOf v lenient) d o (x .outcome) b _ refl,
-            few (bookOf v lenient) d o (x .outcome) b _ refl,
+            number-small (bookOf v y) d o (x .outcome) b _ refl,
+            near (bookOf v y) d o (x .outcome) b _ refl,
+            few (bookOf v y) d o (x .outcome) b _ refl,
           )
       go (inr n) = by-none (s .unknown n)
 
   named-small : x .edition < 2
-  named-small = go (decide (tells .number =? 16)) (decide (tells .number =? 17)) (decide (known v lenient))
+  named-small = go (decide (tells .number =? 16)) (decide (tells .number =? 17)) (decide (known v y))
     where
       go : T (tells .number =? 16) ⊎ (T (tells .number =? 16) → ⊥) →
           T (tells .number =? 17) ⊎ (T (tells .number =? 17) → ⊥) →
-          T (known v lenient) ⊎ (T (known v lenient) → ⊥) → x .edition < 2
+          T (known v y) ⊎ (T (known v y) → ⊥) → x .edition < 2
       go (inl a) b k = omega (arith, s .names-none (inl (eq-of _ _ a)))
       go (inr a) (inl b) k = omega (arith, s .names-none (inr (eq-of _ _ b)))
       go (inr a) (inr b) (inl k) =
           omega (
             arith,
             s .names (λ e. a (of-eq _ _ e)) (λ e. b (of-eq _ _ e)),
-            edition-small v (edition-of v lenient k),
+            known-small v y k,
           )
       go (inr a) (inr b) (inr k) = absurd (neither (s .unknown k))
         where
@@ -135,50 +133,51 @@ module _ (v : ℕ) (d : Desk) (o : List ℕ) (x : Settling) (s : SettlesBy v len
 
   -- the desk that settling leaves has places that a record holds
   small-after : Small (d .places) → Small (x .outcome .desk .places)
-  small-after w = go (decide (known v lenient))
+  small-after w = go (decide (known v y))
     where
       one-of : (tells .number ≡ 16) ⊎ (tells .number ≡ 17) → 1 ≤ tells .number
       one-of (inl e) = omega arith
       one-of (inr e) = omega arith
 
-      by-answer : Settles (rulesOf (bookOf v lenient)) d o (x .outcome) → (a : Answer) → x .outcome .answer ≡ a →
+      by-answer : Settles (rulesOf (bookOf v y)) d o (x .outcome) → (a : Answer) → x .outcome .answer ≡ a →
           Small (x .outcome .desk .places)
       by-answer b Done e =
           let f = b .fits (done-iff b .0 e .0) in
           record { long = b .as-many ∙ w .long; below = λ i. omega (arith, f .range i) }
       by-answer b (Refused f) e = subst (λ (y : Desk). Small (y .places)) (sym (refusal-leaves b f e)) w
 
-      go : T (known v lenient) ⊎ (T (known v lenient) → ⊥) → Small (x .outcome .desk .places)
+      go : T (known v y) ⊎ (T (known v y) → ⊥) → Small (x .outcome .desk .places)
       go (inl t) = by-answer (s .by-book t) _ refl
       go (inr n) =
           subst (λ (y : Desk). Small (y .places)) (sym (s .refusal-stays (one-of (s .unknown n)))) w
 
-module _ (v : ℕ) (c o : List ℕ) (w : ℕ) (c' : List ℕ) (a : w ≡ settleAnswer v c o) (b : c' ≡ settleRecord v c o) where
+module _ (v y : ℕ) (c o : List ℕ) (w : ℕ) (c' : List ℕ) (a : w ≡ settleAnswer v y c o)
+    (b : c' ≡ settleRecord v y c o) where
   pub seventeen : (T (isRecord c) → ⊥) → Seventeen c w c'
   unfolding settleAnswer settleRecord
   seventeen n = word.seventeen c w c' (a ∙ pick-not _ _ _ n) (b ∙ pick-not _ _ _ n)
 
   abbrev result : Settling
-  result = settleIn v lenient (deskIn c) o
+  result = settleIn v y (deskIn c) o
 
   settled-word : Octets o → T (isRecord c) →
       let k = told (result .outcome .answer) in
       Unpacked (result .edition) (k .number) (k .place) (k .parameter) 0 0 w
   unfolding settleAnswer deskWord
   settled-word q t =
-      let s = settles.settles-by v lenient (deskIn c) o q in
+      let s = settles.settles-by v y (deskIn c) o q in
       let k = told (result .outcome .answer) in
-      let z = fields-small v (deskIn c) o result s in
+      let z = fields-small v y (deskIn c) o result s in
       subst (Unpacked (result .edition) (k .number) (k .place) (k .parameter) 0 0) (sym (a ∙ pick-yes _ _ _ t))
       (unpacked (result .edition) (k .number) (k .place) (k .parameter) 0 0
-      (named-small v (deskIn c) o result s) (omega (arith, z .0)) (omega (arith, z .1)) (omega (arith, z .2))
+      (named-small v y (deskIn c) o result s) (omega (arith, z .0)) (omega (arith, z .1)) (omega (arith, z .2))
       (omega arith) (omega arith))
 
-  pub record-settles : Octets o → T (isRecord c) → RecordSettles v (deskIn c) o w c'
+  pub record-settles : Octets o → T (isRecord c) → RecordSettles v y (deskIn c) o w c'
   unfolding settleRecord
   record-settles q t = record {
     settling = result;
-    settles = settles.settles-by v lenient (deskIn c) o q;
+    settles = settles.settles-by v y (deskIn c) o q;
     word = settled-word q t;
     cells = b ∙ pick-yes _ _ _ t;
   }
@@ -190,65 +189,67 @@ module _ (v : ℕ) (c o : List ℕ) (w : ℕ) (c' : List ℕ) (a : w ≡ settleA
       where
         go : T (isRecord c) ⊎ (T (isRecord c) → ⊥) → (wordNumber w ≡ 17) ↔ (IsDesk c → ⊥)
         go (inl t) =
-            let y = record-settles q t in
-            let s = y .settles in (
-              λ x i. s .seventeen _ _ .0
-                  (as-refusal v (deskIn c) o (y .settling) s 17 (sym (y .word .number) ∙ x)) .2 (i .places),
-              λ n. y .word .number ∙ ap (λ (z : Told). z .number)
+            let x = record-settles q t in
+            let s = x .settles in (
+              λ z i. s .seventeen _ _ .0
+                  (as-refusal v y (deskIn c) o (x .settling) s 17 (sym (x .word .number) ∙ z)) .2 (i .places),
+              λ n. x .word .number ∙ ap (λ (z : Told). z .number)
                   (s .seventeen 0 0 .1 (refl, refl, λ i. n (record { codes = t; places = i }))),
             )
         go (inr n) = (λ _ i. n (i .codes), λ _. seventeen n .word .number)
 
-    -- 16 exactly for a desk's record and an unknown edition
-    pub sixteen-iff : (wordNumber w ≡ 16) ↔ (IsDesk c × (T (edition v) → ⊥))
+    -- 16 exactly for a desk's record and an unknown edition or way
+    pub sixteen-iff : (wordNumber w ≡ 16) ↔ (IsDesk c × (T (known v y) → ⊥))
     sixteen-iff = go (decide (isRecord c))
       where
-        go : T (isRecord c) ⊎ (T (isRecord c) → ⊥) → (wordNumber w ≡ 16) ↔ (IsDesk c × (T (edition v) → ⊥))
+        go : T (isRecord c) ⊎ (T (isRecord c) → ⊥) → (wordNumber w ≡ 16) ↔ (IsDesk c × (T (known v y) → ⊥))
         go (inl t) =
-            let y = record-settles q t in
-            let s = y .settles in (
-              λ x.
+            let x = record-settles q t in
+            let s = x .settles in (
+              λ i.
                   let z = s .sixteen _ _ .0
-                  (as-refusal v (deskIn c) o (y .settling) s 16 (sym (y .word .number) ∙ x)) in
-                  (record { codes = t; places = z .2 }, λ k. z .3 (by-lenient v k)),
-              λ n. y .word .number ∙ ap (λ (z : Told). z .number)
-                  (s .sixteen 0 0 .1 (refl, refl, n .0 .places, λ k. n .1 (edition-of v lenient k))),
+                  (as-refusal v y (deskIn c) o (x .settling) s 16 (sym (x .word .number) ∙ i)) in
+                  (record { codes = t; places = z .2 }, z .3),
+              λ n. x .word .number ∙ ap (λ (z : Told). z .number)
+                  (s .sixteen 0 0 .1 (refl, refl, n .0 .places, n .1)),
             )
         go (inr n) = (λ x. absurd (omega (arith, x, seventeen n .word .number)), λ i. absurd (n (i .0 .codes)))
 
-    -- no number but 0, 1 to 8, 16, 17 and 21
+    -- no number but 0, those of the verdict by the book, 16, 17 and 21
     abbrev Numbers : ℕ → Type 0
-    Numbers n = (n ≤ 8) ⊎ ((n ≡ 16) ⊎ ((n ≡ 17) ⊎ (n ≡ 21)))
+    Numbers n =
+        (n ≡ 0) ⊎ ((T (known v y) × T (verdictNumber (languageOf (bookOf v y)) n))
+        ⊎ ((n ≡ 16) ⊎ ((n ≡ 17) ⊎ (n ≡ 21))))
 
     pub numbers : Numbers (wordNumber w)
     unfolding told
-    numbers = go (decide (isRecord c)) (decide (known v lenient))
+    numbers = go (decide (isRecord c)) (decide (known v y))
       where
-        of-fault : (n : ℕ) (f : Fault) → n ≡ f .number → T (edition v) →
-            T (verdictNumber (languageOf (bookOf v lenient)) (f .number)) ⊎ ((f .number ≡ 17) ⊎ (f .number ≡ 21)) →
+        of-fault : (n : ℕ) (f : Fault) → n ≡ f .number → T (known v y) →
+            T (verdictNumber (languageOf (bookOf v y)) (f .number)) ⊎ ((f .number ≡ 17) ⊎ (f .number ≡ 21)) →
             Numbers n
         of-fault n f e k (inl h) =
-            inl (omega (arith, e, verdict-lenient (rulesOf (bookOf v lenient)) _ (carries v k) .0 h .1))
-        of-fault n f e k (inr (inl h)) = inr (inr (inl (e ∙ h)))
-        of-fault n f e k (inr (inr h)) = inr (inr (inr (e ∙ h)))
+            inr (inl (k, subst (λ (m : ℕ). T (verdictNumber (languageOf (bookOf v y)) m)) (sym e) h))
+        of-fault n f e k (inr (inl h)) = inr (inr (inr (inl (e ∙ h))))
+        of-fault n f e k (inr (inr h)) = inr (inr (inr (inr (e ∙ h))))
 
-        desk : (t : T (isRecord c)) (y : RecordSettles v (deskIn c) o w c') → T (known v lenient) → (k : Answer) →
-            y .settling .outcome .answer ≡ k → Numbers (wordNumber w)
-        desk t y l Done e = inl (omega (arith, y .word .number, ap (λ (x : Answer). told x .number) e))
-        desk t y l (Refused f) e =
-            of-fault (wordNumber w) f (y .word .number ∙ ap (λ (x : Answer). told x .number) e) (edition-of v lenient l)
-            (number-of (y .settles .by-book l) f e)
+        desk : (t : T (isRecord c)) (x : RecordSettles v y (deskIn c) o w c') → T (known v y) → (k : Answer) →
+            x .settling .outcome .answer ≡ k → Numbers (wordNumber w)
+        desk t x l Done e = inl (x .word .number ∙ ap (λ (a : Answer). told a .number) e)
+        desk t x l (Refused f) e =
+            of-fault (wordNumber w) f (x .word .number ∙ ap (λ (a : Answer). told a .number) e) l
+            (number-of (x .settles .by-book l) f e)
 
         by-none : (n : ℕ) → (n ≡ 16) ⊎ (n ≡ 17) → Numbers n
-        by-none n (inl e) = inr (inl e)
-        by-none n (inr e) = inr (inr (inl e))
+        by-none n (inl e) = inr (inr (inl e))
+        by-none n (inr e) = inr (inr (inr (inl e)))
 
-        go : T (isRecord c) ⊎ (T (isRecord c) → ⊥) → T (known v lenient) ⊎ (T (known v lenient) → ⊥) →
+        go : T (isRecord c) ⊎ (T (isRecord c) → ⊥) → T (known v y) ⊎ (T (known v y) → ⊥) →
             Numbers (wordNumber w)
-        go (inl t) (inl l) = let y = record-settles q t in desk t y l _ refl
+        go (inl t) (inl l) = let x = record-settles q t in desk t x l _ refl
         go (inl t) (inr l) =
-            let y = record-settles q t in subst Numbers (sym (y .word .number)) (by-none _ (y .settles .unknown l))
-        go (inr n) l = inr (inr (inl (seventeen n .word .number)))
+            let x = record-settles q t in subst Numbers (sym (x .word .number)) (by-none _ (x .settles .unknown l))
+        go (inr n) l = inr (inr (inr (inl (seventeen n .word .number))))
 
     -- a refusal leaves the record as it was
     pub stays : Octets c → 1 ≤ wordNumber w → c' ≡ c
@@ -256,33 +257,35 @@ module _ (v : ℕ) (c o : List ℕ) (w : ℕ) (c' : List ℕ) (a : w ≡ settleA
       where
         go : T (isRecord c) ⊎ (T (isRecord c) → ⊥) → c' ≡ c
         go (inl t) =
-            let y = record-settles q t in
-            y .cells ∙ ap deskRecord (y .settles .refusal-stays (omega (arith, y .word .number))) ∙ encode-decode c k t
+            let x = record-settles q t in
+            x .cells ∙ ap deskRecord (x .settles .refusal-stays (omega (arith, x .word .number))) ∙ encode-decode c k t
         go (inr m) = seventeen m .cells
 
--- ---- settled twice running, by one edition, known or not
-pub again : (v : ℕ) (c o : List ℕ) → Octets c → Octets o → (w : ℕ) (c₁ : List ℕ) (w₂ : ℕ) (c₂ : List ℕ) →
-    w ≡ settleAnswer v c o → c₁ ≡ settleRecord v c o → w₂ ≡ settleAnswer v c₁ o → c₂ ≡ settleRecord v c₁ o →
+-- ---- settled twice running, by one edition and way, known or not
+pub again : (v y : ℕ) (c o : List ℕ) → Octets c → Octets o → (w : ℕ) (c₁ : List ℕ) (w₂ : ℕ) (c₂ : List ℕ) →
+    w ≡ settleAnswer v y c o → c₁ ≡ settleRecord v y c o → w₂ ≡ settleAnswer v y c₁ o → c₂ ≡ settleRecord v y c₁ o →
     (w₂ ≡ w) × (c₂ ≡ c₁)
 unfolding settleAnswer settleRecord
-again v c o k q w c₁ w₂ c₂ a b e f = go (decide (isRecord c))
+again v y c o k q w c₁ w₂ c₂ a b e f = go (decide (isRecord c))
   where
     go : T (isRecord c) ⊎ (T (isRecord c) → ⊥) → (w₂ ≡ w) × (c₂ ≡ c₁)
     go (inl t) =
-        let x = settleIn v lenient (deskIn c) o in
-        let z = small-after v (deskIn c) o x (settles.settles-by v lenient (deskIn c) o q) (small-in c k) in
+        let x = settleIn v y (deskIn c) o in
+        let z = small-after v y (deskIn c) o x (settles.settles-by v y (deskIn c) o q) (small-in c k) in
         let i : c₁ ≡ deskRecord (x .outcome .desk) = b ∙ pick-yes _ _ _ t in
         let r : T (isRecord c₁) = subst (λ (y : List ℕ). T (isRecord y)) (sym i) (record-is (x .outcome .desk) z) in
-        let j : settleIn v lenient (deskIn c₁) o ≡ x =
-        ap (λ (y : Desk). settleIn v lenient y o) (ap deskIn i ∙ decode-encode (x .outcome .desk) z)
-        ∙ settles.settled-twice v lenient (deskIn c) o q in (
+        let j : settleIn v y (deskIn c₁) o ≡ x =
+        ap (λ (d : Desk). settleIn v y d o) (ap deskIn i ∙ decode-encode (x .outcome .desk) z)
+        ∙ settles.settled-twice v y (deskIn c) o q in (
           e ∙ pick-yes _ _ _ r ∙ ap (λ (y : Settling). deskWord (y .edition) (y .outcome .answer)) j
               ∙ sym (a ∙ pick-yes _ _ _ t),
           f ∙ pick-yes _ _ _ r ∙ ap (λ (y : Settling). deskRecord (y .outcome .desk)) j ∙ sym i,
         )
     go (inr n) =
-        let i : c₁ ≡ c = b ∙ pick-not _ _ _ n in
-        (e ∙ ap (λ (y : List ℕ). settleAnswer v y o) i ∙ sym a, f ∙ ap (λ (y : List ℕ). settleRecord v y o) i ∙ sym b)
+        let i : c₁ ≡ c = b ∙ pick-not _ _ _ n in (
+          e ∙ ap (λ (x : List ℕ). settleAnswer v y x o) i ∙ sym a,
+          f ∙ ap (λ (x : List ℕ). settleRecord v y x o) i ∙ sym b,
+        )
 
 -- a record made new is that of a desk of which nothing is known and which holds no reference
 pub new : (c : List ℕ) (w : ℕ) (c' : List ℕ) → w ≡ newDeskAnswer c → c' ≡ newDeskRecord c → length c ≡ deskSize →
@@ -310,26 +313,27 @@ new-17 c w c' a b n =
 abbrev pub RecordHistory : List ℕ → List RecordCall → List ℕ → Type 0
 RecordHistory c [] c' = c ≡ c'
 RecordHistory c (x ∷ xs) c' =
-    Octets (x .octets) × (x .word ≡ settleAnswer (x .edition) c (x .octets))
-    × (x .cells ≡ settleRecord (x .edition) c (x .octets)) × RecordHistory (x .cells) xs c'
+    Octets (x .octets) × (x .word ≡ settleAnswer (x .edition) (x .way) c (x .octets))
+    × (x .cells ≡ settleRecord (x .edition) (x .way) c (x .octets)) × RecordHistory (x .cells) xs c'
 
 -- on a record that is one, a call says what the same call says on its desk
 module _ (c : List ℕ) (t : T (isRecord c)) (w : Small (deskIn c .places)) (x : RecordCall) (q : Octets (x .octets))
-    (a : x .word ≡ settleAnswer (x .edition) c (x .octets)) (b : x .cells ≡ settleRecord (x .edition) c (x .octets)) where
+    (a : x .word ≡ settleAnswer (x .edition) (x .way) c (x .octets))
+    (b : x .cells ≡ settleRecord (x .edition) (x .way) c (x .octets)) where
   abbrev as-call : Call
   as-call =
       record {
         edition = x .edition;
-        way = lenient;
+        way = x .way;
         octets = x .octets;
-        settled = settleIn (x .edition) lenient (deskIn c) (x .octets);
+        settled = settleIn (x .edition) (x .way) (deskIn c) (x .octets);
       }
 
-  said-so : SettlesBy (x .edition) lenient (deskIn c) (x .octets) (as-call .settled)
-  said-so = settles.settles-by (x .edition) lenient (deskIn c) (x .octets) q
+  said-so : SettlesBy (x .edition) (x .way) (deskIn c) (x .octets) (as-call .settled)
+  said-so = settles.settles-by (x .edition) (x .way) (deskIn c) (x .octets) q
 
   number-is : wordNumber (x .word) ≡ told (as-call .settled .outcome .answer) .number
-  number-is = settled-word (x .edition) c (x .octets) (x .word) (x .cells) a b q t .number
+  number-is = settled-word (x .edition) (x .way) c (x .octets) (x .word) (x .cells) a b q t .number
 
   no-number : (f : Fault) → as-call .settled .outcome .answer ≡ Refused f → f .number ≡ 0 → ⊥
   no-number f e z = let l = subst Clear e (said-so .clear) in omega (arith, l, z)
@@ -339,21 +343,22 @@ module _ (c : List ℕ) (t : T (isRecord c)) (w : Small (deskIn c .places)) (x :
   same-word r = go (as-call .settled .outcome .answer) refl
     where
       go : (k : Answer) → as-call .settled .outcome .answer ≡ k →
-          saidIn r x ≡ saidUnder (rulesOf (bookOf (x .edition) lenient)) r (x .octets) (as-call .settled .outcome .answer)
+          saidIn r x ≡
+          saidUnder (rulesOf (bookOf (x .edition) (x .way))) r (x .octets) (as-call .settled .outcome .answer)
       go Done e =
           pick-yes _ _ _ (of-eq _ _ (number-is ∙ ap (λ (x : Answer). told x .number) e))
-          ∙ ap (saidUnder (rulesOf (bookOf (x .edition) lenient)) r (x .octets)) (sym e)
+          ∙ ap (saidUnder (rulesOf (bookOf (x .edition) (x .way))) r (x .octets)) (sym e)
       go (Refused f) e =
           pick-not _ _ _ (λ z. no-number f e
           (sym (ap (λ (x : Answer). told x .number) e) ∙ sym number-is ∙ eq-of _ _ z))
-          ∙ ap (saidUnder (rulesOf (bookOf (x .edition) lenient)) r (x .octets)) (sym e)
+          ∙ ap (saidUnder (rulesOf (bookOf (x .edition) (x .way))) r (x .octets)) (sym e)
 
   after-is : x .cells ≡ deskRecord (as-call .settled .outcome .desk)
   unfolding settleRecord
   after-is = b ∙ pick-yes _ _ _ t
 
   after-small : Small (as-call .settled .outcome .desk .places)
-  after-small = small-after (x .edition) (deskIn c) (x .octets) (as-call .settled) said-so w
+  after-small = small-after (x .edition) (x .way) (deskIn c) (x .octets) (as-call .settled) said-so w
 
   after-desk : deskIn (x .cells) ≡ as-call .settled .outcome .desk
   after-desk = ap deskIn after-is ∙ decode-encode (as-call .settled .outcome .desk) after-small
@@ -378,7 +383,7 @@ module _ (c : List ℕ) (t : T (isRecord c)) (w : Small (deskIn c .places)) (x :
   names-iff : (s r : ℕ) → Names as-call s r ↔ NamesIn x s r
   names-iff s r = (
     λ n. record {
-      by-known = edition-of (x .edition) lenient (n .by-known);
+      by-known = n .by-known;
       m = n .m;
       legal = n .legal;
       is = n .is;
@@ -390,7 +395,7 @@ module _ (c : List ℕ) (t : T (isRecord c)) (w : Small (deskIn c .places)) (x :
       reference = n .reference;
     },
     λ n. record {
-      by-known = by-lenient (x .edition) (n .by-known);
+      by-known = n .by-known;
       m = n .m;
       legal = n .legal;
       is = n .is;

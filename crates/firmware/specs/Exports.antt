@@ -1,12 +1,12 @@
 -- What the exports answer, and what they leave in a record (document 01: 17 comes first; a record that is only
--- written is judged by its size alone; document 02, Q-5: then 16, where the edition is unknown).
+-- written is judged by its size alone; document 02, Q-5 and Q-11: then 16, where the edition or the way is unknown).
 -- Assumes nothing.
 use Prim.Native.Nat.{ℕ}
 use mathlib.Core.List.{List}
 use lib.ListN.{length}
 use Rattle.rules.specs.Tests.{_=?_, pick}
 use Rattle.rules.specs.Table.{Rules, rulesOf}
-use Rattle.rules.specs.Editions.{lenient, edition, bookOf}
+use Rattle.rules.specs.Editions.{known, bookOf}
 use Rattle.listener.specs.declared.Listener.{Listener}
 use Rattle.listener.specs.declared.Heard.{Heard}
 use Rattle.listener.specs.Told.{told}
@@ -45,18 +45,18 @@ use Rattle.firmware.specs.Sizes.{listenerSize, draftSize, deskSize, part
 abbrev pub badRecord : ℕ
 badRecord = packed 0 17 0 0 0 0
 
-abbrev pub noEdition : ℕ
-noEdition = packed 0 16 0 0 0 0
+abbrev pub noBook : ℕ
+noBook = packed 0 16 0 0 0 0
 
--- the rules of an edition in which types without a row are carried
-abbrev pub rulesBy : ℕ → Rules
-rulesBy e = rulesOf (bookOf e lenient)
+-- the rules of an edition and a way
+abbrev pub rulesBy : ℕ → ℕ → Rules
+rulesBy e y = rulesOf (bookOf e y)
 
-unfoldable pub resetAnswer : ℕ → List ℕ → ℕ
-resetAnswer e c = pick (length c =? listenerSize) (pick (edition e) (packed e 0 0 0 0 0) noEdition) badRecord
+unfoldable pub resetAnswer : ℕ → ℕ → List ℕ → ℕ
+resetAnswer e y c = pick (length c =? listenerSize) (pick (known e y) (packed e 0 0 0 0 0) noBook) badRecord
 
-unfoldable pub resetRecord : ℕ → List ℕ → List ℕ
-resetRecord e c = pick (length c =? listenerSize) (pick (edition e) (recordOf (newListener e lenient)) c) c
+unfoldable pub resetRecord : ℕ → ℕ → List ℕ → List ℕ
+resetRecord e y c = pick (length c =? listenerSize) (pick (known e y) (recordOf (newListener e y)) c) c
 
 -- what a call of the listener answers, as a word
 unfoldable pub wordOf : Heard → ℕ
@@ -87,9 +87,9 @@ unfoldable pub packedWord : ℕ → Packed → ℕ
 packedWord e p =
     packed e (reader.told p .number) (reader.told p .place) (reader.told p .parameter) (reader.told p .size) 0
 
-unfoldable pub readAnswer : ℕ → List ℕ → List ℕ → List ℕ → ℕ
-readAnswer e o c t =
-    pick (length c =? draftSize) (pick (edition e) (packedWord e (packOf (rulesBy e) o (length t))) noEdition)
+unfoldable pub readAnswer : ℕ → ℕ → List ℕ → List ℕ → List ℕ → ℕ
+readAnswer e y o c t =
+    pick (length c =? draftSize) (pick (known e y) (packedWord e (packOf (rulesBy e y) o (length t))) noBook)
     badRecord
 
 -- the record of the message's draft; as it was with a refusal
@@ -97,12 +97,13 @@ unfoldable pub recordFrom : Rules → List ℕ → List ℕ → Packed → List 
 recordFrom R o c (Texts n) = draftRecord (draftOf R (messageIn o))
 recordFrom R o c (Refused f) = c
 
-unfoldable pub readRecord : ℕ → List ℕ → List ℕ → List ℕ → List ℕ
-readRecord e o c t =
-    pick (length c =? draftSize) (pick (edition e) (recordFrom (rulesBy e) o c (packOf (rulesBy e) o (length t))) c) c
+unfoldable pub readRecord : ℕ → ℕ → List ℕ → List ℕ → List ℕ → List ℕ
+readRecord e y o c t =
+    pick (length c =? draftSize)
+    (pick (known e y) (recordFrom (rulesBy e y) o c (packOf (rulesBy e y) o (length t))) c) c
 
-unfoldable pub readTexts : ℕ → List ℕ → List ℕ → List ℕ → List ℕ
-readTexts e o c t = pick (length c =? draftSize) (pick (edition e) (areaAfter (rulesBy e) o t) t) t
+unfoldable pub readTexts : ℕ → ℕ → List ℕ → List ℕ → List ℕ → List ℕ
+readTexts e y o c t = pick (length c =? draftSize) (pick (known e y) (areaAfter (rulesBy e y) o t) t) t
 
 -- ---- the desk
 unfoldable pub newDeskAnswer : List ℕ → ℕ
@@ -116,13 +117,13 @@ unfoldable pub deskWord : ℕ → desk.Answer → ℕ
 deskWord e a = packed e (settled.told a .number) (settled.told a .place) (settled.told a .parameter) 0 0
 
 -- a record that is a desk's: word and record of that desk's settling; any other is 17 and stays
-unfoldable pub settleAnswer : ℕ → List ℕ → List ℕ → ℕ
-settleAnswer e c o =
+unfoldable pub settleAnswer : ℕ → ℕ → List ℕ → List ℕ → ℕ
+settleAnswer e y c o =
     pick (isRecord c)
-    (deskWord (settleIn e lenient (deskIn c) o .edition) (settleIn e lenient (deskIn c) o .outcome .answer)) badRecord
+    (deskWord (settleIn e y (deskIn c) o .edition) (settleIn e y (deskIn c) o .outcome .answer)) badRecord
 
-unfoldable pub settleRecord : ℕ → List ℕ → List ℕ → List ℕ
-settleRecord e c o = pick (isRecord c) (deskRecord (settleIn e lenient (deskIn c) o .outcome .desk)) c
+unfoldable pub settleRecord : ℕ → ℕ → List ℕ → List ℕ → List ℕ
+settleRecord e y c o = pick (isRecord c) (deskRecord (settleIn e y (deskIn c) o .outcome .desk)) c
 
 -- ---- what counts: the size is the length of the contents that count, and their start stands in octets 5 and 6; 0
 -- and 0 where none count
@@ -131,12 +132,12 @@ partWord e (At start n) = packed e 0 0 0 n start
 partWord e Nowhere = packed e 0 0 0 0 0
 
 -- octets that the whole read declines get its number, place and parameter
-unfoldable pub countedUnder : ℕ → Verdict → List ℕ → ℕ → ℕ
-countedUnder e (Accepted n) o t = partWord e (countedAt (rulesBy e) o t)
-countedUnder e (Declined f) o t = packed e (f .number) (f .place) (f .parameter) 0 0
+unfoldable pub countedUnder : ℕ → ℕ → Verdict → List ℕ → ℕ → ℕ
+countedUnder e y (Accepted n) o t = partWord e (countedAt (rulesBy e y) o t)
+countedUnder e y (Declined f) o t = packed e (f .number) (f .place) (f .parameter) 0 0
 
-unfoldable pub countedAnswer : ℕ → List ℕ → ℕ → ℕ
-countedAnswer e o t = pick (edition e) (countedUnder e (verdictOf (rulesBy e) o) o t) noEdition
+unfoldable pub countedAnswer : ℕ → ℕ → List ℕ → ℕ → ℕ
+countedAnswer e y o t = pick (known e y) (countedUnder e y (verdictOf (rulesBy e y) o) o t) noBook
 
 -- ---- the caption: the record is only written, so its size alone is judged
 unfoldable pub foundWord : Finding → ℕ
@@ -150,8 +151,8 @@ partFrom c (found.InMessage start n) = partRecord 0 start n
 partFrom c (found.InDirectory start n) = partRecord 1 start n
 partFrom c (found.Refused f) = c
 
-unfoldable pub captionAnswer : ℕ → List ℕ → List ℕ → List ℕ → ℕ
-captionAnswer e o d c = pick (length c =? partSize) (foundWord (findIn e lenient o d)) badRecord
+unfoldable pub captionAnswer : ℕ → ℕ → List ℕ → List ℕ → List ℕ → ℕ
+captionAnswer e y o d c = pick (length c =? partSize) (foundWord (findIn e y o d)) badRecord
 
-unfoldable pub captionRecord : ℕ → List ℕ → List ℕ → List ℕ → List ℕ
-captionRecord e o d c = pick (length c =? partSize) (partFrom c (findIn e lenient o d .shown)) c
+unfoldable pub captionRecord : ℕ → ℕ → List ℕ → List ℕ → List ℕ → List ℕ
+captionRecord e y o d c = pick (length c =? partSize) (partFrom c (findIn e y o d .shown)) c

@@ -2,13 +2,14 @@
 -- Assumes nothing.
 use Prim.Native.Nat.{ℕ, suc, _+_, _≤_, _<_}
 use mathlib.Core.Path.{_≡_}
-use mathlib.Core.Logic.{_↔_}
+use mathlib.Core.Bool.{Bool}
+use mathlib.Core.Logic.{_⊎_, _↔_}
 use mathlib.Core.List.{List, _∷_, _++_}
 use lib.ListN.{length, take, drop, getD}
 use lib.Dec.{T}
 use Rattle.rules.specs.Endings.{Ending, Spoilt, Numbered}
 use Rattle.rules.specs.Language.{Language}
-use Rattle.rules.specs.Editions.{edition}
+use Rattle.rules.specs.Editions.{known}
 use Rattle.listener.specs.Answers.{InRange}
 use Rattle.listener.specs.declared.Listener.{Listener}
 use Rattle.firmware.specs.declared.Decoded.the-variants.{Known}
@@ -16,7 +17,7 @@ use Rattle.firmware.specs.Record.{decodeOf}
 use Rattle.firmware.specs.Word.{packed, wordEdition, wordNumber, wordPlace, wordParameter, wordSize, wordTaken}
 
 -- The record's listener had taken the octets h since its reset to the edition e, was given the run o, and the call
--- answered w.
+-- answered w; the way of the reset is that of the language.
 pub record RecordHears (L : Language) (e : ℕ) (h o : List ℕ) (w : ℕ) : Type 0 where
   -- the answer names the edition e
   pub names : wordEdition w ≡ e
@@ -40,20 +41,28 @@ pub record RecordHears (L : Language) (e : ℕ) (h o : List ℕ) (w : ℕ) : Typ
   -- it has its answer after 258 octets at the latest
   pub answers-by-258 : wordNumber w ≡ 0 → wordSize w ≡ 0 → length (h ++ o) < 258
 
--- a record stands for a listener in range; its edition is octet 11
+-- a record stands for a listener in range; its edition is octet 11, its way octet 12
 pub record Stands (c : List ℕ) : Type 0 where
   pub listener : Listener
   pub known : decodeOf c ≡ Known listener
   pub in-range : InRange listener
 
--- and its edition is known
+-- there are an edition and a way of the numbers in octets 11 and 12
+abbrev pub Numbers : List ℕ → Type 0
+Numbers c = T (known (getD c 11 0) (getD c 12 0))
+
+-- it stands for a listener in range, and these are known
 pub record Sound (c : List ℕ) : Type 0 where
   pub stands : Stands c
-  pub edition : T (edition (getD c 11 0))
+  pub numbers : Numbers c
 
--- the record c with another number in octet 11
-abbrev pub withEdition : ℕ → List ℕ → List ℕ
-withEdition e c = take 11 c ++ (e ∷ drop 12 c)
+-- the record c with other numbers in octets 11 and 12
+abbrev pub withNumbers : ℕ → ℕ → List ℕ → List ℕ
+withNumbers e y c = take 11 c ++ (e ∷ y ∷ drop 13 c)
+
+-- a number in the place of another: that one, or one that is unknown
+abbrev pub OwnOrNone : (ℕ → Bool) → ℕ → ℕ → Type 0
+OwnOrNone is a e = (e ≡ a) ⊎ (T (is e) → ⊥)
 
 -- two calls on a run cut in two end as one call on the whole: the same record and answer, and the octets taken
 -- together

@@ -7,7 +7,7 @@ use mathlib.Core.List.{List}
 use mathlib.Core.Option.{none}
 use lib.ListN.{length}
 use Rattle.rules.specs.Table.{rulesOf}
-use Rattle.rules.specs.Editions.{lenient, bookOf}
+use Rattle.rules.specs.Editions.{bookOf}
 use Rattle.rules.specs.Message.{Message, octets, LegalMessage}
 use Rattle.rules.specs.Counting.{counted, Counts}
 use Rattle.rules.specs.Language.{languageOf}
@@ -21,26 +21,26 @@ use Rattle.caption.specs.Finds.{FindsBy}
 use Rattle.firmware.specs.Word.{Unpacked}
 use Rattle.firmware.specs.PartRecord.{partRecord, partSide, partStart, partLength}
 
--- by a known edition, the octets o and a type t went in, and the word w came back
-pub record RecordCounts (e : ℕ) (o : List ℕ) (t w : ℕ) : Type 0 where
+-- by known numbers, the octets o and a type t went in, and the word w came back
+pub record RecordCounts (e y : ℕ) (o : List ℕ) (t w : ℕ) : Type 0 where
   -- octets that are no message: number, place and parameter are the whole read's, and the other fields 0
   pub verdict : Verdict
-  pub judged : Judges (languageOf (bookOf e lenient)) o verdict
+  pub judged : Judges (languageOf (bookOf e y)) o verdict
   pub refused : 1 ≤ message.told verdict .number →
       Unpacked e (message.told verdict .number) (message.told verdict .place) (message.told verdict .parameter) 0 0 w
   -- of a message: the length of the contents that count, and where they start
-  pub counts : (m : Message) → LegalMessage (rulesOf (bookOf e lenient)) m → octets m ≡ o →
-      (v : List ℕ) (c : Counts (rulesOf (bookOf e lenient)) m t v) →
+  pub counts : (m : Message) → LegalMessage (rulesOf (bookOf e y)) m → octets m ≡ o →
+      (v : List ℕ) (c : Counts (rulesOf (bookOf e y)) m t v) →
       Unpacked e 0 0 0 (length v) (contentsAt (c .first)) w
   -- 0 in every field where none count
-  pub none-counts : (m : Message) → LegalMessage (rulesOf (bookOf e lenient)) m → octets m ≡ o →
-      counted (rulesOf (bookOf e lenient)) m t ≡ none → Unpacked e 0 0 0 0 0 w
+  pub none-counts : (m : Message) → LegalMessage (rulesOf (bookOf e y)) m → octets m ≡ o →
+      counted (rulesOf (bookOf e y)) m t ≡ none → Unpacked e 0 0 0 0 0 w
 
--- by any edition, the octets o, the directory d and a record c of 24 octets went in; the word w came back, and c' is
+-- by any numbers, the octets o, the directory d and a record c of 24 octets went in; the word w came back, and c' is
 -- what the record then held
-pub record RecordFinds (e : ℕ) (o d c : List ℕ) (w : ℕ) (c' : List ℕ) : Type 0 where
+pub record RecordFinds (e y : ℕ) (o d c : List ℕ) (w : ℕ) (c' : List ℕ) : Type 0 where
   pub finding : Finding
-  pub finds : FindsBy e lenient o d finding
+  pub finds : FindsBy e y o d finding
   pub word :
       let a = told (finding .shown) in
       Unpacked (finding .edition) (a .number) (a .place) (a .parameter) 0 0 w

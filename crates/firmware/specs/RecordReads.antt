@@ -6,7 +6,7 @@ use mathlib.Core.Path.{_≡_}
 use mathlib.Core.List.{List}
 use lib.ListN.{getD}
 use Rattle.rules.specs.Table.{rulesOf}
-use Rattle.rules.specs.Editions.{lenient, bookOf}
+use Rattle.rules.specs.Editions.{bookOf}
 use Rattle.reader.specs.declared.Reading.{Reading}
 use Rattle.reader.specs.Told.{told}
 use Rattle.reader.specs.Reads.{Reads}
@@ -14,11 +14,11 @@ use Rattle.firmware.specs.Word.{Unpacked}
 use Rattle.draft.specs.Draft.{noEntry}
 use Rattle.firmware.specs.DraftRecord.{draftRecord, entryIn}
 
--- by a known edition, a record of 688 octets: the word has what the read tells, the record is that of its draft, or
+-- by known numbers, a record of 688 octets: the word has what the read tells, the record is that of its draft, or
 -- with a refusal as it was
-pub record RecordReads (e : ℕ) (o c t : List ℕ) (w : ℕ) (c' t' : List ℕ) : Type 0 where
+pub record RecordReads (e y : ℕ) (o c t : List ℕ) (w : ℕ) (c' t' : List ℕ) : Type 0 where
   pub reading : Reading
-  pub reads : Reads (rulesOf (bookOf e lenient)) o t reading t'
+  pub reads : Reads (rulesOf (bookOf e y)) o t reading t'
   pub word :
       Unpacked e (told (reading .answer) .number) (told (reading .answer) .place) (told (reading .answer) .parameter)
       (told (reading .answer) .size) 0 w

@@ -9,7 +9,7 @@ use mathlib.Core.Option.{Option, none, some}
 use lib.Dec.{T}
 use Rattle.rules.specs.Tests.{_=?_, pick}
 use Rattle.rules.specs.Table.{rulesOf}
-use Rattle.rules.specs.Editions.{lenient, edition, bookOf}
+use Rattle.rules.specs.Editions.{known, bookOf}
 use Rattle.rules.specs.Message as message
 use Rattle.rules.specs.Message.{octets, LegalMessage}
 use Rattle.rules.specs.Counting.{counted}
@@ -24,11 +24,11 @@ use Rattle.firmware.specs.DeskRecord.{isRecord, deskIn, deskRecord}
 use Rattle.firmware.specs.Word.{wordNumber, Unpacked}
 use Rattle.rules.specs.Octets.{referenceOf}
 
--- by any edition, a record that is the desk d's: the word has what that desk's settling tells, 16 too, the record is
+-- by any numbers, a record that is the desk d's: the word has what that desk's settling tells, 16 too, the record is
 -- that of the desk it leaves
-pub record RecordSettles (e : ℕ) (d : Desk) (o : List ℕ) (w : ℕ) (c' : List ℕ) : Type 0 where
+pub record RecordSettles (e y : ℕ) (d : Desk) (o : List ℕ) (w : ℕ) (c' : List ℕ) : Type 0 where
   pub settling : Settling
-  pub settles : SettlesBy e lenient d o settling
+  pub settles : SettlesBy e y d o settling
   pub word :
       let a = told (settling .outcome .answer) in
       Unpacked (settling .edition) (a .number) (a .place) (a .parameter) 0 0 w
@@ -39,10 +39,11 @@ pub record IsDesk (c : List ℕ) : Type 0 where
   pub codes : T (isRecord c)
   pub places : Fit (deskIn c .places)
 
--- one call on a desk's record: the edition told, the octets settled, the word that came back, and the record as it then
--- was
+-- one call on a desk's record: the edition and the way told, the octets settled, the word that came back, and the
+-- record as it then was
 pub record RecordCall : Type 0 where
   pub edition : ℕ
+  pub way : ℕ
   pub octets : List ℕ
   pub word : ℕ
   pub cells : List ℕ
@@ -50,7 +51,7 @@ pub record RecordCall : Type 0 where
 -- what a call says of the reference r: with number 0, what a notice that is done says; else nothing
 unfoldable pub saidIn : ℕ → RecordCall → Option Bool
 saidIn r x =
-    pick (wordNumber (x .word) =? 0) (saidUnder (rulesOf (bookOf (x .edition) lenient)) r (x .octets) Done) none
+    pick (wordNumber (x .word) =? 0) (saidUnder (rulesOf (bookOf (x .edition) (x .way))) r (x .octets) Done) none
 
 -- the last word of some calls on r, after the word b
 unfoldable pub lastSaidIn : ℕ → List RecordCall → Option Bool → Option Bool
@@ -58,17 +59,17 @@ lastSaidIn r [] b = b
 lastSaidIn r (x ∷ xs) b = lastSaidIn r xs (later (saidIn r x) b)
 
 -- ---- over the written rules
--- the call got number 0, by a known edition, with a notice m whose 0DH counts with the state s and the reference r
+-- the call got number 0, by known numbers, with a notice m whose 0DH counts with the state s and the reference r
 pub record NamesIn (x : RecordCall) (s r : ℕ) : Type 0 where
-  pub by-known : T (edition (x .edition))
+  pub by-known : T (known (x .edition) (x .way))
   pub m : message.Message
-  pub legal : LegalMessage (rulesOf (bookOf (x .edition) lenient)) m
+  pub legal : LegalMessage (rulesOf (bookOf (x .edition) (x .way))) m
   pub is : octets m ≡ x .octets
   pub notice : m .kind ≡ 0x82
   pub done : wordNumber (x .word) ≡ 0
   pub high : ℕ
   pub low : ℕ
-  pub counts : counted (rulesOf (bookOf (x .edition) lenient)) m 0x0D ≡ some (s ∷ high ∷ low ∷ [])
+  pub counts : counted (rulesOf (bookOf (x .edition) (x .way))) m 0x0D ≡ some (s ∷ high ∷ low ∷ [])
   pub reference : referenceOf high low ≡ r
 
 -- what a call says of r: open exactly with FFH, not open exactly with 00H

@@ -20,7 +20,7 @@ ghost use mathlib.Core.Path.{_≡_};
 ghost use Prim.Native.Nat.{_+_, _*_, _≤_};
 ghost use lib.ListN.{length};
 ghost use Rattle.rules.specs.Table.{rulesOf};
-ghost use Rattle.rules.specs.Editions.{lenient, bookOf};
+ghost use Rattle.rules.specs.Editions.{strict, bookOf};
 ghost use Rattle.listener.specs.Told.{told};
 ghost use Rattle.message.specs.Parts.{countedAt};
 ghost use Rattle.message.specs.Verdict.{verdictOf};
@@ -63,11 +63,11 @@ fn joined(low: u8, high: u8) -> u16
     low as u16 + 256 * (high as u16)
 }
 
-// Four octets as one number, the lowest first: so they are looked at in one go.
-fn four(a: u8, b: u8, c: u8, d: u8) -> u32
-    ensures { λ r. ⌜ r ≡ a + 256 * b + (65536 * c + 16777216 * d) ⌝ }
+// Three octets as one number, the lowest first: so they are looked at in one go.
+fn three(a: u8, b: u8, c: u8) -> u32
+    ensures { λ r. ⌜ r ≡ a + 256 * b + 65536 * c ⌝ }
 {
-    a as u32 + 256 * (b as u32) + (65536 * (c as u32) + 16777216 * (d as u32))
+    a as u32 + 256 * (b as u32) + 65536 * (c as u32)
 }
 
 fn fields_of(cells: &[u8]) -> Fields
@@ -83,7 +83,7 @@ fn fields_of(cells: &[u8]) -> Fields
     let room = cells[8];
     let number = cells[9];
     let parameter = cells[10];
-    let spare = four(cells[12], cells[13], cells[14], cells[15]);
+    let spare = three(cells[13], cells[14], cells[15]);
     let place = joined(cells[2], cells[3]);
     Fields {
         stage,
@@ -100,13 +100,13 @@ fn fields_of(cells: &[u8]) -> Fields
     }
 }
 
-fn known(edition: u8, ok: bool, state: State) -> Decoded
-    ensures { λ r. ⌜ r ≡ record-of.known edition ok state ⌝ }
+fn known(edition: u8, way: u8, ok: bool, state: State) -> Decoded
+    ensures { λ r. ⌜ r ≡ record-of.known edition way ok state ⌝ }
 {
     if ok {
         Decoded::Known(Listener {
             edition,
-            way: rules::LENIENT,
+            way,
             state,
         })
     } else {
@@ -116,25 +116,28 @@ fn known(edition: u8, ok: bool, state: State) -> Decoded
 
 // Before a parameter: the message type, L, a parameter type or the checksum is to come. What is unused sums up to
 // `idle`, and must be 0.
-fn opening_of(edition: u8, stage: u8, q: Spot, room: u8, idle: u64) -> Decoded
+fn opening_of(edition: u8, way: u8, stage: u8, q: Spot, room: u8, idle: u64) -> Decoded
     requires { ⌜ idle ≤ 10000000000 ⌝ }
-    ensures { λ r. ⌜ r ≡ record-of.openingOf edition stage q room idle ⌝ }
+    ensures { λ r. ⌜ r ≡ record-of.openingOf edition way stage q room idle ⌝ }
 {
     if stage == 0 {
         known(
             edition,
+            way,
             idle + room as u64 == 0,
             State::Waiting(Stage::Kind, q),
         )
     } else if stage == 1 {
         known(
             edition,
+            way,
             idle + room as u64 == 0,
             State::Waiting(Stage::Size, q),
         )
     } else {
         known(
             edition,
+            way,
             idle == 0,
             State::Waiting(Stage::Header { room }, q),
         )
@@ -144,6 +147,7 @@ fn opening_of(edition: u8, stage: u8, q: Spot, room: u8, idle: u64) -> Decoded
 // In a parameter: its length or an octet of its contents is to come.
 fn parameter_of(
     edition: u8,
+    way: u8,
     stage: u8,
     q: Spot,
     code: u8,
@@ -154,13 +158,14 @@ fn parameter_of(
     idle: u64,
 ) -> Decoded
     requires { ⌜ idle ≤ 10000000000 ⌝ }
-    ensures { λ r. ⌜ r ≡ record-of.parameterState edition stage q code length index memory room idle ⌝ }
+    ensures { λ r. ⌜ r ≡ record-of.parameterState edition way stage q code length index memory room idle ⌝ }
 {
-    if rules::code_in(edition, code) {
+    if rules::code_in(edition, way, code) {
         let class = rules::class_coded(code);
         if stage == 3 {
             known(
                 edition,
+                way,
                 length as u64 + index as u64 + memory as u64 + idle == 0,
                 State::Waiting(Stage::Length { class, room }, q),
             )
@@ -172,7 +177,7 @@ fn parameter_of(
                 memory,
                 room,
             };
-            known(edition, idle == 0, State::Waiting(stage, q))
+            known(edition, way, idle == 0, State::Waiting(stage, q))
         }
     } else {
         Decoded::Unknown
@@ -180,13 +185,22 @@ fn parameter_of(
 }
 
 // A message or a refusal.
-fn ended_of(edition: u8, stage: u8, place: u16, number: u8, parameter: u8, idle: u64) -> Decoded
+fn ended_of(
+    edition: u8,
+    way: u8,
+    stage: u8,
+    place: u16,
+    number: u8,
+    parameter: u8,
+    idle: u64,
+) -> Decoded
     requires { ⌜ idle ≤ 10000000000 ⌝ }
-    ensures { λ r. ⌜ r ≡ record-of.endedOf edition stage place number parameter idle ⌝ }
+    ensures { λ r. ⌜ r ≡ record-of.endedOf edition way stage place number parameter idle ⌝ }
 {
     if stage == 5 {
         known(
             edition,
+            way,
             idle + number as u64 + parameter as u64 == 0,
             State::Message(place),
         )
@@ -196,14 +210,14 @@ fn ended_of(edition: u8, stage: u8, place: u16, number: u8, parameter: u8, idle:
             place,
             parameter,
         };
-        known(edition, idle == 0, State::Refused(fault))
+        known(edition, way, idle == 0, State::Refused(fault))
     } else {
         Decoded::Unknown
     }
 }
 
-fn state_of(edition: u8, f: Fields) -> Decoded
-    ensures { λ r. ⌜ r ≡ record-of.stateOf edition f ⌝ }
+fn state_of(edition: u8, way: u8, f: Fields) -> Decoded
+    ensures { λ r. ⌜ r ≡ record-of.stateOf edition way f ⌝ }
 {
     let inner = f.class as u64 + f.length as u64 + f.index as u64 + f.memory as u64;
     let q = Spot {
@@ -214,6 +228,7 @@ fn state_of(edition: u8, f: Fields) -> Decoded
     if f.stage <= 2 {
         opening_of(
             edition,
+            way,
             f.stage,
             q,
             f.room,
@@ -223,6 +238,7 @@ fn state_of(edition: u8, f: Fields) -> Decoded
         let idle = f.number as u64 + f.spare as u64;
         parameter_of(
             edition,
+            way,
             f.stage,
             q,
             f.class,
@@ -234,7 +250,7 @@ fn state_of(edition: u8, f: Fields) -> Decoded
         )
     } else {
         let idle = inner + f.sum as u64 + f.room as u64 + f.spare as u64;
-        ended_of(edition, f.stage, f.place, f.number, f.parameter, idle)
+        ended_of(edition, way, f.stage, f.place, f.number, f.parameter, idle)
     }
 }
 
@@ -243,7 +259,8 @@ fn decode(cells: &[u8]) -> Decoded
 {
     if cells.len() == LISTENER {
         let edition = cells[11];
-        state_of(edition, fields_of(cells))
+        let way = cells[12];
+        state_of(edition, way, fields_of(cells))
     } else {
         Decoded::Unknown
     }
@@ -324,9 +341,9 @@ fn fields_for(s: State) -> Fields
     }
 }
 
-fn lay(cells: &mut [u8], edition: u8, f: Fields)
+fn lay(cells: &mut [u8], edition: u8, way: u8, f: Fields)
     requires { ⌜ length (now cells) ≡ listenerSize ⌝ }
-    ensures { λ _. ⌜ now (cells .exit) ≡ record-of.laidFields edition f ⌝ }
+    ensures { λ _. ⌜ now (cells .exit) ≡ record-of.laidFields edition way f ⌝ }
 {
     let low = (f.place % 256) as u8;
     let high = (f.place / 256) as u8;
@@ -342,7 +359,7 @@ fn lay(cells: &mut [u8], edition: u8, f: Fields)
     cells[9] = f.number;
     cells[10] = f.parameter;
     cells[11] = edition;
-    cells[12] = 0;
+    cells[12] = way;
     cells[13] = 0;
     cells[14] = 0;
     cells[15] = 0;
@@ -353,7 +370,7 @@ fn encode(cells: &mut [u8], l: Listener)
     ensures { λ _. ⌜ now (cells .exit) ≡ record-of.recordOf l ⌝ }
 {
     let state = l.state;
-    lay(cells, l.edition, fields_for(state));
+    lay(cells, l.edition, l.way, fields_for(state));
 }
 
 // The edition is 0 or 1, and the parameter one of at most 85: so the two share an octet.
@@ -401,13 +418,13 @@ fn hear(l: Listener, octets: &[u8]) -> HeardWord
 }
 
 // The texts, and the record where they were laid down.
-fn read_into(edition: u8, octets: &[u8], cells: &mut [u8], texts: &mut [u8]) -> u64
+fn read_into(edition: u8, way: u8, octets: &[u8], cells: &mut [u8], texts: &mut [u8]) -> u64
     requires { ⌜ length (now cells) ≡ draftSize ⌝ }
-    ensures answer { λ r. ⌜ r ≡ exports.packedWord edition (packOf (rulesOf (bookOf edition lenient)) (now (octets .entry)) (length (now (texts .entry)))) ⌝ }
-    ensures cells { λ r. ⌜ now (cells .exit) ≡ exports.recordFrom (rulesOf (bookOf edition lenient)) (now (octets .entry)) (now (cells .entry)) (packOf (rulesOf (bookOf edition lenient)) (now (octets .entry)) (length (now (texts .entry)))) ⌝ }
-    ensures texts { λ r. ⌜ now (texts .exit) ≡ areaAfter (rulesOf (bookOf edition lenient)) (now (octets .entry)) (now (texts .entry)) ⌝ }
+    ensures answer { λ r. ⌜ r ≡ exports.packedWord edition (packOf (rulesOf (bookOf edition way)) (now (octets .entry)) (length (now (texts .entry)))) ⌝ }
+    ensures cells { λ r. ⌜ now (cells .exit) ≡ exports.recordFrom (rulesOf (bookOf edition way)) (now (octets .entry)) (now (cells .entry)) (packOf (rulesOf (bookOf edition way)) (now (octets .entry)) (length (now (texts .entry)))) ⌝ }
+    ensures texts { λ r. ⌜ now (texts .exit) ≡ areaAfter (rulesOf (bookOf edition way)) (now (octets .entry)) (now (texts .entry)) ⌝ }
 {
-    let book = rules::book_of(edition, rules::LENIENT);
+    let book = rules::book_of(edition, way);
     let fitting = reader::fits(book, octets, texts.len());
     match fitting {
         Fitting::Fits => {
@@ -431,11 +448,11 @@ fn desk_word(edition: u8, a: desk::Answer) -> u64
 
 // In a message: the contents of a type that count, their length as the size, and their start in octets 5 and 6; 0 and
 // 0 where none count.
-fn counted_in(edition: u8, octets: &[u8], kind: u8) -> u64
+fn counted_in(edition: u8, way: u8, octets: &[u8], kind: u8) -> u64
     requires { ⌜ length (now octets) ≤ 258 ⌝ }
-    ensures { λ r. ⌜ r ≡ exports.partWord edition (countedAt (rulesOf (bookOf edition lenient)) (now (octets .entry)) kind) ⌝ }
+    ensures { λ r. ⌜ r ≡ exports.partWord edition (countedAt (rulesOf (bookOf edition way)) (now (octets .entry)) kind) ⌝ }
 {
-    let book = rules::book_of(edition, rules::LENIENT);
+    let book = rules::book_of(edition, way);
     let part = message::counted(book, octets, kind);
     match part {
         Part::At { start, length: n } => packed(edition, 0, 0, 0, n as u16, start),
@@ -443,14 +460,14 @@ fn counted_in(edition: u8, octets: &[u8], kind: u8) -> u64
     }
 }
 
-// What counts by a known edition, or one of 1 to 8 with its place.
-fn counted_by(edition: u8, octets: &[u8], kind: u8) -> u64
-    ensures { λ r. ⌜ r ≡ exports.countedUnder edition (verdictOf (rulesOf (bookOf edition lenient)) (now (octets .entry))) (now (octets .entry)) kind ⌝ }
+// What counts by known numbers, or one of 1 to 8 and 10 with its place.
+fn counted_by(edition: u8, way: u8, octets: &[u8], kind: u8) -> u64
+    ensures { λ r. ⌜ r ≡ exports.countedUnder edition way (verdictOf (rulesOf (bookOf edition way)) (now (octets .entry))) (now (octets .entry)) kind ⌝ }
 {
-    let book = rules::book_of(edition, rules::LENIENT);
+    let book = rules::book_of(edition, way);
     let verdict = message::judge(book, octets);
     match verdict {
-        Verdict::Accepted { size: _ } => counted_in(edition, octets, kind),
+        Verdict::Accepted { size: _ } => counted_in(edition, way, octets, kind),
         Verdict::Declined { fault } => {
             packed(edition, fault.number, fault.place, fault.parameter, 0, 0)
         }
@@ -458,12 +475,12 @@ fn counted_by(edition: u8, octets: &[u8], kind: u8) -> u64
 }
 
 // The record of the part that is found; as it was with a refusal.
-fn caption_into(edition: u8, octets: &[u8], directory: &[u8], cells: &mut [u8]) -> u64
+fn caption_into(edition: u8, way: u8, octets: &[u8], directory: &[u8], cells: &mut [u8]) -> u64
     requires { ⌜ length (now cells) ≡ partSize ⌝ }
-    ensures answer { λ r. ⌜ r ≡ exports.foundWord (findIn edition lenient (now (octets .entry)) (now (directory .entry))) ⌝ }
-    ensures cells { λ r. ⌜ now (cells .exit) ≡ exports.partFrom (now (cells .entry)) (findIn edition lenient (now (octets .entry)) (now (directory .entry)) .shown) ⌝ }
+    ensures answer { λ r. ⌜ r ≡ exports.foundWord (findIn edition way (now (octets .entry)) (now (directory .entry))) ⌝ }
+    ensures cells { λ r. ⌜ now (cells .exit) ≡ exports.partFrom (now (cells .entry)) (findIn edition way (now (octets .entry)) (now (directory .entry)) .shown) ⌝ }
 {
-    let finding = caption::find(edition, rules::LENIENT, octets, directory);
+    let finding = caption::find(edition, way, octets, directory);
     let named = finding.edition;
     let found = finding.shown;
     match found {
@@ -479,15 +496,15 @@ fn caption_into(edition: u8, octets: &[u8], directory: &[u8], cells: &mut [u8]) 
     }
 }
 
-// Makes the record that of a new listener of an edition, whatever it holds; another size than 16 is 17, an unknown
-// edition 16, and the record stays.
+// Makes the record that of a new listener of an edition and a way, whatever it holds; another size than 16 is 17, an
+// unknown edition or way 16, and the record stays.
 #[no_mangle]
-pub extern "C" fn anthercup_reset(edition: u8, cells: &mut [u8]) -> u64
-    ensures { λ r. ⌜ (r ≡ exports.resetAnswer edition (now (cells .entry))) × (now (cells .exit) ≡ exports.resetRecord edition (now (cells .entry))) ⌝ }
+pub extern "C" fn anthercup_reset_way(edition: u8, way: u8, cells: &mut [u8]) -> u64
+    ensures { λ r. ⌜ (r ≡ exports.resetAnswer edition way (now (cells .entry))) × (now (cells .exit) ≡ exports.resetRecord edition way (now (cells .entry))) ⌝ }
 {
     if cells.len() == LISTENER {
-        if rules::is_edition(edition) {
-            encode(cells, listener::reset(edition, rules::LENIENT));
+        if rules::is_known(edition, way) {
+            encode(cells, listener::reset_way(edition, way));
             packed(edition, 0, 0, 0, 0, 0)
         } else {
             plain(16)
@@ -497,8 +514,17 @@ pub extern "C" fn anthercup_reset(edition: u8, cells: &mut [u8]) -> u64
     }
 }
 
+// The same in the strict way: where no way is named, types that the edition does not list are refused (document 02,
+// Q-11).
+#[no_mangle]
+pub extern "C" fn anthercup_reset(edition: u8, cells: &mut [u8]) -> u64
+    ensures { λ r. ⌜ (r ≡ exports.resetAnswer edition strict (now (cells .entry))) × (now (cells .exit) ≡ exports.resetRecord edition strict (now (cells .entry))) ⌝ }
+{
+    anthercup_reset_way(edition, rules::STRICT, cells)
+}
+
 // Takes a run of octets. A record of another size, or with a code or number out of range, is 17, one of an unknown
-// edition 16; both stay as they are.
+// edition or way 16; both stay as they are.
 #[no_mangle]
 pub extern "C" fn anthercup_listen(cells: &mut [u8], octets: &[u8]) -> u64
     ensures { λ r. ⌜ (r ≡ exports.listenAnswer (now (cells .entry)) (now (octets .entry))) × (now (cells .exit) ≡ exports.listenRecord (now (cells .entry)) (now (octets .entry))) ⌝ }
@@ -515,8 +541,33 @@ pub extern "C" fn anthercup_listen(cells: &mut [u8], octets: &[u8]) -> u64
     }
 }
 
-// A whole read: the draft's record and the texts, or one of 1 to 9 with its place and both as they were; a record of
-// another size than 688 is 17, then an unknown edition 16.
+// A whole read: the draft's record and the texts, or one of 1 to 10 with its place and both as they were; a record of
+// another size than 688 is 17, then an unknown edition or way 16.
+#[no_mangle]
+pub extern "C" fn anthercup_read_way(
+    edition: u8,
+    way: u8,
+    octets: &[u8],
+    cells: &mut [u8],
+    texts: &mut [u8],
+) -> u64
+    ensures answer { λ r. ⌜ r ≡ exports.readAnswer edition way (now (octets .entry)) (now (cells .entry)) (now (texts .entry)) ⌝ }
+    ensures cells { λ r. ⌜ now (cells .exit) ≡ exports.readRecord edition way (now (octets .entry)) (now (cells .entry)) (now (texts .entry)) ⌝ }
+    ensures texts { λ r. ⌜ now (texts .exit) ≡ exports.readTexts edition way (now (octets .entry)) (now (cells .entry)) (now (texts .entry)) ⌝ }
+{
+    if cells.len() == DRAFT {
+        if rules::is_known(edition, way) {
+            read_into(edition, way, octets, cells, texts)
+        } else {
+            plain(16)
+        }
+    } else {
+        plain(17)
+    }
+}
+
+// The same in the strict way: where no way is named, types that the edition does not list are refused (document 02,
+// Q-11).
 #[no_mangle]
 pub extern "C" fn anthercup_read(
     edition: u8,
@@ -524,19 +575,11 @@ pub extern "C" fn anthercup_read(
     cells: &mut [u8],
     texts: &mut [u8],
 ) -> u64
-    ensures answer { λ r. ⌜ r ≡ exports.readAnswer edition (now (octets .entry)) (now (cells .entry)) (now (texts .entry)) ⌝ }
-    ensures cells { λ r. ⌜ now (cells .exit) ≡ exports.readRecord edition (now (octets .entry)) (now (cells .entry)) (now (texts .entry)) ⌝ }
-    ensures texts { λ r. ⌜ now (texts .exit) ≡ exports.readTexts edition (now (octets .entry)) (now (cells .entry)) (now (texts .entry)) ⌝ }
+    ensures answer { λ r. ⌜ r ≡ exports.readAnswer edition strict (now (octets .entry)) (now (cells .entry)) (now (texts .entry)) ⌝ }
+    ensures cells { λ r. ⌜ now (cells .exit) ≡ exports.readRecord edition strict (now (octets .entry)) (now (cells .entry)) (now (texts .entry)) ⌝ }
+    ensures texts { λ r. ⌜ now (texts .exit) ≡ exports.readTexts edition strict (now (octets .entry)) (now (cells .entry)) (now (texts .entry)) ⌝ }
 {
-    if cells.len() == DRAFT {
-        if rules::is_edition(edition) {
-            read_into(edition, octets, cells, texts)
-        } else {
-            plain(16)
-        }
-    } else {
-        plain(17)
-    }
+    anthercup_read_way(edition, rules::STRICT, octets, cells, texts)
 }
 
 // Clears a desk: makes the record that of a new one, whatever it holds; another size than 52 is 17.
@@ -553,15 +596,15 @@ pub extern "C" fn anthercup_new_desk(cells: &mut [u8]) -> u64
 }
 
 // Settles a whole message on a desk. A record of another size, with a code or number out of range or with a reference
-// twice is 17; an unknown edition 16; with these, with 1 to 8 and with 21, where a reference has no place, the record
-// stays.
+// twice is 17; an unknown edition or way 16; with these, with 1 to 8 and 10 and with 21, where a reference has no
+// place, the record stays.
 #[no_mangle]
-pub extern "C" fn anthercup_settle(edition: u8, cells: &mut [u8], octets: &[u8]) -> u64
-    ensures { λ r. ⌜ (r ≡ exports.settleAnswer edition (now (cells .entry)) (now (octets .entry))) × (now (cells .exit) ≡ exports.settleRecord edition (now (cells .entry)) (now (octets .entry))) ⌝ }
+pub extern "C" fn anthercup_settle(edition: u8, way: u8, cells: &mut [u8], octets: &[u8]) -> u64
+    ensures { λ r. ⌜ (r ≡ exports.settleAnswer edition way (now (cells .entry)) (now (octets .entry))) × (now (cells .exit) ≡ exports.settleRecord edition way (now (cells .entry)) (now (octets .entry))) ⌝ }
 {
     if desks::is_record(cells) {
         let found = desks::decode(cells);
-        let done = desk::settle(edition, rules::LENIENT, found, octets);
+        let done = desk::settle(edition, way, found, octets);
         let named = done.edition;
         let outcome = done.outcome;
         let after = outcome.desk;
@@ -573,33 +616,34 @@ pub extern "C" fn anthercup_settle(edition: u8, cells: &mut [u8], octets: &[u8])
     }
 }
 
-// Where the contents of a type that count stand in a whole message, or one of 1 to 8 with its place; an unknown
-// edition is 16.
+// Where the contents of a type that count stand in a whole message, or one of 1 to 8 and 10 with its place; an unknown
+// edition or way is 16.
 #[no_mangle]
-pub extern "C" fn anthercup_counted(edition: u8, octets: &[u8], kind: u8) -> u64
-    ensures { λ r. ⌜ r ≡ exports.countedAnswer edition (now (octets .entry)) kind ⌝ }
+pub extern "C" fn anthercup_counted(edition: u8, way: u8, octets: &[u8], kind: u8) -> u64
+    ensures { λ r. ⌜ r ≡ exports.countedAnswer edition way (now (octets .entry)) kind ⌝ }
 {
-    if rules::is_edition(edition) {
-        counted_by(edition, octets, kind)
+    if rules::is_known(edition, way) {
+        counted_by(edition, way, octets, kind)
     } else {
         plain(16)
     }
 }
 
-// The caption of a whole message: the part's record, or one of 1 to 8 with its place and the record as it was; a
-// record of another size than 24 is 17, then an unknown edition 16.
+// The caption of a whole message: the part's record, or one of 1 to 8 and 10 with its place and the record as it was; a
+// record of another size than 24 is 17, then an unknown edition or way 16.
 #[no_mangle]
 pub extern "C" fn anthercup_caption(
     edition: u8,
+    way: u8,
     octets: &[u8],
     directory: &[u8],
     cells: &mut [u8],
 ) -> u64
-    ensures answer { λ r. ⌜ r ≡ exports.captionAnswer edition (now (octets .entry)) (now (directory .entry)) (now (cells .entry)) ⌝ }
-    ensures cells { λ r. ⌜ now (cells .exit) ≡ exports.captionRecord edition (now (octets .entry)) (now (directory .entry)) (now (cells .entry)) ⌝ }
+    ensures answer { λ r. ⌜ r ≡ exports.captionAnswer edition way (now (octets .entry)) (now (directory .entry)) (now (cells .entry)) ⌝ }
+    ensures cells { λ r. ⌜ now (cells .exit) ≡ exports.captionRecord edition way (now (octets .entry)) (now (directory .entry)) (now (cells .entry)) ⌝ }
 {
     if cells.len() == PART {
-        caption_into(edition, octets, directory, cells)
+        caption_into(edition, way, octets, directory, cells)
     } else {
         plain(17)
     }

@@ -1,9 +1,9 @@
--- Demand 3 over the promises of `reset` and `listen`: whatever outcomes they allow, call after call (document 01,
--- Listening), by every edition and way (document 02, Q-5).
+-- Demand 3 over the promises of `reset_way`, `reset` and `listen`: whatever outcomes they allow, call after call
+-- (document 01, Listening), by every edition and way (document 02, Q-5 and Q-11).
 -- Assumes nothing.
 use Prim.Native.Nat.{ℕ, _+_, _≤_}
 use mathlib.Core.Path.{_≡_, refl, sym, _∙_, ap, subst}
-use mathlib.Core.Logic.{_⊎_}
+use mathlib.Core.Logic.{_⊎_, inl, inr}
 use mathlib.Core.List.{List, [], _++_}
 use native.Mathlib.Omega.{arith}
 use lib.ListN.{take}
@@ -14,7 +14,7 @@ use Rattle.rules.specs.Judge.{named}
 use Rattle.rules.specs.Language.{languageOf}
 use Rattle.rules.proofs.Grammar.{spoken-of}
 use Rattle.rules.specs.declared.Book.{Book}
-use Rattle.rules.specs.Editions.{known, bookOf}
+use Rattle.rules.specs.Editions.{strict, known, bookOf}
 use Rattle.rules.specs.declared.Fault.{Fault}
 use Rattle.listener.specs.declared.Listener.{Listener}
 use Rattle.listener.specs.declared.Heard as declared
@@ -28,12 +28,21 @@ use Rattle.listener.specs.Hears.{Hears}
 use Rattle.listener.specs.Answers.{Known, InRange, Answers}
 use Rattle.listener.proofs.Answers as answers
 use Rattle.listener.proofs.Hears.{LedBy, new-led, led-in-range, led-on, again, in-range-heard, unknown-heard, out-of-range-heard}
+use Rattle.listener.proofs.reset_way.Reads as reset-way
 use Rattle.listener.proofs.reset.Reads as reset
 use Rattle.listener.proofs.listen.Reads as listen
 
--- `reset` to the edition e and the way w answers l
+-- `reset_way` to the edition e and the way w answers l
+abbrev pub reset-way-gives : ℕ → ℕ → Listener → Type 0
+reset-way-gives e w l = (κs : _) × (a : _) × (s : _) × reset-way.Post κs a l s × (a .0 ≡ e) × (a .1 .0 ≡ w)
+
+-- `reset` to the edition e, no way named, answers l
+abbrev pub reset-unnamed-gives : ℕ → Listener → Type 0
+reset-unnamed-gives e l = (κs : _) × (a : _) × (s : _) × reset.Post κs a l s × (a .0 ≡ e)
+
+-- a reset to the edition e and the way w answers l: `reset_way`, or, where that is the strict one, `reset`
 abbrev pub reset-gives : ℕ → ℕ → Listener → Type 0
-reset-gives e w l = (κs : _) × (a : _) × (s : _) × reset.Post κs a l s × (a .0 ≡ e) × (a .1 .0 ≡ w)
+reset-gives e w l = reset-way-gives e w l ⊎ ((w ≡ strict) × reset-unnamed-gives e l)
 
 -- of the listener l and the run o, `listen` answers r
 abbrev pub listen-gives : Listener → List ℕ → declared.Heard → Type 0
@@ -41,7 +50,8 @@ listen-gives l o r = (κs : _) × (a : _) × (s : _) × listen.Post κs a r s ×
 
 -- a reset listener equals a new one, of the numbers told, known or not
 pub reset-is-new : (e w : ℕ) (l : Listener) → reset-gives e w l → l ≡ newListener e w
-reset-is-new e w l h = h .3 ∙ (λ i. newListener (h .4 i) (h .5 i))
+reset-is-new e w l (inl h) = h .3 ∙ (λ i. newListener (h .4 i) (h .5 i))
+reset-is-new e w l (inr h) = h .1 .3 ∙ (λ i. newListener (h .1 .4 i) (sym (h .0) i))
 
 pub listen-is : (l : Listener) (o : List ℕ) (r : declared.Heard) → listen-gives l o r → r ≡ heardOf l o
 listen-is l o r h = h .3 ∙ (λ i. heardOf (h .4 i) (h .5 i))

@@ -1,5 +1,5 @@
--- What an answer of any listener at all says of its numbers (document 02, Q-5), also of one that no octets lead to: 17
--- comes first, then 16, and every other answer names its edition.
+-- What an answer of any listener at all says of its numbers (document 02, Q-5 and Q-11), also of one that no octets
+-- lead to: 17 comes first, then 16, and every other answer names its edition.
 -- Assumes nothing.
 use Prim.Native.Nat.{ℕ}
 use mathlib.Core.Path.{_≡_}

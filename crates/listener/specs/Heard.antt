@@ -1,6 +1,6 @@
 -- What a call of the listener gives (document 01, Listening): the state after the octets, the answer, the octets
 -- taken, and the edition that it names; 17 for a listener out of range, 16 for one whose edition or way is unknown
--- (document 02, Q-5).
+-- (document 02, Q-5 and Q-11).
 -- Assumes nothing.
 use Prim.Native.Nat.{ℕ, suc, _+_, _≤_, _<_}
 use mathlib.Core.Path.{_≡_}

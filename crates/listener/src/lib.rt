@@ -12,6 +12,7 @@ ghost use lib.Dec.{T};
 ghost use lib.ListN as list;
 ghost use Rattle.rules.specs.Contents.{within};
 ghost use Rattle.rules.specs.Table.{rulesOf};
+ghost use Rattle.rules.specs.Editions.{strict};
 ghost use Rattle.rules.specs.Machine as machine;
 ghost use Rattle.rules.specs.OctetRows.{AskedRow, AskedRows};
 ghost use Rattle.rules.specs.Tests.{_=?_, _or_, pick};
@@ -22,7 +23,7 @@ ghost use Rattle.rules.specs.declared.Stage.the-variants as stage;
 ghost use Rattle.listener.specs.Heard.{answerOf, runOf, insideOf, Onward, heardOf, newListener};
 ghost use Rattle.listener.specs.Heard as heard;
 
-// Edition and way are the numbers told at its reset, known or not (document 02, Q-5).
+// Edition and way are the numbers told at its reset, known or not (document 02, Q-5 and Q-11).
 pub struct Listener {
     pub edition: u8,
     pub way: u8,
@@ -566,7 +567,7 @@ fn untaken(l: Listener, number: u8) -> Heard
 }
 
 // A new listener; a listener is reset by putting a new one in its place. It keeps the numbers told, unknown ones too.
-pub fn reset(edition: u8, way: u8) -> Listener
+pub fn reset_way(edition: u8, way: u8) -> Listener
     ensures { λ r. ⌜ r ≡ newListener edition way ⌝ }
 {
     Listener {
@@ -581,6 +582,14 @@ pub fn reset(edition: u8, way: u8) -> Listener
             },
         ),
     }
+}
+
+// A new listener of the strict way: where no way is named, types that the edition does not list are refused (document
+// 02, Q-11).
+pub fn reset(edition: u8) -> Listener
+    ensures { λ r. ⌜ r ≡ newListener edition strict ⌝ }
+{
+    reset_way(edition, rules::STRICT)
 }
 
 // Takes a run of octets, none included. A listener out of range gets 17, then one whose edition or way is unknown 16;

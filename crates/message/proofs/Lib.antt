@@ -8,3 +8,4 @@ pub mod Settled
 pub mod Promised
 pub mod One
 pub mod Opening
+pub mod Ways

@@ -1,8 +1,9 @@
 // Reading by value, walking, captions and drafts, run (document 01, Drafts and The caption): reads cases from standard
 // input, the numbers of an edition and a way, a message and a directory each behind its length in two octets, then the
-// size of a text area in two octets, and prints for each what `reader::read`, the walker, `caption` and `writer::write`
-// answer, with the edition that each names, and whether the message comes back from its draft. What it must print was
-// written by the second reader, some rows by hand (tools/replay).
+// size of a text area in two octets, and prints for each what `reader::read_way`, the walker, `caption` and
+// `writer::write` answer, with the edition that each names, and whether the message comes back from its draft; by the
+// strict way also what `reader::read` answers. What it must print was written by the second reader, some rows by hand
+// (tools/replay).
 use caption::Shown;
 use draft::Draft;
 use draft::Entry;
@@ -166,7 +167,7 @@ fn say_editions(draft: Draft, texts: &[u8]) {
 // with no entries (document 01, Drafts).
 fn say_again(way: u8, draft: Draft, texts: &[u8], written: &[u8]) {
     let mut area = [0u8; TEXTS];
-    let reading = reader::read(draft.edition, way, written, &mut area);
+    let reading = reader::read_way(draft.edition, way, written, &mut area);
     let again = reading.draft;
     say_whether(b"again", draft::same(draft, texts, again, &area));
     area[0] = other(area[0]);
@@ -205,8 +206,8 @@ fn say_write(way: u8, message: &[u8], draft: Draft, texts: &[u8]) {
     }
 }
 
-fn say_draft(draft: Draft, octets: u16) {
-    say(b"read ");
+fn say_draft(text: &[u8], draft: Draft, octets: u16) {
+    say(text);
     say_octet(draft.kind);
     say_number(b" ", draft.count as u64);
     say_number(b" ", octets as u64);
@@ -264,7 +265,7 @@ fn elsewhere(draft: Draft) -> Draft {
 // A draft's texts may lie anywhere in their area (document 01, Drafts): here they begin at its octet 1.
 fn say_elsewhere(edition: u8, way: u8, message: &[u8]) {
     let mut area = [0u8; TEXTS + 1];
-    let reading = reader::read(edition, way, message, &mut area[1..]);
+    let reading = reader::read_way(edition, way, message, &mut area[1..]);
     let draft = elsewhere(reading.draft);
     say_write(way, message, draft, &area);
 }
@@ -272,13 +273,13 @@ fn say_elsewhere(edition: u8, way: u8, message: &[u8]) {
 // The whole read into an area that every message's texts fit.
 fn say_read(edition: u8, way: u8, message: &[u8]) {
     let mut area = [0u8; TEXTS];
-    let reading = reader::read(edition, way, message, &mut area);
+    let reading = reader::read_way(edition, way, message, &mut area);
     let named = reading.edition;
     let answer = reading.answer;
     let draft = reading.draft;
     match answer {
         Packed::Texts { octets } => {
-            say_draft(draft, octets);
+            say_draft(b"read ", draft, octets);
             say_both(named, draft);
             say_entries(draft, &area);
             say_write(way, message, draft, &area);
@@ -286,6 +287,26 @@ fn say_read(edition: u8, way: u8, message: &[u8]) {
         }
         Packed::Refused { fault } => {
             say_fault(b"read ", fault);
+            say_both(named, draft);
+        }
+    }
+}
+
+// The whole read by which no way is named: it is strict (document 02, Q-11).
+fn say_default(edition: u8, message: &[u8]) {
+    let mut area = [0u8; TEXTS];
+    let reading = reader::read(edition, message, &mut area);
+    let named = reading.edition;
+    let answer = reading.answer;
+    let draft = reading.draft;
+    match answer {
+        Packed::Texts { octets } => {
+            say_draft(b"default ", draft, octets);
+            say_both(named, draft);
+            say_entries(draft, &area);
+        }
+        Packed::Refused { fault } => {
+            say_fault(b"default ", fault);
             say_both(named, draft);
         }
     }
@@ -303,7 +324,7 @@ fn say_room(edition: u8, way: u8, message: &[u8], room: usize)
     requires { ⌜ room ≤ 253 ⌝ }
 {
     let mut area = [0u8; TEXTS];
-    let reading = reader::read(edition, way, message, &mut area[..room]);
+    let reading = reader::read_way(edition, way, message, &mut area[..room]);
     let answer = reading.answer;
     say_number(b"room ", room as u64);
     say_texts(answer);
@@ -445,6 +466,9 @@ fn show<'a>(edition: u8, way: u8, message: &'a [u8], directory: &'a [u8], room: 
     requires { ⌜ room ≤ 253 ⌝ }
 {
     say_read(edition, way, message);
+    if way == rules::STRICT {
+        say_default(edition, message);
+    }
     say_room(edition, way, message, room);
     say_steps(edition, way, message);
     say_beginnings(edition, way, message);

@@ -4,27 +4,29 @@
 -- the only hypothesis is that octets are below 256, which every slice of octets meets. Which number at which place in
 -- which parameter, exactly, and that there is only one, say the sentences of demands 2 and 3.
 -- Assumes nothing.
-use Prim.Native.Nat.{ℕ, _≤_, _<_}
+use Prim.Native.Nat.{ℕ, zero, suc, _≤_, _<_}
 use mathlib.Core.Path.{_≡_, refl, sym, _∙_, ap, subst}
+use mathlib.Core.Bool.{Bool}
 use mathlib.Core.Logic.{_⊎_, inl, inr, _↔_}
 use mathlib.Core.List.{List}
 use mathlib.Core.Option.{Option, none, some}
 use native.Mathlib.Omega.{arith}
 use denote.Ref.{now}
-use lib.ListN.{length}
+use lib.ListN.{length, getD}
 use lib.Dec.{T}
 use Rattle.rules.specs.Tests.{_=?_, _≤?_, _or_, pick}
 use Rattle.rules.proofs.Tests.{either, clash, decide, eq-of, of-eq, not-le, le-of, left, right}
 use Rattle.rules.specs.Octets.{Octets}
-use Rattle.rules.specs.Contents.{someLength}
+use Rattle.rules.specs.Contents.{within, someLength}
 use Rattle.rules.specs.Table.{Rules, rulesOf, classFault, whole}
-use Rattle.rules.specs.Editions.{lenient, edition, known, bookOf}
-use Rattle.rules.proofs.Editions.{book-edition, edition-of, by-lenient}
+use Rattle.rules.specs.Editions.{strict, lenient, edition, known, bookOf}
+use Rattle.rules.proofs.Editions.{beyond, book-edition, by-strict}
+use Rattle.rules.proofs.Ways.{refuses-iff}
 use Rattle.rules.specs.declared.Book.{Book}
 use Rattle.rules.specs.declared.Book.the-variants.{PresentStrict, PresentLenient, OldStrict, OldLenient}
 use Rattle.rules.specs.declared.Fault.{Fault}
 use Rattle.rules.specs.Refusals.{noted}
-use Rattle.rules.specs.Judge.{named}
+use Rattle.rules.specs.Judge.{given, named}
 use Rattle.rules.specs.Language.{languageOf}
 use Rattle.rules.proofs.Language.{in-range-run}
 use Rattle.rules.specs.Message.{Accepts}
@@ -43,7 +45,7 @@ use Rattle.listener.proofs.Promised as listener
 use Rattle.message.specs.declared.Verdict.{Verdict}
 use Rattle.message.specs.declared.Verdict.the-variants.{Accepted, Declined as Judged}
 use Rattle.message.specs.Judges.{verdictNumber}
-use Rattle.message.proofs.Judges.{verdict-number, verdict-lenient}
+use Rattle.message.proofs.Judges.{verdict-number, verdict-lenient, told-small}
 use Rattle.message.proofs.One.{placed, names}
 use Rattle.message.proofs.Promised as message
 use Rattle.draft.specs.declared.Draft.{Draft}
@@ -90,7 +92,6 @@ use Rattle.walker.specs.Moves.{Seen}
 use Rattle.walker.specs.Walks.{WalksBy}
 use Rattle.walker.proofs.Promised as walker
 use Rattle.firmware.specs.Word.{wordNumber, Unpacked, Sixteen, Seventeen}
-use Rattle.firmware.proofs.Classes.{carries}
 use Rattle.firmware.specs.RecordHears.{Sound}
 use Rattle.firmware.specs.RecordReads.{RecordReads}
 use Rattle.firmware.specs.RecordParts.{RecordCounts, RecordFinds}
@@ -111,7 +112,7 @@ Names f = T (named (f .number) (f .parameter))
 abbrev pub Verdict-like : Book → List ℕ → Fault → Type 0
 Verdict-like b o f = T (verdictNumber (languageOf b) (f .number)) × (f .place ≤ length o) × Names f
 
--- 16 at 0, where the edition or the way is unknown (document 02, Q-5)
+-- 16 at 0, where the edition or the way is unknown (document 02, Q-5 and Q-11)
 abbrev pub Unknown : ℕ → ℕ → Fault → Type 0
 Unknown e w f = (T (known e w) → ⊥) × (f ≡ noted 16 0)
 
@@ -421,17 +422,53 @@ numbers-given OldLenient k = given-lenient (rulesOf OldLenient) k refl
 numbers-given PresentStrict k = given-strict (rulesOf PresentStrict) k refl
 numbers-given OldStrict k = given-strict (rulesOf OldStrict) k refl
 
--- by the books of the exports and programs the numbers are document 01's: 1 to 6, 1 to 8, 1 to 9, and 10 is none of
--- them
+-- by the lenient way the numbers are document 01's, 1 to 6, 1 to 8, 1 to 9, and 10 is none of them; by the strict one
+-- 10 joins each of these lists
+carries : (e : ℕ) → T (edition e) → classFault (rulesOf (bookOf e lenient) .others) ≡ 3
+unfolding rulesOf bookOf classFault someLength whole pick _=?_ _≤?_ _or_
+carries zero k = refl
+carries (suc zero) k = refl
+carries (suc (suc e)) k = absurd (beyond e k)
+
 module _ (e : ℕ) (k' : T (edition e)) where
   abbrev R : Rules
   R = rulesOf (bookOf e lenient)
 
+  abbrev Q : Rules
+  Q = rulesOf (bookOf e strict)
+
+  refuses : classFault (Q .others) ≡ 10
+  refuses = refuses-iff e strict (by-strict e k') .1 refl
+
   pub six-lenient : (k : ℕ) → T (languageOf (bookOf e lenient) .given k) ↔ From 1 6 k
   six-lenient k = given-lenient R k (carries e k')
 
+  pub six-strict : (k : ℕ) → T (languageOf (bookOf e strict) .given k) ↔ (From 1 6 k ⊎ (k ≡ 10))
+  six-strict k = given-strict Q k refuses
+
   pub eight-lenient : (k : ℕ) → T (verdictNumber (languageOf (bookOf e lenient)) k) ↔ From 1 8 k
   eight-lenient k = verdict-lenient R k (carries e k')
+
+  pub eight-strict : (k : ℕ) → T (verdictNumber (languageOf (bookOf e strict)) k) ↔ (From 1 8 k ⊎ (k ≡ 10))
+  unfolding verdictNumber
+  eight-strict k = (λ t. to (verdict-number (languageOf (bookOf e strict)) k t), of)
+    where
+      given-so : From 1 6 k ⊎ (k ≡ 10) → From 1 8 k ⊎ (k ≡ 10)
+      given-so (inl d) = inl (d .0, omega (arith, d .1))
+      given-so (inr z) = inr z
+
+      to : T (given Q k) ⊎ ((k ≡ 7) ⊎ (k ≡ 8)) → From 1 8 k ⊎ (k ≡ 10)
+      to (inl t) = given-so (six-strict k .0 t)
+      to (inr (inl z)) = inl (omega arith, omega arith)
+      to (inr (inr z)) = inl (omega arith, omega arith)
+
+      below : 1 ≤ k → k ≤ 8 → T (k ≤? 6) ⊎ (T (k ≤? 6) → ⊥) → T (given Q k or within (7, 8) k)
+      below a b (inl t) = left _ _ (six-strict k .1 (inl (a, le-of _ _ t)))
+      below a b (inr n) = let h = not-le _ _ n in right _ _ (inside _ _ _ (omega arith) b)
+
+      of : From 1 8 k ⊎ (k ≡ 10) → T (given Q k or within (7, 8) k)
+      of (inl d) = below (d .0) (d .1) (decide (k ≤? 6))
+      of (inr z) = left _ _ (six-strict k .1 (inr z))
 
   pub nine-lenient : (k : ℕ) → T (readNumber R k) ↔ From 1 9 k
   unfolding readNumber
@@ -446,27 +483,69 @@ module _ (e : ℕ) (k' : T (edition e)) where
       of a b (inl t) = left _ _ (eight-lenient k .1 (a, le-of _ _ t))
       of a b (inr n) = let h = not-le _ _ n in right _ _ (of-eq _ _ (omega arith))
 
+  pub nine-strict : (k : ℕ) → T (readNumber Q k) ↔ From 1 10 k
+  unfolding readNumber
+  nine-strict k = (λ t. to (either _ _ t), λ d. of (d .0) (d .1) (decide (k ≤? 8)) (decide (k =? 9)))
+    where
+      verdict-so : From 1 8 k ⊎ (k ≡ 10) → From 1 10 k
+      verdict-so (inl d) = (d .0, omega (arith, d .1))
+      verdict-so (inr z) = (omega arith, omega arith)
+
+      to : T (verdictNumber (languageOf (bookOf e strict)) k) ⊎ T (k =? 9) → From 1 10 k
+      to (inl u) = verdict-so (eight-strict k .0 u)
+      to (inr u) = let e = eq-of _ _ u in (omega arith, omega arith)
+
+      of : 1 ≤ k → k ≤ 10 → T (k ≤? 8) ⊎ (T (k ≤? 8) → ⊥) → T (k =? 9) ⊎ (T (k =? 9) → ⊥) →
+          T (verdictNumber (languageOf (bookOf e strict)) k or k =? 9)
+      of a b (inl t) u = left _ _ (eight-strict k .1 (inl (a, le-of _ _ t)))
+      of a b (inr n) (inl u) = right _ _ u
+      of a b (inr n) (inr u) =
+          let h = not-le _ _ n in
+          let m : k ≡ 9 → ⊥ = λ z. u (of-eq _ _ z) in
+          left _ _ (eight-strict k .1 (inr (omega arith)))
+
 -- ---- the exports, on any record at all: 17 comes first, then 16
--- listening: a sound record gets 0 or 1 to 6; any other 16 or 17, and stays
+-- none, or a number of a list
+abbrev pub ZeroOr : (ℕ → Bool) → ℕ → Type 0
+ZeroOr is k = (k ≡ 0) ⊎ T (is k)
+
+pub verdict-small : (b : Book) (k : ℕ) → ZeroOr (verdictNumber (languageOf b)) k → k ≤ 10
+verdict-small b k (inl z) = omega arith
+verdict-small b k (inr t) = told-small (spoken-of b) k t .1
+
+pub read-small : (b : Book) (k : ℕ) → ZeroOr (readNumber (rulesOf b)) k → k ≤ 10
+unfolding readNumber
+read-small b k (inl z) = omega arith
+read-small b k (inr t) = go (either _ _ t)
+  where
+    go : T (verdictNumber (languageOf b) k) ⊎ T (k =? 9) → k ≤ 10
+    go (inl u) = told-small (spoken-of b) k u .1
+    go (inr u) = let e = eq-of _ _ u in omega arith
+
+-- listening: a sound record gets 0 or a number of its book, 1 to 6 and, by the strict way, 10; any other 16 or 17, and
+-- stays
 pub anthercup-listen-refuses : (c o : List ℕ) (w : ℕ) (c' : List ℕ) → firmware.listen-gives c o w c' → Octets c →
-    Octets o → (Sound c × (wordNumber w ≤ 6)) ⊎ ((Sound c → ⊥) × (Sixteen c w c' ⊎ Seventeen c w c'))
+    Octets o →
+    (Sound c × ZeroOr (languageOf (bookOf (getD c 11 0) (getD c 12 0)) .given) (wordNumber w))
+    ⊎ ((Sound c → ⊥) × (Sixteen c w c' ⊎ Seventeen c w c'))
 anthercup-listen-refuses c o w c' h k q = go (firmware.sound-or-refused c o w c' h k)
   where
     go : Sound c ⊎ (Sixteen c w c' ⊎ Seventeen c w c') →
-        (Sound c × (wordNumber w ≤ 6)) ⊎ ((Sound c → ⊥) × (Sixteen c w c' ⊎ Seventeen c w c'))
+        (Sound c × ZeroOr (languageOf (bookOf (getD c 11 0) (getD c 12 0)) .given) (wordNumber w))
+        ⊎ ((Sound c → ⊥) × (Sixteen c w c' ⊎ Seventeen c w c'))
     go (inl s) = inl (s, firmware.numbers c o w c' h s q)
-    go (inr (inl x)) = inr (λ s. omega (arith, x .word .number, firmware.numbers c o w c' h s q), inl x)
-    go (inr (inr x)) = inr (λ s. omega (arith, x .word .number, firmware.numbers c o w c' h s q), inr x)
+    go (inr (inl x)) = inr (λ s. omega (arith, x .word .number, firmware.numbers-small c o w c' h s q), inl x)
+    go (inr (inr x)) = inr (λ s. omega (arith, x .word .number, firmware.numbers-small c o w c' h s q), inr x)
 
--- resetting: by the record's size, then by the edition; clearing a desk: by the record's size alone
-pub anthercup-reset-refuses : (e : ℕ) (c : List ℕ) (w : ℕ) (c' : List ℕ) → firmware.reset-gives e c w c' →
-    (length c ≡ listenerSize → T (edition e) → Unpacked e 0 0 0 0 0 w)
-    × (length c ≡ listenerSize → (T (edition e) → ⊥) → Sixteen c w c')
+-- resetting: by the record's size, then by edition and way; clearing a desk: by the record's size alone
+pub anthercup-reset-refuses : (e y : ℕ) (c : List ℕ) (w : ℕ) (c' : List ℕ) → firmware.reset-gives e y c w c' →
+    (length c ≡ listenerSize → T (known e y) → Unpacked e 0 0 0 0 0 w)
+    × (length c ≡ listenerSize → (T (known e y) → ⊥) → Sixteen c w c')
     × ((length c ≡ listenerSize → ⊥) → Seventeen c w c')
-anthercup-reset-refuses e c w c' h = (
-  λ n t. firmware.reset-is-new e c w c' h n t .0,
-  λ n t. firmware.reset-sixteen e c w c' h n t,
-  λ n. firmware.reset-seventeen e c w c' h n,
+anthercup-reset-refuses e y c w c' h = (
+  λ n t. firmware.reset-is-new e y c w c' h n t .0,
+  λ n t. firmware.reset-sixteen e y c w c' h n t,
+  λ n. firmware.reset-seventeen e y c w c' h n,
 )
 
 pub anthercup-new-desk-refuses : (c : List ℕ) (w : ℕ) (c' : List ℕ) → firmware.new-desk-gives c w c' →
@@ -474,106 +553,106 @@ pub anthercup-new-desk-refuses : (c : List ℕ) (w : ℕ) (c' : List ℕ) → fi
 anthercup-new-desk-refuses c w c' h =
     (λ n. firmware.new-desk c w c' h n .0, λ n. firmware.new-desk-seventeen c w c' h n)
 
--- reading: 17 for a record of another size than 688, then 16 for an unknown edition, else 0 or 1 to 9; with a number
--- record and texts stay
-pub anthercup-read-refuses : (e : ℕ) (o c t : List ℕ) (w : ℕ) (c' t' : List ℕ) →
-    firmware.read-gives e o c t w c' t' → Octets o →
-    (length c ≡ draftSize → T (edition e) → (wordNumber w ≤ 9) × (1 ≤ wordNumber w → (c' ≡ c) × (t' ≡ t)))
-    × (length c ≡ draftSize → (T (edition e) → ⊥) → Sixteen c w c' × (t' ≡ t))
+-- reading: 17 for a record of another size than 688, then 16 for an unknown edition or way, else 0 or a number of a
+-- read by their book; with a number record and texts stay
+pub anthercup-read-refuses : (e y : ℕ) (o c t : List ℕ) (w : ℕ) (c' t' : List ℕ) →
+    firmware.read-gives e y o c t w c' t' → Octets o →
+    (length c ≡ draftSize → T (known e y) →
+    ZeroOr (readNumber (rulesOf (bookOf e y))) (wordNumber w) × (1 ≤ wordNumber w → (c' ≡ c) × (t' ≡ t)))
+    × (length c ≡ draftSize → (T (known e y) → ⊥) → Sixteen c w c' × (t' ≡ t))
     × ((length c ≡ draftSize → ⊥) → Seventeen c w c' × (t' ≡ t))
 unfolding told
-anthercup-read-refuses v o c t w c' t' h q = (
-  λ n k. let y = firmware.record-read v o c t w c' t' h q n k in so k y (y .reading .answer) refl,
-  λ n k. firmware.read-sixteen v o c t w c' t' h n k,
-  λ n. firmware.read-seventeen v o c t w c' t' h n,
+anthercup-read-refuses v y o c t w c' t' h q = (
+  λ n k. let x = firmware.record-read v y o c t w c' t' h q n k in so x (x .reading .answer) refl,
+  λ n k. firmware.read-sixteen v y o c t w c' t' h n k,
+  λ n. firmware.read-seventeen v y o c t w c' t' h n,
 )
   where
-    so : T (edition v) → (y : RecordReads v o c t w c' t') (x : Packed) → y .reading .answer ≡ x →
-        (wordNumber w ≤ 9) × (1 ≤ wordNumber w → (c' ≡ c) × (t' ≡ t))
-    so i y (packed.Texts n) e =
-        let z = y .word .number ∙ ap (λ (x : Packed). told x .number) e in
-        (omega (arith, z), λ k. absurd (omega (arith, z)))
-    so i y (packed.Refused f) e =
-        let z = y .word .number ∙ ap (λ (x : Packed). told x .number) e in
-        let k = refused-so (y .reads) f e in
-        let m = ap (λ (x : Packed). told x .number) e in
-        let l = some-number (y .reads) f e in
-        (omega (arith, z, nine-lenient v i _ .0 (k .2) .1), λ _. (y .refused (omega (arith, m, l)), k .0))
+    so : (x : RecordReads v y o c t w c' t') (a : Packed) → x .reading .answer ≡ a →
+        ZeroOr (readNumber (rulesOf (bookOf v y))) (wordNumber w) × (1 ≤ wordNumber w → (c' ≡ c) × (t' ≡ t))
+    so x (packed.Texts n) e =
+        let z = x .word .number ∙ ap (λ (a : Packed). told a .number) e in
+        (inl z, λ k. absurd (omega (arith, z)))
+    so x (packed.Refused f) e =
+        let z = x .word .number ∙ ap (λ (a : Packed). told a .number) e in
+        let k = refused-so (x .reads) f e in
+        let m = ap (λ (a : Packed). told a .number) e in
+        let l = some-number (x .reads) f e in (
+          inr (subst (λ (n : ℕ). T (readNumber (rulesOf (bookOf v y)) n)) (sym z) (k .2)),
+          λ _. (x .refused (omega (arith, m, l)), k .0),
+        )
 
--- settling: 17 exactly for a record that is no desk's, then 16 exactly for an unknown edition, else 0, 1 to 8 or 21;
--- with a number the record stays
-pub anthercup-settle-refuses : (e : ℕ) (c o : List ℕ) (w : ℕ) (c' : List ℕ) → firmware.settle-gives e c o w c' →
+-- settling: 17 exactly for a record that is no desk's, then 16 exactly for an unknown edition or way, else 0, a number
+-- of the verdict by their book, or 21; with a number the record stays
+pub anthercup-settle-refuses : (e y : ℕ) (c o : List ℕ) (w : ℕ) (c' : List ℕ) → firmware.settle-gives e y c o w c' →
     Octets c → Octets o →
-    ((wordNumber w ≤ 8) ⊎ ((wordNumber w ≡ 16) ⊎ ((wordNumber w ≡ 17) ⊎ (wordNumber w ≡ 21))))
-    × ((wordNumber w ≡ 17) ↔ (IsDesk c → ⊥)) × ((wordNumber w ≡ 16) ↔ (IsDesk c × (T (edition e) → ⊥)))
+    ((wordNumber w ≡ 0) ⊎ ((T (known e y) × T (verdictNumber (languageOf (bookOf e y)) (wordNumber w)))
+    ⊎ ((wordNumber w ≡ 16) ⊎ ((wordNumber w ≡ 17) ⊎ (wordNumber w ≡ 21)))))
+    × ((wordNumber w ≡ 17) ↔ (IsDesk c → ⊥)) × ((wordNumber w ≡ 16) ↔ (IsDesk c × (T (known e y) → ⊥)))
     × (1 ≤ wordNumber w → c' ≡ c)
-anthercup-settle-refuses e c o w c' h k q = (
-  firmware.settle-numbers e c o w c' h q,
-  firmware.seventeen-iff e c o w c' h q,
-  firmware.sixteen-iff e c o w c' h q,
-  firmware.refusal-stays e c o w c' h k q,
+anthercup-settle-refuses e y c o w c' h k q = (
+  firmware.settle-numbers e y c o w c' h q,
+  firmware.seventeen-iff e y c o w c' h q,
+  firmware.sixteen-iff e y c o w c' h q,
+  firmware.refusal-stays e y c o w c' h k q,
 )
 
--- what counts: 16 for an unknown edition, else 0 or 1 to 8; nothing is lent for writing
-pub anthercup-counted-refuses : (e : ℕ) (o : List ℕ) (t w : ℕ) → firmware.counted-gives e o t w → Octets o →
-    (T (edition e) → wordNumber w ≤ 8) × ((T (edition e) → ⊥) → Unpacked 0 16 0 0 0 0 w)
+-- what counts: 16 for an unknown edition or way, else 0 or a number of the verdict; nothing is lent for writing
+pub anthercup-counted-refuses : (e y : ℕ) (o : List ℕ) (t w : ℕ) → firmware.counted-gives e y o t w → Octets o →
+    (T (known e y) → ZeroOr (verdictNumber (languageOf (bookOf e y))) (wordNumber w))
+    × ((T (known e y) → ⊥) → Unpacked 0 16 0 0 0 0 w)
 unfolding verdict.told
-anthercup-counted-refuses e o t w h q = (λ i. by-known i, λ n. firmware.counted-sixteen e o t w h n)
+anthercup-counted-refuses e y o t w h q = (λ i. by-known i, λ n. firmware.counted-sixteen e y o t w h n)
   where
-    by-known : T (edition e) → wordNumber w ≤ 8
+    by-known : T (known e y) → ZeroOr (verdictNumber (languageOf (bookOf e y))) (wordNumber w)
     by-known i = go (x .verdict) refl
       where
-        x : RecordCounts e o t w
-        x = firmware.counted-word e o t w h q i
+        x : RecordCounts e y o t w
+        x = firmware.counted-word e y o t w h q i
 
-        of-message : (d : Accepts (R e i) o) (v : Option (List ℕ)) → counted (R e i) (d .0) t ≡ v → wordNumber w ≤ 8
-        of-message d none z = omega (arith, x .none-counts (d .0) (d .1) (d .2) z .number)
+        of-message : (d : Accepts (rulesOf (bookOf e y)) o) (v : Option (List ℕ)) →
+            counted (rulesOf (bookOf e y)) (d .0) t ≡ v → wordNumber w ≡ 0
+        of-message d none z = x .none-counts (d .0) (d .1) (d .2) z .number
         of-message d (some v) z =
-            omega (arith, x .counts (d .0) (d .1) (d .2) v (counted-iff (R e i) (d .0) t v .0 z) .number)
+            x .counts (d .0) (d .1) (d .2) v (counted-iff (rulesOf (bookOf e y)) (d .0) t v .0 z) .number
 
-        go : (v : Verdict) → x .verdict ≡ v → wordNumber w ≤ 8
-        go (Accepted n) z = of-message (judging.accepted-iff (x .judged) n .0 z .1) _ refl
-        go (Judged f) y =
-            let z = ap (λ (y : Verdict). verdict.told y .number) y in
-            let l = judging.some-number (x .judged) f y in
-            omega (
-              arith,
-              z,
-              x .refused (omega (arith, z, l)) .number,
-              eight-lenient e i _ .0 (judging.number-of (x .judged) f y) .1,
-            )
+        go : (v : Verdict) → x .verdict ≡ v → ZeroOr (verdictNumber (languageOf (bookOf e y))) (wordNumber w)
+        go (Accepted n) z = inl (of-message (judging.accepted-iff (x .judged) n .0 z .1) _ refl)
+        go (Judged f) u =
+            let z = ap (λ (v : Verdict). verdict.told v .number) u in
+            let l = judging.some-number (x .judged) f u in
+            inr (subst (λ (n : ℕ). T (verdictNumber (languageOf (bookOf e y)) n))
+            (sym (x .refused (omega (arith, z, l)) .number ∙ z)) (judging.number-of (x .judged) f u))
 
--- the caption: 17 for a record of another size than 24, else 0, 1 to 8, or 16 exactly for an unknown edition; with a
--- number the record stays
-pub anthercup-caption-refuses : (e : ℕ) (o d c : List ℕ) (w : ℕ) (c' : List ℕ) →
-    firmware.caption-gives e o d c w c' → Octets o →
+-- the caption: 17 for a record of another size than 24, else 0, a number of the verdict, or 16 exactly for an unknown
+-- edition or way; with a number the record stays
+pub anthercup-caption-refuses : (e y : ℕ) (o d c : List ℕ) (w : ℕ) (c' : List ℕ) →
+    firmware.caption-gives e y o d c w c' → Octets o →
     (length c ≡ partSize →
-    ((T (edition e) × (wordNumber w ≤ 8)) ⊎ ((T (edition e) → ⊥) × (wordNumber w ≡ 16)))
+    ((T (known e y) × ZeroOr (verdictNumber (languageOf (bookOf e y))) (wordNumber w))
+    ⊎ ((T (known e y) → ⊥) × (wordNumber w ≡ 16)))
     × (1 ≤ wordNumber w → c' ≡ c))
     × ((length c ≡ partSize → ⊥) → Seventeen c w c')
 unfolding shown.told
-anthercup-caption-refuses e o d c w c' h q = (
+anthercup-caption-refuses e y o d c w c' h q = (
   λ n.
-      let y = firmware.record-caption e o d c w c' h q n in
-      (so y (decide (edition e)), λ l. y .refused (omega (arith, y .word .number, l))),
-  λ n. firmware.caption-seventeen e o d c w c' h n,
+      let x = firmware.record-caption e y o d c w c' h q n in
+      (so x (decide (known e y)), λ l. x .refused (omega (arith, x .word .number, l))),
+  λ n. firmware.caption-seventeen e y o d c w c' h n,
 )
   where
-    small : (y : RecordFinds e o d c w c') → T (edition e) → (x : Shown) → y .finding .shown ≡ x → wordNumber w ≤ 8
-    small y i (found.InMessage start n) z =
-        omega (arith, y .word .number, ap (λ (x : Shown). shown.told x .number) z)
-    small y i (found.InDirectory start n) z =
-        omega (arith, y .word .number, ap (λ (x : Shown). shown.told x .number) z)
-    small y i (found.Refused f) z =
-        let s = y .finds .by-book (by-lenient e i) in
-        omega (
-          arith,
-          y .word .number,
-          ap (λ (x : Shown). shown.told x .number) z,
-          eight-lenient e i _ .0 (judging.number-of (s .judged) f (finding.declined-so s f z)) .1,
-        )
+    given-so : (x : RecordFinds e y o d c w c') → T (known e y) → (s : Shown) → x .finding .shown ≡ s →
+        ZeroOr (verdictNumber (languageOf (bookOf e y))) (wordNumber w)
+    given-so x i (found.InMessage start n) z = inl (x .word .number ∙ ap (λ (s : Shown). shown.told s .number) z)
+    given-so x i (found.InDirectory start n) z = inl (x .word .number ∙ ap (λ (s : Shown). shown.told s .number) z)
+    given-so x i (found.Refused f) z =
+        let s = x .finds .by-book i in
+        inr (subst (λ (n : ℕ). T (verdictNumber (languageOf (bookOf e y)) n))
+        (sym (x .word .number ∙ ap (λ (s : Shown). shown.told s .number) z))
+        (judging.number-of (s .judged) f (finding.declined-so s f z)))
 
-    so : RecordFinds e o d c w c' → T (edition e) ⊎ (T (edition e) → ⊥) →
-        (T (edition e) × (wordNumber w ≤ 8)) ⊎ ((T (edition e) → ⊥) × (wordNumber w ≡ 16))
-    so y (inl i) = inl (i, small y i _ refl)
-    so y (inr n) = inr (n, y .word .number ∙ y .finds .unknown (λ k. n (edition-of e lenient k)))
+    so : RecordFinds e y o d c w c' → T (known e y) ⊎ (T (known e y) → ⊥) →
+        (T (known e y) × ZeroOr (verdictNumber (languageOf (bookOf e y))) (wordNumber w))
+        ⊎ ((T (known e y) → ⊥) × (wordNumber w ≡ 16))
+    so x (inl i) = inl (i, given-so x i _ refl)
+    so x (inr n) = inr (n, x .word .number ∙ x .finds .unknown n)

@@ -1,5 +1,5 @@
--- Demand 2: reading, writing and settling follow the rules, and invert each other. Over the promises of `read`,
--- `write` and `settle` and of the exports, by every edition and way, whatever outcomes they allow.
+-- Demand 2: reading, writing and settling follow the rules, and invert each other. Over the promises of `read_way` and
+-- `read`, `write` and `settle` and of the exports, by every edition and way, whatever outcomes they allow.
 -- Assumes nothing.
 use Prim.Native.Nat.{ℕ, _≤_, _<_}
 use mathlib.Core.Path.{_≡_, refl, sym, _∙_, ap, subst}
@@ -12,7 +12,7 @@ use Rattle.rules.specs.Tests.{_=?_, _or_, pick}
 use Rattle.rules.proofs.Tests.{pick-not, eq-of, clash}
 use Rattle.rules.proofs.Rivals.{old-rivals, paired-old, rival-old}
 use Rattle.rules.specs.Octets.{Octets}
-use Rattle.rules.specs.Editions.{edition, known, bookOf}
+use Rattle.rules.specs.Editions.{known, bookOf}
 use Rattle.rules.specs.Table.{rulesOf, oldBook, rowIn, rowOf, listedIn, listed, rivalOf}
 use Rattle.rules.specs.declared.Book.{Book}
 use Rattle.rules.specs.declared.Book.the-variants.{PresentStrict, PresentLenient, OldStrict, OldLenient}
@@ -79,13 +79,14 @@ pub says : (r : ℕ) (c : Call) (d : Desk) → desk.call-gives d c → Octets (c
 says r c d h q = desk.says r c d h q
 
 -- the exports do the same on their records
-pub anthercup-reading-follows : (e : ℕ) (o c t : List ℕ) (w : ℕ) (c' t' : List ℕ) →
-    firmware.read-gives e o c t w c' t' → Octets o → length c ≡ draftSize → T (edition e) → RecordReads e o c t w c' t'
-anthercup-reading-follows e o c t w c' t' h q n k = firmware.record-read e o c t w c' t' h q n k
+pub anthercup-reading-follows : (e y : ℕ) (o c t : List ℕ) (w : ℕ) (c' t' : List ℕ) →
+    firmware.read-gives e y o c t w c' t' → Octets o → length c ≡ draftSize → T (known e y) →
+    RecordReads e y o c t w c' t'
+anthercup-reading-follows e y o c t w c' t' h q n k = firmware.record-read e y o c t w c' t' h q n k
 
-pub anthercup-settling-follows : (e : ℕ) (c o : List ℕ) (w : ℕ) (c' : List ℕ) → firmware.settle-gives e c o w c' →
-    Octets o → T (isRecord c) → RecordSettles e (deskIn c) o w c'
-anthercup-settling-follows e c o w c' h q t = firmware.settled-record e c o w c' h q t
+pub anthercup-settling-follows : (e y : ℕ) (c o : List ℕ) (w : ℕ) (c' : List ℕ) →
+    firmware.settle-gives e y c o w c' → Octets o → T (isRecord c) → RecordSettles e y (deskIn c) o w c'
+anthercup-settling-follows e y c o w c' h q t = firmware.settled-record e y c o w c' h q t
 
 pub anthercup-open-by-last : (r : ℕ) (c : List ℕ) → Octets c → T (isRecord c) →
     (xs : List RecordCall) (c' : List ℕ) → firmware.RecordCalls c xs c' →
@@ -93,7 +94,7 @@ pub anthercup-open-by-last : (r : ℕ) (c : List ℕ) → Octets c → T (isReco
 anthercup-open-by-last r c q t xs c' h = firmware.open-by-last r c q t xs c' h
 
 pub anthercup-says : (r : ℕ) (c : List ℕ) → Octets c → T (isRecord c) → (x : RecordCall) →
-    firmware.settle-gives (x .edition) c (x .octets) (x .word) (x .cells) → Octets (x .octets) → SaysIn r x
+    firmware.settle-gives (x .edition) (x .way) c (x .octets) (x .word) (x .cells) → Octets (x .octets) → SaysIn r x
 anthercup-says r c k t x h q = firmware.says r c k t x h q
 
 -- ---- of each pair one counts at most, by every book; in the old edition 08H has no row, and 07H no rival (`one-pair`)
@@ -234,7 +235,7 @@ pub settled-twice : (e w : ℕ) (d : Desk) (o : List ℕ) (r r' : Settling) → 
     desk.settle-gives e w (r .outcome .desk) o r' → Octets o → r' ≡ r
 settled-twice e w d o r r' h k q = desk.settled-twice e w d o r h r' k q
 
-pub anthercup-settled-twice : (e : ℕ) (c o : List ℕ) (w : ℕ) (c' : List ℕ) (w' : ℕ) (c'' : List ℕ) →
-    firmware.settle-gives e c o w c' → firmware.settle-gives e c' o w' c'' → Octets c → Octets o →
+pub anthercup-settled-twice : (e y : ℕ) (c o : List ℕ) (w : ℕ) (c' : List ℕ) (w' : ℕ) (c'' : List ℕ) →
+    firmware.settle-gives e y c o w c' → firmware.settle-gives e y c' o w' c'' → Octets c → Octets o →
     (w' ≡ w) × (c'' ≡ c')
-anthercup-settled-twice e c o w c' w' c'' h k p q = firmware.settled-twice e c o w c' h w' c'' k p q
+anthercup-settled-twice e y c o w c' w' c'' h k p q = firmware.settled-twice e y c o w c' h w' c'' k p q

@@ -1,6 +1,6 @@
 -- Demand 3: the listener gives up at the very octet that spoils the message, and not before. Over the promises of
--- `reset` and `listen` and of the exports, call after call, whatever outcomes they allow; and a whole read of the
--- same octets says the same.
+-- `reset_way`, `reset` and `listen` and of the exports, call after call, whatever outcomes they allow; and a whole read
+-- of the same octets says the same.
 -- Assumes nothing.
 use Prim.Native.Nat.{ℕ, _+_, _≤_}
 use mathlib.Core.Path.{_≡_, refl}
@@ -11,7 +11,7 @@ use lib.Dec.{T}
 use Rattle.rules.specs.Octets.{Octets}
 use Rattle.rules.specs.Language.{languageOf}
 use Rattle.rules.specs.declared.Book.{Book}
-use Rattle.rules.specs.Editions.{lenient, known, bookOf}
+use Rattle.rules.specs.Editions.{known, bookOf}
 use Rattle.rules.proofs.Grammar.{spoken-of}
 use Rattle.listener.specs.Heard.{newListener, stepped, outOfRange, unknownNumbers}
 use Rattle.listener.specs.Answers.{Known, InRange}
@@ -75,16 +75,16 @@ cut-anywhere l x y r r₁ r₂ p p₁ p₂ q = listener.cut-anywhere l x y r r�
 pub reset-is-new : (e w : ℕ) (l : Listener) → listener.reset-gives e w l → l ≡ newListener e w
 reset-is-new e w l h = listener.reset-is-new e w l h
 
--- ---- the exports, on a record that heard h since it was reset to a known edition: the same, read off the word
-module _ (e : ℕ) (c h : List ℕ) (d : firmware.RecordHasHeard e c h) (o : List ℕ) (q : Octets o) (w : ℕ) (c' : List ℕ)
-    (k : firmware.listen-gives c o w c') where
-  pub anthercup-waits-or-answers : RecordHears (languageOf (bookOf e lenient)) e h o w
-  anthercup-waits-or-answers = firmware.demand3 e c h d o q w c' k
+-- ---- the exports, on a record that heard h since it was reset to a known edition and way: the same, read off the word
+module _ (e y : ℕ) (c h : List ℕ) (d : firmware.RecordHasHeard e y c h) (o : List ℕ) (q : Octets o) (w : ℕ)
+    (c' : List ℕ) (k : firmware.listen-gives c o w c') where
+  pub anthercup-waits-or-answers : RecordHears (languageOf (bookOf e y)) e h o w
+  anthercup-waits-or-answers = firmware.demand3 e y c h d o q w c' k
 
   pub anthercup-answer-stays : (((wordNumber w ≡ 0) × (wordSize w ≡ 0)) → ⊥) →
       (o' : List ℕ) (w' : ℕ) (c'' : List ℕ) → firmware.listen-gives c' o' w' c'' →
       (w' ≡ word-of e (wordNumber w) (wordPlace w) (wordParameter w) (wordSize w) 0) × (c'' ≡ c')
-  anthercup-answer-stays n o' w' c'' x = firmware.answer-stays e c h d o q w c' k n o' w' c'' x
+  anthercup-answer-stays n o' w' c'' x = firmware.answer-stays e y c h d o q w c' k n o' w' c'' x
 
 pub anthercup-cut-anywhere : (c x y : List ℕ) (w w₁ w₂ : ℕ) (d d₁ d₂ : List ℕ) →
     firmware.listen-gives c (x ++ y) w d → firmware.listen-gives c x w₁ d₁ → firmware.listen-gives d₁ y w₂ d₂ →

@@ -1,22 +1,23 @@
--- The edition (document 02, Q-5): for each entry point exactly when 16 is given, that every other answer but 17 names
--- the edition, that an edition is kept, and that drafts of two editions are never equal. Over the promises, whatever
--- outcomes they allow, for any numbers at all.
+-- Edition and way (document 02, Q-5 and Q-11): for each entry point exactly when 16 is given, that every other answer
+-- but 17 names the edition, that edition and way are kept, and that drafts of two editions are never equal. Over the
+-- promises, whatever outcomes they allow, for any numbers at all.
 -- Assumes nothing.
 use Prim.Native.Nat.{ℕ, zero, suc, _≤_, _<_}
 use mathlib.Core.Path.{_≡_, refl, sym, _∙_, ap, subst}
 use mathlib.Core.Bool.{Bool}
 use mathlib.Core.Logic.{_⊎_, inl, inr, _↔_}
-use mathlib.Core.List.{List, _∷_, _++_}
+use mathlib.Core.List.{List, _∷_}
 use mathlib.Core.Option.{Option, none, some}
 use native.Mathlib.Omega.{arith}
 use denote.Ref.{RefT, now}
 use lib.ListN.{length, take, drop, getD}
 use lib.Dec.{T}
 use Rattle.rules.specs.Tests.{_=?_, _or_, pick}
-use Rattle.rules.proofs.Tests.{decide, both, either, le-of, eq-of, of-eq}
+use Rattle.rules.proofs.Tests.{decide, both, either, eq-of, of-eq}
 use Rattle.rules.specs.Octets.{Octets}
 use Rattle.rules.proofs.Octets.{octets-append, octets-take, octets-drop}
-use Rattle.rules.specs.Editions.{lenient, edition, known, bookOf}
+use Rattle.rules.specs.Editions.{edition, way, known, bookOf}
+use Rattle.rules.proofs.Editions.{no-way}
 use Rattle.rules.specs.Table.{rulesOf, oldBook, listedIn, listed}
 use Rattle.rules.specs.Message.{Message, messageKind, octets, LegalMessage, Accepts}
 use Rattle.rules.specs.declared.Book.{Book}
@@ -25,6 +26,8 @@ use Rattle.rules.specs.Counting.{counted}
 use Rattle.rules.proofs.Counting.{counted-iff}
 use Rattle.message.specs.declared.Verdict.{Verdict}
 use Rattle.message.specs.declared.Verdict.the-variants.{Accepted, Declined as Judged}
+use Rattle.rules.specs.Language.{languageOf}
+use Rattle.message.specs.Judges.{verdictNumber}
 use Rattle.message.specs.Told as verdict
 use Rattle.message.proofs.Told.{accepted-iff, some-number}
 use Rattle.listener.specs.declared.Listener.{Listener}
@@ -61,13 +64,13 @@ use Rattle.walker.proofs.Promised as walker
 use Rattle.firmware.specs.Word.{wordEdition, wordNumber, Unpacked, Sixteen, Seventeen}
 use Rattle.firmware.specs.DeskRecord.{isRecord}
 use Rattle.firmware.specs.Sizes.{listenerSize, draftSize, partSize}
-use Rattle.firmware.specs.RecordHears.{Stands, Sound, withEdition}
+use Rattle.firmware.specs.RecordHears.{Stands, Numbers, Sound, withNumbers, OwnOrNone}
 use Rattle.firmware.specs.RecordParts.{RecordCounts, RecordFinds}
 use Rattle.firmware.specs.RecordSettles.{IsDesk}
 use Rattle.firmware.proofs.Promised as firmware
-use Rattle.firmware.proofs.OtherEdition.{stands-still, of-octet-11}
+use Rattle.firmware.proofs.OtherNumbers.{stands-still, of-numbers}
 use Rattle.promises.proofs.Demand2.{unlisted}
-use Rattle.promises.proofs.Demand1.{anthercup-read-refuses, anthercup-counted-refuses, anthercup-caption-refuses}
+use Rattle.promises.proofs.Demand1.{ZeroOr, verdict-small, read-small, anthercup-read-refuses, anthercup-counted-refuses, anthercup-caption-refuses}
 
 -- at place 0 and in no parameter, where a number is unknown
 abbrev pub None-known : ℕ → ℕ → ℕ → ℕ → Type 0
@@ -140,15 +143,11 @@ pub settle-names : (e w : ℕ) (d : Desk) (o : List ℕ) (r : Settling) → desk
     Naming (settled.told (r .outcome .answer) .number) (r .edition) e
 settle-names e w d o r h q = let x = desk.settling e w d o r h q in (x .names, x .names-none)
 
-no-way : (w : ℕ) → T (known 1 (suc (suc w))) → ⊥
-unfolding known
-no-way w k = let h = le-of _ _ (both _ _ k .1) in omega arith
-
 is-old : (w : ℕ) → T (known 1 w) → T (oldBook (bookOf 1 w))
 unfolding bookOf oldBook pick _=?_
 is-old zero k = tt
 is-old (suc zero) k = tt
-is-old (suc (suc w)) k = absurd (no-way w k)
+is-old (suc (suc w)) k = absurd (no-way 1 w k)
 
 -- of 13H and 0DH nothing counts in the old edition
 none-counts : (b : Book) → T (oldBook b) → (m : Message) →
@@ -234,97 +233,98 @@ pub unknown-apart : (d : Draft) (s : List ℕ) (e : Draft) (t : List ℕ) (x : B
 unknown-apart d s e t x h n = draft.unknown-apart d s e t x h n
 
 -- ---- the exports: 16 exactly when, read off the word
--- two tests decide a number: a record's size, and then the edition
-by-size : (w n m e : ℕ) → (n ≡ m → T (edition e) → wordNumber w ≤ 9) →
-    (n ≡ m → (T (edition e) → ⊥) → wordNumber w ≡ 16) → ((n ≡ m → ⊥) → wordNumber w ≡ 17) →
-    (wordNumber w ≡ 16) ↔ ((n ≡ m) × (T (edition e) → ⊥))
-by-size w n m e a b c = (λ x. go x (decide (n =? m)) (decide (edition e)), λ x. b (x .0) (x .1))
+-- two tests decide a number: a record's size, and then edition and way
+by-size : (w n m e y : ℕ) → (n ≡ m → T (known e y) → wordNumber w ≤ 10) →
+    (n ≡ m → (T (known e y) → ⊥) → wordNumber w ≡ 16) → ((n ≡ m → ⊥) → wordNumber w ≡ 17) →
+    (wordNumber w ≡ 16) ↔ ((n ≡ m) × (T (known e y) → ⊥))
+by-size w n m e y a b c = (λ x. go x (decide (n =? m)) (decide (known e y)), λ x. b (x .0) (x .1))
   where
-    go : wordNumber w ≡ 16 → T (n =? m) ⊎ (T (n =? m) → ⊥) → T (edition e) ⊎ (T (edition e) → ⊥) →
-        (n ≡ m) × (T (edition e) → ⊥)
+    go : wordNumber w ≡ 16 → T (n =? m) ⊎ (T (n =? m) → ⊥) → T (known e y) ⊎ (T (known e y) → ⊥) →
+        (n ≡ m) × (T (known e y) → ⊥)
     go x (inl s) (inl t) = absurd (omega (arith, x, a (eq-of _ _ s) t))
     go x (inl s) (inr t) = (eq-of _ _ s, t)
     go x (inr s) t = absurd (omega (arith, x, c (λ z. s (of-eq _ _ z))))
 
-pub anthercup-reset-sixteen : (e : ℕ) (c : List ℕ) (w : ℕ) (c' : List ℕ) → firmware.reset-gives e c w c' →
-    (wordNumber w ≡ 16) ↔ ((length c ≡ listenerSize) × (T (edition e) → ⊥))
-anthercup-reset-sixteen e c w c' h =
-    by-size w (length c) listenerSize e
-    (λ n t. omega (arith, firmware.reset-is-new e c w c' h n t .0 .number))
-    (λ n t. firmware.reset-sixteen e c w c' h n t .word .number)
-    (λ n. firmware.reset-seventeen e c w c' h n .word .number)
+pub anthercup-reset-sixteen : (e y : ℕ) (c : List ℕ) (w : ℕ) (c' : List ℕ) → firmware.reset-gives e y c w c' →
+    (wordNumber w ≡ 16) ↔ ((length c ≡ listenerSize) × (T (known e y) → ⊥))
+anthercup-reset-sixteen e y c w c' h =
+    by-size w (length c) listenerSize e y
+    (λ n t. omega (arith, firmware.reset-is-new e y c w c' h n t .0 .number))
+    (λ n t. firmware.reset-sixteen e y c w c' h n t .word .number)
+    (λ n. firmware.reset-seventeen e y c w c' h n .word .number)
 
 pub anthercup-listen-sixteen : (c o : List ℕ) (w : ℕ) (c' : List ℕ) → firmware.listen-gives c o w c' → Octets c →
-    Octets o → (wordNumber w ≡ 16) ↔ (Stands c × (T (edition (getD c 11 0)) → ⊥))
+    Octets o → (wordNumber w ≡ 16) ↔ (Stands c × (Numbers c → ⊥))
 anthercup-listen-sixteen c o w c' h q p = firmware.listen-sixteen c o w c' h q p
 
--- so a record that is sound but for an unknown number in its octet 11 gets 16 and stays, whatever state it is in
-pub anthercup-lent-sixteen : (c : List ℕ) (e : ℕ) (o : List ℕ) (w : ℕ) (c' : List ℕ) → Octets c → Sound c →
-    (T (edition e) → ⊥) → e < 256 → firmware.listen-gives (withEdition e c) o w c' → Octets o →
-    Sixteen (withEdition e c) w c'
-anthercup-lent-sixteen c e o w c' q s n u h p = go (firmware.sound-or-refused d o w c' h v)
+-- so a record that is sound but for an unknown number in its octet 11 or 12, or in both, gets 16 and stays, whatever
+-- state it is in
+module _ (c : List ℕ) (e y : ℕ) (o : List ℕ) (w : ℕ) (c' : List ℕ) (q : Octets c) (s : Sound c)
+    (n : T (known e y) → ⊥) where
+  abbrev d : List ℕ
+  d = withNumbers e y c
+
+  unknown : Numbers d → ⊥
+  unknown t =
+      let z = of-numbers e y n c q s in
+      n (subst (λ (v : ℕ). T (known e v)) (z .1) (subst (λ (v : ℕ). T (known v (getD d 12 0))) (z .0) t))
+
+  pub anthercup-lent-sixteen : OwnOrNone edition (getD c 11 0) e → OwnOrNone way (getD c 12 0) y → e < 256 → y < 256 →
+      firmware.listen-gives (withNumbers e y c) o w c' → Octets o → Sixteen (withNumbers e y c) w c'
+  anthercup-lent-sixteen i j u v h p = go (firmware.sound-or-refused d o w c' h r)
+    where
+      r : Octets d
+      r = octets-append (take 11 c) (e ∷ y ∷ drop 13 c) (octets-take 11 c q) (u, (v, octets-drop 13 c q))
+
+      sixteen : wordNumber w ≡ 16
+      sixteen = firmware.listen-sixteen d o w c' h r p .1 (stands-still e y n c q s i j, unknown)
+
+      go : Sound d ⊎ (Sixteen d w c' ⊎ Seventeen d w c') → Sixteen d w c'
+      go (inl x) = absurd (unknown (x .numbers))
+      go (inr (inl x)) = x
+      go (inr (inr x)) = absurd (omega (arith, sixteen, x .word .number))
+
+pub anthercup-read-sixteen : (e y : ℕ) (o c t : List ℕ) (w : ℕ) (c' t' : List ℕ) →
+    firmware.read-gives e y o c t w c' t' → Octets o →
+    (wordNumber w ≡ 16) ↔ ((length c ≡ draftSize) × (T (known e y) → ⊥))
+anthercup-read-sixteen e y o c t w c' t' h q =
+    by-size w (length c) draftSize e y
+    (λ n k. read-small (bookOf e y) (wordNumber w) (anthercup-read-refuses e y o c t w c' t' h q .0 n k .0))
+    (λ n k. firmware.read-sixteen e y o c t w c' t' h n k .0 .word .number)
+    (λ n. firmware.read-seventeen e y o c t w c' t' h n .0 .word .number)
+
+pub anthercup-settle-sixteen : (e y : ℕ) (c o : List ℕ) (w : ℕ) (c' : List ℕ) → firmware.settle-gives e y c o w c' →
+    Octets o → (wordNumber w ≡ 16) ↔ (IsDesk c × (T (known e y) → ⊥))
+anthercup-settle-sixteen e y c o w c' h q = firmware.sixteen-iff e y c o w c' h q
+
+pub anthercup-counted-sixteen : (e y : ℕ) (o : List ℕ) (t w : ℕ) → firmware.counted-gives e y o t w → Octets o →
+    (wordNumber w ≡ 16) ↔ (T (known e y) → ⊥)
+anthercup-counted-sixteen e y o t w h q =
+    let x = anthercup-counted-refuses e y o t w h q in
+    (λ z k. omega (arith, z, verdict-small (bookOf e y) (wordNumber w) (x .0 k)), λ n. x .1 n .number)
+
+-- the caption's three cases: by known numbers, by unknown ones, and for a record of another size
+abbrev Captioned : ℕ → ℕ → ℕ → Type 0
+Captioned e y k =
+    (T (known e y) × ZeroOr (verdictNumber (languageOf (bookOf e y))) k) ⊎ ((T (known e y) → ⊥) × (k ≡ 16))
+
+pub anthercup-caption-sixteen : (e y : ℕ) (o d c : List ℕ) (w : ℕ) (c' : List ℕ) →
+    firmware.caption-gives e y o d c w c' → Octets o →
+    (wordNumber w ≡ 16) ↔ ((length c ≡ partSize) × (T (known e y) → ⊥))
+anthercup-caption-sixteen e y o d c w c' h q =
+    let x = anthercup-caption-refuses e y o d c w c' h q in
+    by-size w (length c) partSize e y (λ n k. few k (x .0 n .0)) (λ n k. none k (x .0 n .0)) (λ n. x .1 n .word .number)
   where
-    d : List ℕ
-    d = withEdition e c
+    few : T (known e y) → Captioned e y (wordNumber w) → wordNumber w ≤ 10
+    few k (inl z) = verdict-small (bookOf e y) (wordNumber w) (z .1)
+    few k (inr z) = absurd (z .0 k)
 
-    v : Octets d
-    v = octets-append (take 11 c) (e ∷ drop 12 c) (octets-take 11 c q) (u, octets-drop 12 c q)
-
-    unknown : T (edition (getD d 11 0)) → ⊥
-    unknown t = n (subst (λ (x : ℕ). T (edition x)) (of-octet-11 e n c q s) t)
-
-    sixteen : wordNumber w ≡ 16
-    sixteen = firmware.listen-sixteen d o w c' h v p .1 (stands-still e n c q s, unknown)
-
-    go : Sound d ⊎ (Sixteen d w c' ⊎ Seventeen d w c') → Sixteen d w c'
-    go (inl x) = absurd (unknown (x .edition))
-    go (inr (inl x)) = x
-    go (inr (inr x)) = absurd (omega (arith, sixteen, x .word .number))
-
-pub anthercup-read-sixteen : (e : ℕ) (o c t : List ℕ) (w : ℕ) (c' t' : List ℕ) →
-    firmware.read-gives e o c t w c' t' → Octets o →
-    (wordNumber w ≡ 16) ↔ ((length c ≡ draftSize) × (T (edition e) → ⊥))
-anthercup-read-sixteen e o c t w c' t' h q =
-    by-size w (length c) draftSize e
-    (λ n k. anthercup-read-refuses e o c t w c' t' h q .0 n k .0)
-    (λ n k. firmware.read-sixteen e o c t w c' t' h n k .0 .word .number)
-    (λ n. firmware.read-seventeen e o c t w c' t' h n .0 .word .number)
-
-pub anthercup-settle-sixteen : (e : ℕ) (c o : List ℕ) (w : ℕ) (c' : List ℕ) → firmware.settle-gives e c o w c' →
-    Octets o → (wordNumber w ≡ 16) ↔ (IsDesk c × (T (edition e) → ⊥))
-anthercup-settle-sixteen e c o w c' h q = firmware.sixteen-iff e c o w c' h q
-
-pub anthercup-counted-sixteen : (e : ℕ) (o : List ℕ) (t w : ℕ) → firmware.counted-gives e o t w → Octets o →
-    (wordNumber w ≡ 16) ↔ (T (edition e) → ⊥)
-anthercup-counted-sixteen e o t w h q =
-    let x = anthercup-counted-refuses e o t w h q in
-    (λ z k. omega (arith, z, x .0 k), λ n. x .1 n .number)
-
-pub anthercup-caption-sixteen : (e : ℕ) (o d c : List ℕ) (w : ℕ) (c' : List ℕ) →
-    firmware.caption-gives e o d c w c' → Octets o →
-    (wordNumber w ≡ 16) ↔ ((length c ≡ partSize) × (T (edition e) → ⊥))
-anthercup-caption-sixteen e o d c w c' h q =
-    by-size w (length c) partSize e (λ n k. few n k (x .0 n .0)) (λ n k. none n k (x .0 n .0))
-    (λ n. x .1 n .word .number)
-  where
-    x : ((length c ≡ partSize →
-        ((T (edition e) × (wordNumber w ≤ 8)) ⊎ ((T (edition e) → ⊥) × (wordNumber w ≡ 16)))
-        × (1 ≤ wordNumber w → c' ≡ c))
-        × ((length c ≡ partSize → ⊥) → Seventeen c w c'))
-    x = anthercup-caption-refuses e o d c w c' h q
-
-    few : length c ≡ partSize → T (edition e) →
-        (T (edition e) × (wordNumber w ≤ 8)) ⊎ ((T (edition e) → ⊥) × (wordNumber w ≡ 16)) → wordNumber w ≤ 9
-    few n k (inl y) = omega (arith, y .1)
-    few n k (inr y) = absurd (y .0 k)
-
-    none : length c ≡ partSize → (T (edition e) → ⊥) →
-        (T (edition e) × (wordNumber w ≤ 8)) ⊎ ((T (edition e) → ⊥) × (wordNumber w ≡ 16)) → wordNumber w ≡ 16
-    none n k (inl y) = absurd (k (y .0))
-    none n k (inr y) = y .1
+    none : (T (known e y) → ⊥) → Captioned e y (wordNumber w) → wordNumber w ≡ 16
+    none k (inl z) = absurd (k (z .0))
+    none k (inr z) = z .1
 
 -- ---- and which edition a word names: the one told, 0 with 16 and 17
-named-as : (k v e : ℕ) → v ≡ e → k ≤ 9 → Naming k v e
+named-as : (k v e : ℕ) → v ≡ e → k ≤ 10 → Naming k v e
 named-as k v e z h = (λ a b. z, λ x. absurd (other x))
   where
     other : (k ≡ 16) ⊎ (k ≡ 17) → ⊥
@@ -335,105 +335,105 @@ named-none : (k v e : ℕ) → (k ≡ 16) ⊎ (k ≡ 17) → v ≡ 0 → Naming 
 named-none k v e (inl y) z = (λ a b. absurd (a y), λ x. z)
 named-none k v e (inr y) z = (λ a b. absurd (b y), λ x. z)
 
--- by a record's size, and then the edition
-named-by-size : (w n m e : ℕ) → (n ≡ m → T (edition e) → Naming (wordNumber w) (wordEdition w) e) →
-    (n ≡ m → (T (edition e) → ⊥) → Unpacked 0 16 0 0 0 0 w) → ((n ≡ m → ⊥) → Unpacked 0 17 0 0 0 0 w) →
+-- by a record's size, and then edition and way
+named-by-size : (w n m e y : ℕ) → (n ≡ m → T (known e y) → Naming (wordNumber w) (wordEdition w) e) →
+    (n ≡ m → (T (known e y) → ⊥) → Unpacked 0 16 0 0 0 0 w) → ((n ≡ m → ⊥) → Unpacked 0 17 0 0 0 0 w) →
     Naming (wordNumber w) (wordEdition w) e
-named-by-size w n m e a b c = go (decide (n =? m)) (decide (edition e))
+named-by-size w n m e y a b c = go (decide (n =? m)) (decide (known e y))
   where
-    go : T (n =? m) ⊎ (T (n =? m) → ⊥) → T (edition e) ⊎ (T (edition e) → ⊥) → Naming (wordNumber w) (wordEdition w) e
+    go : T (n =? m) ⊎ (T (n =? m) → ⊥) → T (known e y) ⊎ (T (known e y) → ⊥) → Naming (wordNumber w) (wordEdition w) e
     go (inl s) (inl t) = a (eq-of _ _ s) t
     go (inl s) (inr t) = let u = b (eq-of _ _ s) t in named-none _ _ e (inl (u .number)) (u .edition)
     go (inr s) t = let u = c (λ z. s (of-eq _ _ z)) in named-none _ _ e (inr (u .number)) (u .edition)
 
-pub anthercup-reset-names : (e : ℕ) (c : List ℕ) (w : ℕ) (c' : List ℕ) → firmware.reset-gives e c w c' →
+pub anthercup-reset-names : (e y : ℕ) (c : List ℕ) (w : ℕ) (c' : List ℕ) → firmware.reset-gives e y c w c' →
     Naming (wordNumber w) (wordEdition w) e
-anthercup-reset-names e c w c' h =
-    named-by-size w (length c) listenerSize e
-    (λ n t. let u = firmware.reset-is-new e c w c' h n t .0 in named-as _ _ e (u .edition) (omega (arith, u .number)))
-    (λ n t. firmware.reset-sixteen e c w c' h n t .word) (λ n. firmware.reset-seventeen e c w c' h n .word)
+anthercup-reset-names e y c w c' h =
+    named-by-size w (length c) listenerSize e y
+    (λ n t. let u = firmware.reset-is-new e y c w c' h n t .0 in
+    named-as _ _ e (u .edition) (omega (arith, u .number)))
+    (λ n t. firmware.reset-sixteen e y c w c' h n t .word) (λ n. firmware.reset-seventeen e y c w c' h n .word)
 
--- a record names the edition in its octet 11, which is that of its reset after any calls
+-- a record names the edition in its octet 11, which is that of its reset after any calls, as its octet 12 is its way
 pub anthercup-listen-names : (c o : List ℕ) (w : ℕ) (c' : List ℕ) → firmware.listen-gives c o w c' → Octets c →
     Octets o → Naming (wordNumber w) (wordEdition w) (getD c 11 0)
 anthercup-listen-names c o w c' h q p =
     (λ a b. firmware.listen-names c o w c' h q p a b, λ x. go x (firmware.sound-or-refused c o w c' h q))
   where
     go : (wordNumber w ≡ 16) ⊎ (wordNumber w ≡ 17) → Sound c ⊎ (Sixteen c w c' ⊎ Seventeen c w c') → wordEdition w ≡ 0
-    go (inl x) (inl s) = absurd (omega (arith, x, firmware.numbers c o w c' h s p))
-    go (inr x) (inl s) = absurd (omega (arith, x, firmware.numbers c o w c' h s p))
+    go (inl x) (inl s) = absurd (omega (arith, x, firmware.numbers-small c o w c' h s p))
+    go (inr x) (inl s) = absurd (omega (arith, x, firmware.numbers-small c o w c' h s p))
     go x (inr (inl z)) = z .word .edition
     go x (inr (inr z)) = z .word .edition
 
-pub anthercup-edition-kept : (e : ℕ) (c h : List ℕ) → firmware.RecordHasHeard e c h → getD c 11 0 ≡ e
-anthercup-edition-kept e c h d = firmware.edition-kept e c h d
+pub anthercup-numbers-kept : (e y : ℕ) (c h : List ℕ) → firmware.RecordHasHeard e y c h →
+    (getD c 11 0 ≡ e) × (getD c 12 0 ≡ y)
+anthercup-numbers-kept e y c h d = firmware.numbers-kept e y c h d
 
-pub anthercup-read-names : (e : ℕ) (o c t : List ℕ) (w : ℕ) (c' t' : List ℕ) →
-    firmware.read-gives e o c t w c' t' → Octets o → Naming (wordNumber w) (wordEdition w) e
-anthercup-read-names e o c t w c' t' h q =
-    named-by-size w (length c) draftSize e
-    (λ n k. named-as _ _ e (firmware.record-read e o c t w c' t' h q n k .word .edition)
-    (anthercup-read-refuses e o c t w c' t' h q .0 n k .0))
-    (λ n k. firmware.read-sixteen e o c t w c' t' h n k .0 .word)
-    (λ n. firmware.read-seventeen e o c t w c' t' h n .0 .word)
+pub anthercup-read-names : (e y : ℕ) (o c t : List ℕ) (w : ℕ) (c' t' : List ℕ) →
+    firmware.read-gives e y o c t w c' t' → Octets o → Naming (wordNumber w) (wordEdition w) e
+anthercup-read-names e y o c t w c' t' h q =
+    named-by-size w (length c) draftSize e y
+    (λ n k. named-as _ _ e (firmware.record-read e y o c t w c' t' h q n k .word .edition)
+    (read-small (bookOf e y) (wordNumber w) (anthercup-read-refuses e y o c t w c' t' h q .0 n k .0)))
+    (λ n k. firmware.read-sixteen e y o c t w c' t' h n k .0 .word)
+    (λ n. firmware.read-seventeen e y o c t w c' t' h n .0 .word)
 
-pub anthercup-settle-names : (e : ℕ) (c o : List ℕ) (w : ℕ) (c' : List ℕ) → firmware.settle-gives e c o w c' →
+pub anthercup-settle-names : (e y : ℕ) (c o : List ℕ) (w : ℕ) (c' : List ℕ) → firmware.settle-gives e y c o w c' →
     Octets o → Naming (wordNumber w) (wordEdition w) e
-anthercup-settle-names e c o w c' h q = go (decide (isRecord c))
+anthercup-settle-names e y c o w c' h q = go (decide (isRecord c))
   where
     go : T (isRecord c) ⊎ (T (isRecord c) → ⊥) → Naming (wordNumber w) (wordEdition w) e
     go (inl t) =
-        let y = firmware.settled-record e c o w c' h q t in
-        rw (y .word .number, y .word .edition) (y .settles .names, y .settles .names-none)
-    go (inr n) = let u = firmware.no-desk e c o w c' h n .word in named-none _ _ e (inr (u .number)) (u .edition)
+        let x = firmware.settled-record e y c o w c' h q t in
+        rw (x .word .number, x .word .edition) (x .settles .names, x .settles .names-none)
+    go (inr n) = let u = firmware.no-desk e y c o w c' h n .word in named-none _ _ e (inr (u .number)) (u .edition)
 
-pub anthercup-counted-names : (e : ℕ) (o : List ℕ) (t w : ℕ) → firmware.counted-gives e o t w → Octets o →
+pub anthercup-counted-names : (e y : ℕ) (o : List ℕ) (t w : ℕ) → firmware.counted-gives e y o t w → Octets o →
     Naming (wordNumber w) (wordEdition w) e
 unfolding verdict.told
-anthercup-counted-names e o t w h q = go (decide (edition e))
+anthercup-counted-names e y o t w h q = go (decide (known e y))
   where
-    of-message : (x : RecordCounts e o t w) (d : Accepts (rulesOf (bookOf e lenient)) o) (v : Option (List ℕ)) →
-        counted (rulesOf (bookOf e lenient)) (d .0) t ≡ v → wordEdition w ≡ e
+    of-message : (x : RecordCounts e y o t w) (d : Accepts (rulesOf (bookOf e y)) o) (v : Option (List ℕ)) →
+        counted (rulesOf (bookOf e y)) (d .0) t ≡ v → wordEdition w ≡ e
     of-message x d none z = x .none-counts (d .0) (d .1) (d .2) z .edition
     of-message x d (some v) z =
-        x .counts (d .0) (d .1) (d .2) v (counted-iff (rulesOf (bookOf e lenient)) (d .0) t v .0 z) .edition
+        x .counts (d .0) (d .1) (d .2) v (counted-iff (rulesOf (bookOf e y)) (d .0) t v .0 z) .edition
 
-    named : (x : RecordCounts e o t w) (v : Verdict) → x .verdict ≡ v → wordEdition w ≡ e
+    named : (x : RecordCounts e y o t w) (v : Verdict) → x .verdict ≡ v → wordEdition w ≡ e
     named x (Accepted n) z = of-message x (accepted-iff (x .judged) n .0 z .1) _ refl
-    named x (Judged f) y =
-        let z = ap (λ (y : Verdict). verdict.told y .number) y in
-        x .refused (omega (arith, z, some-number (x .judged) f y)) .edition
+    named x (Judged f) u =
+        let z = ap (λ (v : Verdict). verdict.told v .number) u in
+        x .refused (omega (arith, z, some-number (x .judged) f u)) .edition
 
-    go : T (edition e) ⊎ (T (edition e) → ⊥) → Naming (wordNumber w) (wordEdition w) e
+    go : T (known e y) ⊎ (T (known e y) → ⊥) → Naming (wordNumber w) (wordEdition w) e
     go (inl k) =
-        named-as _ _ e (named (firmware.counted-word e o t w h q k) _ refl)
-        (let s = anthercup-counted-refuses e o t w h q .0 k in omega arith)
+        named-as _ _ e (named (firmware.counted-word e y o t w h q k) _ refl)
+        (verdict-small (bookOf e y) (wordNumber w) (anthercup-counted-refuses e y o t w h q .0 k))
     go (inr n) =
-        let u = firmware.counted-sixteen e o t w h n in named-none _ _ e (inl (u .number)) (u .edition)
+        let u = firmware.counted-sixteen e y o t w h n in named-none _ _ e (inl (u .number)) (u .edition)
 
-pub anthercup-caption-names : (e : ℕ) (o d c : List ℕ) (w : ℕ) (c' : List ℕ) →
-    firmware.caption-gives e o d c w c' → Octets o → Naming (wordNumber w) (wordEdition w) e
-anthercup-caption-names e o d c w c' h q = go (decide (length c =? partSize))
+pub anthercup-caption-names : (e y : ℕ) (o d c : List ℕ) (w : ℕ) (c' : List ℕ) →
+    firmware.caption-gives e y o d c w c' → Octets o → Naming (wordNumber w) (wordEdition w) e
+anthercup-caption-names e y o d c w c' h q = go (decide (length c =? partSize))
   where
-    not-17 : length c ≡ partSize →
-        (T (edition e) × (wordNumber w ≤ 8)) ⊎ ((T (edition e) → ⊥) × (wordNumber w ≡ 16)) → wordNumber w ≡ 17 → ⊥
-    not-17 n (inl y) z = omega (arith, z, y .1)
-    not-17 n (inr y) z = omega (arith, z, y .1)
+    not-17 : Captioned e y (wordNumber w) → wordNumber w ≡ 17 → ⊥
+    not-17 (inl x) z = omega (arith, z, verdict-small (bookOf e y) (wordNumber w) (x .1))
+    not-17 (inr x) z = omega (arith, z, x .1)
+
+    none : (x : RecordFinds e y o d c w c') → Captioned e y (wordNumber w) →
+        (wordNumber w ≡ 16) ⊎ (wordNumber w ≡ 17) → wordEdition w ≡ 0
+    none x k (inl z) = x .word .edition ∙ x .finds .names-none (sym (x .word .number) ∙ z)
+    none x k (inr z) = absurd (not-17 k z)
 
     go : T (length c =? partSize) ⊎ (T (length c =? partSize) → ⊥) → Naming (wordNumber w) (wordEdition w) e
     go (inl t) =
         let n = eq-of _ _ t in
-        let y = firmware.record-caption e o d c w c' h q n in
-        let k = anthercup-caption-refuses e o d c w c' h q .0 n .0 in (
-          λ a b. y .word .edition ∙ y .finds .names (λ z. a (y .word .number ∙ z)),
-          λ x. none y k n x,
+        let x = firmware.record-caption e y o d c w c' h q n in
+        let k = anthercup-caption-refuses e y o d c w c' h q .0 n .0 in (
+          λ a b. x .word .edition ∙ x .finds .names (λ z. a (x .word .number ∙ z)),
+          λ z. none x k z,
         )
-      where
-        none : (y : RecordFinds e o d c w c') →
-            (T (edition e) × (wordNumber w ≤ 8)) ⊎ ((T (edition e) → ⊥) × (wordNumber w ≡ 16)) →
-            length c ≡ partSize → (wordNumber w ≡ 16) ⊎ (wordNumber w ≡ 17) → wordEdition w ≡ 0
-        none y k n (inl z) = y .word .edition ∙ y .finds .names-none (sym (y .word .number) ∙ z)
-        none y k n (inr z) = absurd (not-17 n k z)
     go (inr t) =
-        let u = firmware.caption-seventeen e o d c w c' h (λ z. t (of-eq _ _ z)) .word in
+        let u = firmware.caption-seventeen e y o d c w c' h (λ z. t (of-eq _ _ z)) .word in
         named-none _ _ e (inr (u .number)) (u .edition)

@@ -1,5 +1,6 @@
--- Document 01's rows marked P (Octets on each side of the line) and those of document 02, Q-2, Q-3 and Q-5, one list
--- under one claim over the promises of `listen`, `read`, `write`, `settle` and `counted`, whatever outcomes they allow.
+-- Document 01's rows marked P (Octets on each side of the line) and those of document 02, Q-2, Q-3, Q-5 and Q-11, one
+-- list under one claim over the promises of `reset_way` and `reset`, `listen`, `read_way` and `read`, `write`, `settle`
+-- and `counted`, whatever outcomes they allow.
 -- Assumes nothing.
 use Prim.Native.Nat.{ℕ}
 use mathlib.Core.Path.{_≡_, refl, _∙_, ap}
@@ -11,7 +12,7 @@ use Rattle.rules.specs.Tests.{_≤?_, _=?_, _and_, _or_, pick}
 use Rattle.rules.specs.Octets.{total, checksum}
 use Rattle.rules.specs.Contents.{within, inSet, digit, pairFits, pairsFit, someLength, shortMonth, days, monthOf}
 use Rattle.rules.specs.Table.{rulesOf, classFault, rowIn, rowOf, listedIn, listed, classOf, rivalOf, typeFault, formOf, whole}
-use Rattle.rules.specs.Editions.{lenient, edition, known, bookOf, namedBy}
+use Rattle.rules.specs.Editions.{strict, lenient, edition, known, bookOf, namedBy}
 use Rattle.rules.specs.Message.{body, octets, messageKind}
 use Rattle.rules.specs.ContentJudge.{opens, tensFit, onesFit, pairAt, dayFits, calendarAt, calendarKeep, columnAt, judgeOf}
 use Rattle.rules.specs.Refusals.{notedIn}
@@ -19,6 +20,7 @@ use Rattle.rules.specs.Machine.{step, run}
 use Rattle.rules.specs.Judge.{roomFits, rangePossible, somePossible, possible, final, fits, contents, after, fault, standsIn, machine, placeFits, countFits, inRange}
 use Rattle.listener.specs.declared.Answer.{Answer}
 use Rattle.listener.specs.declared.Answer.the-variants as answer
+use Rattle.listener.specs.declared.Listener.{Listener}
 use Rattle.listener.specs.declared.Heard.{Heard}
 use Rattle.listener.proofs.Promised as listener
 use Rattle.listener.specs.Heard.{newListener, heardIn, heardOf, answerOf, taken, stopped}
@@ -65,47 +67,74 @@ pub data Outcomes : Type 0 where
   -- a draft without texts says them, and written into an output as long as they are it is answered so
   writes : Draft → Told → Outcomes
 
+-- by one way, or by the strict and the lenient one
+pub data Ways : Type 0 where
+  by : ℕ → Ways
+  both : Ways
+
 pub record Example : Type 0 where
   pub edition : ℕ
+  pub ways : Ways
   pub octets : List ℕ
   pub outcome : Outcomes
 
--- ---- when it is true: of every outcome that a promise allows, by the row's edition, types without a row carried
-abbrev Heard-as : ℕ → List ℕ → Answer → Type 0
-Heard-as v o w = (r : Heard) → listener.listen-gives (newListener v lenient) o r → r .answer ≡ w
+-- ---- when it is true: of every outcome that a promise allows, by the row's edition and way; by the strict one also of
+-- those of the functions that name none (`reset-gives`, `read-gives`)
+abbrev Heard-as : ℕ → ℕ → List ℕ → Answer → Type 0
+Heard-as v y o w =
+    (l : Listener) → listener.reset-gives v y l → (r : Heard) → listener.listen-gives l o r → r .answer ≡ w
 
-abbrev Read-as : ℕ → List ℕ → ℕ → ℕ → ℕ → Type 0
-Read-as v o k p b =
-    (old : List ℕ) (r : Reading) (area : List ℕ) → reader.read-gives v lenient o old r area →
+abbrev Read-as : ℕ → ℕ → List ℕ → ℕ → ℕ → ℕ → Type 0
+Read-as v y o k p b =
+    (old : List ℕ) (r : Reading) (area : List ℕ) → reader.read-gives v y o old r area →
     r .answer ≡ packed.Refused (notedIn k p b)
 
-abbrev pub Holds : ℕ → List ℕ → Outcomes → Type 0
-Holds v o (heard w) = Heard-as v o w
-Holds v o (unread k p b) = Read-as v o k p b
-Holds v o (refused k p b) = Heard-as v o (answer.Refused (notedIn k p b)) × Read-as v o k p b
-Holds v o (counts t c) = (p : Part) → message.counted-gives (bookOf v lenient) o t p → partOf o p ≡ c
-Holds v o (settles d) =
-    (r : Settling) → desk.settle-gives v lenient newDesk o r →
+abbrev pub Holds : ℕ → ℕ → List ℕ → Outcomes → Type 0
+Holds v y o (heard w) = Heard-as v y o w
+Holds v y o (unread k p b) = Read-as v y o k p b
+Holds v y o (refused k p b) = Heard-as v y o (answer.Refused (notedIn k p b)) × Read-as v y o k p b
+Holds v y o (counts t c) = (p : Part) → message.counted-gives (bookOf v y) o t p → partOf o p ≡ c
+Holds v y o (settles d) =
+    (r : Settling) → desk.settle-gives v y newDesk o r →
     r ≡ record { edition = v; outcome = record { desk = d; answer = settled.Done } }
-Holds v o (writes d a) =
+Holds v y o (writes d a) =
     (octets (messageOf d []) ≡ o) × (d .edition ≡ v)
     × ((old : List ℕ) (w : Writing) (out : List ℕ) → length old ≡ length o →
-    writer.write-gives lenient d [] old w out → told (w .answer) ≡ a)
+    writer.write-gives y d [] old w out → told (w .answer) ≡ a)
+
+abbrev pub HoldsBy : ℕ → Ways → List ℕ → Outcomes → Type 0
+HoldsBy v (by y) o x = Holds v y o x
+HoldsBy v both o x = Holds v strict o x × Holds v lenient o x
 
 abbrev pub All : List Example → Type 0
 All [] = Unit {0}
-All (r ∷ rs) = Holds (r .edition) (r .octets) (r .outcome) × All rs
+All (r ∷ rs) = HoldsBy (r .edition) (r .ways) (r .octets) (r .outcome) × All rs
 
 -- ---- the rows
+-- document 01's, by both ways
 abbrev says : List ℕ → Outcomes → Example
-says o x = record { edition = 0; octets = o; outcome = x }
+says o x = record { edition = 0; ways = both; octets = o; outcome = x }
+
+-- those with 05H read lenient (document 02, Q-11)
+abbrev carries : List ℕ → Outcomes → Example
+carries o x = record { edition = 0; ways = by lenient; octets = o; outcome = x }
 
 -- by the old edition, and by one that is none (document 02, Q-5)
 abbrev old : List ℕ → Outcomes → Example
-old o x = record { edition = 1; octets = o; outcome = x }
+old o x = record { edition = 1; ways = by lenient; octets = o; outcome = x }
 
 abbrev unknown : List ℕ → Outcomes → Example
-unknown o x = record { edition = 2; octets = o; outcome = x }
+unknown o x = record { edition = 2; ways = both; octets = o; outcome = x }
+
+-- by the strict way of both editions, and by a way that is none (document 02, Q-11)
+abbrev strictly : List ℕ → Outcomes → Example
+strictly o x = record { edition = 0; ways = by strict; octets = o; outcome = x }
+
+abbrev old-strictly : List ℕ → Outcomes → Example
+old-strictly o x = record { edition = 1; ways = by strict; octets = o; outcome = x }
+
+abbrev no-way : List ℕ → Outcomes → Example
+no-way o x = record { edition = 0; ways = by 2; octets = o; outcome = x }
 
 abbrev lamp-on : List ℕ
 lamp-on = 0x82 ∷ 0x03 ∷ 0x0B ∷ 0x01 ∷ 0xFF ∷ 0x70 ∷ []
@@ -133,6 +162,12 @@ february-30 = 0x80 ∷ 0x0A ∷ 0x01 ∷ 0x08 ∷ 0x30 ∷ 0x32 ∷ 0x33 ∷ 0x3
 abbrev february-29 : List ℕ
 february-29 = 0x80 ∷ 0x0A ∷ 0x01 ∷ 0x08 ∷ 0x30 ∷ 0x32 ∷ 0x32 ∷ 0x39 ∷ 0x30 ∷ 0x30 ∷ 0x30 ∷ 0x30 ∷ 0xE0 ∷ []
 
+abbrev two-wait : Desk
+two-wait = record { waiting = waiting.Number 2; lamp = lamp.Unknown; places = replicate 16 0 }
+
+abbrev lit : Desk
+lit = record { waiting = waiting.Unknown; lamp = lamp.On; places = replicate 16 0 }
+
 abbrev pub documents : List Example
 documents =
     says [] (heard answer.Waits) ∷
@@ -145,13 +180,13 @@ documents =
     says (0x80 ∷ 0x0A ∷ 0x01 ∷ 0x08 ∷ 0x31 ∷ 0x33 ∷ []) (refused 5 5 1) ∷
     says (0x82 ∷ 0x03 ∷ 0x0B ∷ 0x01 ∷ 0x80 ∷ []) (refused 5 4 1) ∷
     says lamp-on (heard (answer.Message 6)) ∷
-    says lamp-on (settles (record { waiting = waiting.Unknown; lamp = lamp.On; places = replicate 16 0 })) ∷
+    says lamp-on (settles lit) ∷
     says (0x82 ∷ 0x03 ∷ 0x0B ∷ 0x01 ∷ 0xFF ∷ 0x71 ∷ []) (refused 6 5 0) ∷
     says (0x82 ∷ 0x03 ∷ 0x0B ∷ 0x01 ∷ 0xFF ∷ 0x70 ∷ 0x00 ∷ []) (heard (answer.Message 6)) ∷
     says (0x82 ∷ 0x03 ∷ 0x0B ∷ 0x01 ∷ 0xFF ∷ 0x70 ∷ 0x00 ∷ []) (unread 7 6 0) ∷
     says twice-waiting (heard (answer.Message 9)) ∷
     says twice-waiting (counts 0x13 (some (0x02 ∷ []))) ∷
-    says twice-waiting (settles (record { waiting = waiting.Number 2; lamp = lamp.Unknown; places = replicate 16 0 })) ∷
+    says twice-waiting (settles two-wait) ∷
     says no-caller (heard (answer.Message 9)) ∷
     says no-caller (counts 0x04 (some (0x50 ∷ []))) ∷
     says no-caller (counts 0x02 none) ∷
@@ -162,10 +197,10 @@ documents =
     says april-31 (writes (midnight 4 31) (refusal 12 0)) ∷
     says february-30 (writes (midnight 2 30) (refusal 12 0)) ∷
     says february-29 (writes (midnight 2 29) (success 13)) ∷
-    says (0x80 ∷ 0x06 ∷ 0x05 ∷ 0x01 ∷ 0x00 ∷ 0x01 ∷ []) (refused 3 5 2) ∷
-    says (0x80 ∷ 0x06 ∷ 0x05 ∷ 0x01 ∷ 0x00 ∷ 0x02 ∷ 0x02 ∷ []) (refused 4 6 2) ∷
+    carries (0x80 ∷ 0x06 ∷ 0x05 ∷ 0x01 ∷ 0x00 ∷ 0x01 ∷ []) (refused 3 5 2) ∷
+    carries (0x80 ∷ 0x06 ∷ 0x05 ∷ 0x01 ∷ 0x00 ∷ 0x02 ∷ 0x02 ∷ []) (refused 4 6 2) ∷
     says (0x82 ∷ 0x06 ∷ 0x13 ∷ 0x01 ∷ 0x02 ∷ 0x13 ∷ 0x02 ∷ []) (refused 4 6 2) ∷
-    says (0x80 ∷ 0x06 ∷ 0x05 ∷ 0x01 ∷ 0x00 ∷ 0x02 ∷ 0x01 ∷ 0x41 ∷ []) (refused 5 7 2) ∷
+    carries (0x80 ∷ 0x06 ∷ 0x05 ∷ 0x01 ∷ 0x00 ∷ 0x02 ∷ 0x01 ∷ 0x41 ∷ []) (refused 5 7 2) ∷
     says (0x82 ∷ 0x06 ∷ 0x13 ∷ 0x01 ∷ 0x02 ∷ 0x13 ∷ 0x01 ∷ 0x05 ∷ 0x48 ∷ []) (refused 6 8 0) ∷
     old (0x80 ∷ 0x14 ∷ 0x02 ∷ 0x12 ∷ []) (heard answer.Waits) ∷
     old (0x80 ∷ 0x15 ∷ 0x02 ∷ 0x13 ∷ []) (refused 4 3 1) ∷
@@ -174,7 +209,7 @@ documents =
     old (0x80 ∷ 0x03 ∷ 0x16 ∷ 0x01 ∷ 0x01 ∷ []) (refused 5 4 1) ∷
     old (0x80 ∷ 0x03 ∷ 0x16 ∷ 0x01 ∷ 0x03 ∷ []) (heard answer.Waits) ∷
     old (0x80 ∷ 0x07 ∷ 0x08 ∷ 0x05 ∷ 0x41 ∷ []) (heard answer.Waits) ∷
-    old lamp-on (settles (record { waiting = waiting.Unknown; lamp = lamp.On; places = replicate 16 0 })) ∷
+    old lamp-on (settles lit) ∷
     old twice-waiting (counts 0x13 none) ∷
     old twice-waiting (settles newDesk) ∷
     old february-30 (writes (old-midnight 2 30) (refusal 12 0)) ∷
@@ -182,38 +217,49 @@ documents =
     says (0x80 ∷ 0x06 ∷ 0x08 ∷ 0x01 ∷ 0x4F ∷ 0x07 ∷ 0x01 ∷ 0x41 ∷ 0xD9 ∷ []) (counts 0x07 none) ∷
     unknown [] (refused 16 0 0) ∷
     unknown (0x81 ∷ []) (refused 16 0 0) ∷
+    says (0x80 ∷ 0x03 ∷ []) (heard answer.Waits) ∷
+    strictly (0x80 ∷ 0x03 ∷ 0x05 ∷ []) (refused 10 2 1) ∷
+    carries (0x80 ∷ 0x03 ∷ 0x05 ∷ []) (heard answer.Waits) ∷
+    strictly (0x80 ∷ 0xFF ∷ 0x05 ∷ []) (refused 10 2 1) ∷
+    strictly (0x82 ∷ 0x06 ∷ 0x13 ∷ 0x01 ∷ 0x02 ∷ 0x05 ∷ []) (refused 10 5 2) ∷
+    strictly (0x82 ∷ 0x03 ∷ 0x13 ∷ []) (heard answer.Waits) ∷
+    old-strictly (0x82 ∷ 0x03 ∷ 0x13 ∷ []) (refused 10 2 1) ∷
+    old-strictly (0x82 ∷ 0x03 ∷ 0x0B ∷ []) (heard answer.Waits) ∷
+    no-way [] (refused 16 0 0) ∷
     []
 
 -- ---- a row is true where its outcome is computed
-hears : (v : ℕ) (o : List ℕ) (w : Answer) → heardOf (newListener v lenient) o .answer ≡ w → Heard-as v o w
-hears v o w e r h = ap (λ (x : Heard). x .answer) (listener.listen-is (newListener v lenient) o r h) ∙ e
+hears : (v y : ℕ) (o : List ℕ) (w : Answer) → heardOf (newListener v y) o .answer ≡ w → Heard-as v y o w
+hears v y o w e l n r h =
+    ap (λ (x : Heard). x .answer) (listener.listen-is l o r h)
+    ∙ ap (λ (x : Listener). heardOf x o .answer) (listener.reset-is-new v y l n) ∙ e
 
-reads : (v : ℕ) (o : List ℕ) (k p b : ℕ) → T (known v lenient) →
-    verdictOf (rulesOf (bookOf v lenient)) o ≡ Declined (notedIn k p b) → Read-as v o k p b
+reads : (v y : ℕ) (o : List ℕ) (k p b : ℕ) → T (known v y) →
+    verdictOf (rulesOf (bookOf v y)) o ≡ Declined (notedIn k p b) → Read-as v y o k p b
 unfolding readOf packOf packFrom
-reads v o k p b t e old r area h =
-    ap (λ (x : Reading). x .answer) (reader.read-is v lenient o old r area h t .0)
-    ∙ ap (packFrom (rulesOf (bookOf v lenient)) o (length old)) e
+reads v y o k p b t e old r area h =
+    ap (λ (x : Reading). x .answer) (reader.read-is v y o old r area h t .0)
+    ∙ ap (packFrom (rulesOf (bookOf v y)) o (length old)) e
 
-unreadable-by : (v : ℕ) (o : List ℕ) → (T (known v lenient) → ⊥) → Read-as v o 16 0 0
-unreadable-by v o n old r area h = ap (λ (x : Reading). x .answer) (reader.read-none v lenient o old r area h n .0)
+unreadable-by : (v y : ℕ) (o : List ℕ) → (T (known v y) → ⊥) → Read-as v y o 16 0 0
+unreadable-by v y o n old r area h = ap (λ (x : Reading). x .answer) (reader.read-none v y o old r area h n .0)
 
-finds : (v : ℕ) (o : List ℕ) (t : ℕ) (c : Option (List ℕ)) →
-    partOf o (countedAt (rulesOf (bookOf v lenient)) o t) ≡ c → Holds v o (counts t c)
-finds v o t c e p h = ap (partOf o) (message.counted-is (bookOf v lenient) o t p h) ∙ e
+finds : (v y : ℕ) (o : List ℕ) (t : ℕ) (c : Option (List ℕ)) →
+    partOf o (countedAt (rulesOf (bookOf v y)) o t) ≡ c → Holds v y o (counts t c)
+finds v y o t c e p h = ap (partOf o) (message.counted-is (bookOf v y) o t p h) ∙ e
 
-leaves : (v : ℕ) (o : List ℕ) (d : Desk) →
-    settleIn v lenient newDesk o ≡ (record { edition = v; outcome = record { desk = d; answer = settled.Done } }) →
-    Holds v o (settles d)
-leaves v o d e r h = desk.settle-is v lenient newDesk o r h ∙ e
+leaves : (v y : ℕ) (o : List ℕ) (d : Desk) →
+    settleIn v y newDesk o ≡ (record { edition = v; outcome = record { desk = d; answer = settled.Done } }) →
+    Holds v y o (settles d)
+leaves v y o d e r h = desk.settle-is v y newDesk o r h ∙ e
 
-written : (v : ℕ) (o : List ℕ) (d : Draft) (a : Told) → octets (messageOf d []) ≡ o → d .edition ≡ v →
-    told (writeIn lenient d [] (length o) .answer) ≡ a → Holds v o (writes d a)
-written v o d a p q e = (
+written : (v y : ℕ) (o : List ℕ) (d : Draft) (a : Told) → octets (messageOf d []) ≡ o → d .edition ≡ v →
+    told (writeIn y d [] (length o) .answer) ≡ a → Holds v y o (writes d a)
+written v y o d a p q e = (
   p,
   q,
-  λ old w out l h. ap (λ (x : Writing). told (x .answer)) (writer.write-in lenient d [] old w out h)
-      ∙ ap (λ (n : ℕ). told (writeIn lenient d [] n .answer)) l
+  λ old w out l h. ap (λ (x : Writing). told (x .answer)) (writer.write-in y d [] old w out h)
+      ∙ ap (λ (n : ℕ). told (writeIn y d [] n .answer)) l
       ∙ e,
 )
 
@@ -225,51 +271,62 @@ a also b = (a, b)
 pub rows : All documents
 unfolding edition known bookOf namedBy writeIn settleIn desk-told.told _≤?_ _=?_ _and_ _or_ pick total checksum body octets within inSet whole digit pairFits pairsFit monthOf formOf rowIn rowOf listedIn listed classOf rivalOf typeFault classFault someLength rulesOf messageKind opens tensFit onesFit pairAt shortMonth days dayFits calendarAt calendarKeep columnAt judgeOf step run roomFits rangePossible somePossible possible final fits contents after fault standsIn machine placeFits countFits inRange newListener heardIn answerOf taken stopped judged verdictOf parameterAt matched searchFrom countedAt partOf waitingAfter lampAfter changeIn changeOf noticed countedIn settledNotice settledMessage settledUnder refusedWith settleOf placeWith absent mayStand placesFit changeBy isFull placesAfter told writeOf measuredOf sized legalBefore legalEntry messageOf parametersOf parameterOf spelled meaningOf inside formIs formNumber kindOf tens ones
 rows =
-    hears 0 _ _ refl also
-    reads 0 _ _ _ _ tt refl also
-    (hears 0 _ _ refl, reads 0 _ _ _ _ tt refl) also
-    (hears 0 _ _ refl, reads 0 _ _ _ _ tt refl) also
-    (hears 0 _ _ refl, reads 0 _ _ _ _ tt refl) also
-    hears 0 _ _ refl also
-    (hears 0 _ _ refl, reads 0 _ _ _ _ tt refl) also
-    (hears 0 _ _ refl, reads 0 _ _ _ _ tt refl) also
-    (hears 0 _ _ refl, reads 0 _ _ _ _ tt refl) also
-    hears 0 _ _ refl also
-    leaves 0 lamp-on (record { waiting = waiting.Unknown; lamp = lamp.On; places = replicate 16 0 }) refl also
-    (hears 0 _ _ refl, reads 0 _ _ _ _ tt refl) also
-    hears 0 _ _ refl also
-    reads 0 _ _ _ _ tt refl also
-    hears 0 _ _ refl also
-    finds 0 _ _ _ refl also
-    leaves 0 twice-waiting (record { waiting = waiting.Number 2; lamp = lamp.Unknown; places = replicate 16 0 }) refl also
-    hears 0 _ _ refl also
-    finds 0 _ _ _ refl also
-    finds 0 _ _ _ refl also
-    leaves 0 no-caller newDesk refl also
-    (hears 0 _ _ refl, reads 0 _ _ _ _ tt refl) also
-    (hears 0 _ _ refl, reads 0 _ _ _ _ tt refl) also
-    hears 0 _ _ refl also
-    written 0 _ _ _ refl refl refl also
-    written 0 _ _ _ refl refl refl also
-    written 0 _ _ _ refl refl refl also
-    (hears 0 _ _ refl, reads 0 _ _ _ _ tt refl) also
-    (hears 0 _ _ refl, reads 0 _ _ _ _ tt refl) also
-    (hears 0 _ _ refl, reads 0 _ _ _ _ tt refl) also
-    (hears 0 _ _ refl, reads 0 _ _ _ _ tt refl) also
-    (hears 0 _ _ refl, reads 0 _ _ _ _ tt refl) also
-    hears 1 _ _ refl also
-    (hears 1 _ _ refl, reads 1 _ _ _ _ tt refl) also
-    hears 0 _ _ refl also
-    (hears 1 _ _ refl, reads 1 _ _ _ _ tt refl) also
-    (hears 1 _ _ refl, reads 1 _ _ _ _ tt refl) also
-    hears 1 _ _ refl also
-    hears 1 _ _ refl also
-    leaves 1 lamp-on (record { waiting = waiting.Unknown; lamp = lamp.On; places = replicate 16 0 }) refl also
-    finds 1 _ _ _ refl also
-    leaves 1 twice-waiting newDesk refl also
-    written 1 _ _ _ refl refl refl also
-    finds 1 _ _ _ refl also
-    finds 0 _ _ _ refl also
-    (hears 2 _ _ refl, unreadable-by 2 _ (λ t. t)) also
-    (hears 2 _ _ refl, unreadable-by 2 _ (λ t. t)) also
+    (hears 0 0 _ _ refl also hears 0 1 _ _ refl) also
+    (reads 0 0 _ _ _ _ tt refl also reads 0 1 _ _ _ _ tt refl) also
+    ((hears 0 0 _ _ refl, reads 0 0 _ _ _ _ tt refl) also (hears 0 1 _ _ refl, reads 0 1 _ _ _ _ tt refl)) also
+    ((hears 0 0 _ _ refl, reads 0 0 _ _ _ _ tt refl) also (hears 0 1 _ _ refl, reads 0 1 _ _ _ _ tt refl)) also
+    ((hears 0 0 _ _ refl, reads 0 0 _ _ _ _ tt refl) also (hears 0 1 _ _ refl, reads 0 1 _ _ _ _ tt refl)) also
+    (hears 0 0 _ _ refl also hears 0 1 _ _ refl) also
+    ((hears 0 0 _ _ refl, reads 0 0 _ _ _ _ tt refl) also (hears 0 1 _ _ refl, reads 0 1 _ _ _ _ tt refl)) also
+    ((hears 0 0 _ _ refl, reads 0 0 _ _ _ _ tt refl) also (hears 0 1 _ _ refl, reads 0 1 _ _ _ _ tt refl)) also
+    ((hears 0 0 _ _ refl, reads 0 0 _ _ _ _ tt refl) also (hears 0 1 _ _ refl, reads 0 1 _ _ _ _ tt refl)) also
+    (hears 0 0 _ _ refl also hears 0 1 _ _ refl) also
+    (leaves 0 0 lamp-on lit refl also
+    leaves 0 1 lamp-on lit refl) also
+    ((hears 0 0 _ _ refl, reads 0 0 _ _ _ _ tt refl) also (hears 0 1 _ _ refl, reads 0 1 _ _ _ _ tt refl)) also
+    (hears 0 0 _ _ refl also hears 0 1 _ _ refl) also
+    (reads 0 0 _ _ _ _ tt refl also reads 0 1 _ _ _ _ tt refl) also
+    (hears 0 0 _ _ refl also hears 0 1 _ _ refl) also
+    (finds 0 0 _ _ _ refl also finds 0 1 _ _ _ refl) also
+    (leaves 0 0 twice-waiting two-wait refl also
+    leaves 0 1 twice-waiting two-wait refl) also
+    (hears 0 0 _ _ refl also hears 0 1 _ _ refl) also
+    (finds 0 0 _ _ _ refl also finds 0 1 _ _ _ refl) also
+    (finds 0 0 _ _ _ refl also finds 0 1 _ _ _ refl) also
+    (leaves 0 0 no-caller newDesk refl also leaves 0 1 no-caller newDesk refl) also
+    ((hears 0 0 _ _ refl, reads 0 0 _ _ _ _ tt refl) also (hears 0 1 _ _ refl, reads 0 1 _ _ _ _ tt refl)) also
+    ((hears 0 0 _ _ refl, reads 0 0 _ _ _ _ tt refl) also (hears 0 1 _ _ refl, reads 0 1 _ _ _ _ tt refl)) also
+    (hears 0 0 _ _ refl also hears 0 1 _ _ refl) also
+    (written 0 0 _ _ _ refl refl refl also written 0 1 _ _ _ refl refl refl) also
+    (written 0 0 _ _ _ refl refl refl also written 0 1 _ _ _ refl refl refl) also
+    (written 0 0 _ _ _ refl refl refl also written 0 1 _ _ _ refl refl refl) also
+    (hears 0 1 _ _ refl, reads 0 1 _ _ _ _ tt refl) also
+    (hears 0 1 _ _ refl, reads 0 1 _ _ _ _ tt refl) also
+    ((hears 0 0 _ _ refl, reads 0 0 _ _ _ _ tt refl) also (hears 0 1 _ _ refl, reads 0 1 _ _ _ _ tt refl)) also
+    (hears 0 1 _ _ refl, reads 0 1 _ _ _ _ tt refl) also
+    ((hears 0 0 _ _ refl, reads 0 0 _ _ _ _ tt refl) also (hears 0 1 _ _ refl, reads 0 1 _ _ _ _ tt refl)) also
+    hears 1 1 _ _ refl also
+    (hears 1 1 _ _ refl, reads 1 1 _ _ _ _ tt refl) also
+    (hears 0 0 _ _ refl also hears 0 1 _ _ refl) also
+    (hears 1 1 _ _ refl, reads 1 1 _ _ _ _ tt refl) also
+    (hears 1 1 _ _ refl, reads 1 1 _ _ _ _ tt refl) also
+    hears 1 1 _ _ refl also
+    hears 1 1 _ _ refl also
+    leaves 1 1 lamp-on lit refl also
+    finds 1 1 _ _ _ refl also
+    leaves 1 1 twice-waiting newDesk refl also
+    written 1 1 _ _ _ refl refl refl also
+    finds 1 1 _ _ _ refl also
+    (finds 0 0 _ _ _ refl also finds 0 1 _ _ _ refl) also
+    ((hears 2 0 _ _ refl, unreadable-by 2 0 _ (λ t. t)) also (hears 2 1 _ _ refl, unreadable-by 2 1 _ (λ t. t))) also
+    ((hears 2 0 _ _ refl, unreadable-by 2 0 _ (λ t. t)) also (hears 2 1 _ _ refl, unreadable-by 2 1 _ (λ t. t))) also
+    (hears 0 0 _ _ refl also hears 0 1 _ _ refl) also
+    (hears 0 0 _ _ refl, reads 0 0 _ _ _ _ tt refl) also
+    hears 0 1 _ _ refl also
+    (hears 0 0 _ _ refl, reads 0 0 _ _ _ _ tt refl) also
+    (hears 0 0 _ _ refl, reads 0 0 _ _ _ _ tt refl) also
+    hears 0 0 _ _ refl also
+    (hears 1 0 _ _ refl, reads 1 0 _ _ _ _ tt refl) also
+    hears 1 0 _ _ refl also
+    (hears 0 2 _ _ refl, unreadable-by 0 2 _ (λ t. t)) also
     tt

@@ -9,3 +9,4 @@ pub mod Told
 pub mod Area
 pub mod Answered
 pub mod ByEdition
+pub mod Ways

@@ -1,4 +1,4 @@
--- What the promises of `read`, `pack` and `fits` say of any octets and any area, over the written rules.
+-- What the promises of `read_way`, `read`, `pack` and `fits` say of any octets and any area, over the written rules.
 -- Assumes nothing.
 use Prim.Native.Nat.{ℕ}
 use mathlib.Core.Path.{_≡_, refl, sym, _∙_, subst}
@@ -6,7 +6,7 @@ use mathlib.Core.Logic.{_⊎_, inl, inr}
 use mathlib.Core.List.{List}
 use lib.ListN.{length}
 use lib.Dec.{T}
-use Rattle.rules.specs.Editions.{known, bookOf}
+use Rattle.rules.specs.Editions.{strict, known, bookOf}
 use Rattle.rules.proofs.Tests.{decide, pick-yes, pick-not}
 use Rattle.rules.specs.Octets.{Octets}
 use Rattle.rules.specs.Table.{rulesOf}
@@ -21,15 +21,38 @@ use Rattle.reader.specs.Told.{told, toldFitting}
 use Rattle.reader.specs.Reads.{Reads, ReadsBy}
 use Rattle.reader.proofs.ByEdition.{by-known, by-unknown}
 use Rattle.reader.proofs.Answered.{reads-of}
+use Rattle.reader.proofs.read_way.Reads as read-way
 use Rattle.reader.proofs.read.Reads as read
 use Rattle.reader.proofs.pack.Reads as pack
 use Rattle.reader.proofs.fits.Reads as fits
 
--- by the edition e and the way w, of the octets o, `read` answers r; the area held `old` and then holds `area`
-abbrev pub read-gives : ℕ → ℕ → List ℕ → List ℕ → Reading → List ℕ → Type 0
-read-gives e w o old r area =
-    (κs : _) × (a : _) × (s : _) × read.Post κs a r s × (a .0 ≡ e) × (a .1 .0 ≡ w) × (a .1 .1 .0 .now ≡ o)
+-- by the edition e and the way w, of the octets o, `read_way` answers r; the area held `old` and then holds `area`
+abbrev pub read-way-gives : ℕ → ℕ → List ℕ → List ℕ → Reading → List ℕ → Type 0
+read-way-gives e w o old r area =
+    (κs : _) × (a : _) × (s : _) × read-way.Post κs a r s × (a .0 ≡ e) × (a .1 .0 ≡ w) × (a .1 .1 .0 .now ≡ o)
     × (a .1 .1 .1 .0 .now ≡ old) × (s .1 .1 .1 .0 .now ≡ area)
+
+-- likewise `read`, no way named
+abbrev pub read-unnamed-gives : ℕ → List ℕ → List ℕ → Reading → List ℕ → Type 0
+read-unnamed-gives e o old r area =
+    (κs : _) × (a : _) × (s : _) × read.Post κs a r s × (a .0 ≡ e) × (a .1 .0 .now ≡ o) × (a .1 .1 .0 .now ≡ old)
+    × (s .1 .1 .0 .now ≡ area)
+
+-- a whole read by the edition e and the way w: `read_way`, or, where that is the strict one, `read`
+abbrev pub read-gives : ℕ → ℕ → List ℕ → List ℕ → Reading → List ℕ → Type 0
+read-gives e w o old r area = read-way-gives e w o old r area ⊎ ((w ≡ strict) × read-unnamed-gives e o old r area)
+
+-- answer and area are those of the definitions, whichever of the two was called
+pub read-told : (e w : ℕ) (o old : List ℕ) (r : Reading) (area : List ℕ) → read-gives e w o old r area →
+    (r ≡ readIn e w o (length old)) × (area ≡ areaIn e w o old)
+read-told e w o old r area (inl h) = (
+  h .3 .0 ∙ (λ i. readIn (h .4 i) (h .5 i) (h .6 i) (length (h .7 i))),
+  sym (h .8) ∙ h .3 .1 ∙ (λ i. areaIn (h .4 i) (h .5 i) (h .6 i) (h .7 i)),
+)
+read-told e w o old r area (inr (z, h)) = (
+  h .3 .0 ∙ (λ i. readIn (h .4 i) (sym z i) (h .5 i) (length (h .6 i))),
+  sym (h .7) ∙ h .3 .1 ∙ (λ i. areaIn (h .4 i) (sym z i) (h .5 i) (h .6 i)),
+)
 
 -- likewise by a book `pack`, which lays down the texts and gives no draft
 abbrev pub pack-gives : Book → List ℕ → List ℕ → Packed → List ℕ → Type 0
@@ -91,13 +114,10 @@ module _ (b : Book) (o old : List ℕ) where
       (same-refusal (x .0 .answer) .2) in
       (x .0, n, p, q, x .2)
 
--- ---- by edition and way (document 02, Q-5)
+-- ---- by edition and way (document 02, Q-5 and Q-11)
 module _ (e w : ℕ) (o old : List ℕ) (r : Reading) (area : List ℕ) (h : read-gives e w o old r area) where
   read-in : (r ≡ readIn e w o (length old)) × (area ≡ areaIn e w o old)
-  read-in = (
-    h .3 .0 ∙ (λ i. readIn (h .4 i) (h .5 i) (h .6 i) (length (h .7 i))),
-    sym (h .8) ∙ h .3 .1 ∙ (λ i. areaIn (h .4 i) (h .5 i) (h .6 i) (h .7 i)),
-  )
+  read-in = read-told e w o old r area h
 
   -- by known numbers their book decides
   pub read-is : T (known e w) →

@@ -76,7 +76,7 @@ unfoldable pub readOf : Rules → List ℕ → ℕ → Reading
 readOf R o room =
     record { edition = R .edition; answer = packOf R o room; draft = draftFrom R o (packOf R o room) }
 
--- ---- by edition and way (document 02, Q-5)
+-- ---- by edition and way (document 02, Q-5 and Q-11)
 -- 16 at 0: the empty draft, and no edition is named
 abbrev pub unreadable : Reading
 unreadable = record { edition = 0; answer = packed.Refused (noted 16 0); draft = emptyOf 0 0 }

@@ -68,7 +68,7 @@ pub record Reads (R : Rules) (o old : List ℕ) (r : Reading) (area : List ℕ) 
   pub refused : 1 ≤ told (r .answer) .number →
       (area ≡ old) × (r .draft ≡ emptyOf (R .edition) 0) × T (readNumber R (told (r .answer) .number))
 
--- the same, by the edition e and the way w (document 02, Q-5)
+-- the same, by the edition e and the way w (document 02, Q-5 and Q-11)
 pub record ReadsBy (e w : ℕ) (o old : List ℕ) (r : Reading) (area : List ℕ) : Type 0 where
   -- by known numbers all that is said of a read by their book
   pub by-book : T (known e w) → Reads (rulesOf (bookOf e w)) o old r area

@@ -15,6 +15,7 @@ ghost use lib.ListN.{length, take, drop};
 ghost use lib.ListN.{length as long};
 ghost use Rattle.rules.specs.Tests.{pick};
 ghost use Rattle.rules.specs.Table.{rulesOf};
+ghost use Rattle.rules.specs.Editions.{strict};
 ghost use Rattle.rules.specs.declared.Form.the-variants as form;
 ghost use Rattle.message.specs.Parameters.{parametersIn, messageIn};
 ghost use Rattle.draft.specs.Meaning.{kindOf, numberOf, digitsAt, meant};
@@ -389,7 +390,7 @@ fn read_by(book: Book, octets: &[u8], area: &mut [u8]) -> Reading
 }
 
 // A whole read: 16 where edition or way is unknown, else as their book says.
-pub fn read(edition: u8, way: u8, octets: &[u8], area: &mut [u8]) -> Reading
+pub fn read_way(edition: u8, way: u8, octets: &[u8], area: &mut [u8]) -> Reading
     ensures answer { λ r. ⌜ r ≡ readIn edition way (now (octets .entry)) (length (now (area .entry))) ⌝ }
     ensures area { λ r. ⌜ now (area .exit) ≡ areaIn edition way (now (octets .entry)) (now (area .entry)) ⌝ }
 {
@@ -404,4 +405,13 @@ pub fn read(edition: u8, way: u8, octets: &[u8], area: &mut [u8]) -> Reading
             draft: draft::empty(0, 0),
         }
     }
+}
+
+// A whole read in the strict way: where no way is named, types that the edition does not list are refused (document
+// 02, Q-11).
+pub fn read(edition: u8, octets: &[u8], area: &mut [u8]) -> Reading
+    ensures answer { λ r. ⌜ r ≡ readIn edition strict (now (octets .entry)) (length (now (area .entry))) ⌝ }
+    ensures area { λ r. ⌜ now (area .exit) ≡ areaIn edition strict (now (octets .entry)) (now (area .entry)) ⌝ }
+{
+    read_way(edition, rules::STRICT, octets, area)
 }

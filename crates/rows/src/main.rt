@@ -2,11 +2,12 @@
 // its length in two octets, and prints one line for each: the octets, their listing, what a new listener answers to
 // them, and the verdict. What it must print was written by the second reader, the table's rows by hand (tools/replay).
 // Before the length stand the numbers of the edition and the way by which a case is heard and judged; a listing is of
-// the present edition, types without a row carried, so the others' cases have none. Of unknown numbers only the
-// listener is asked: it gives 16.
+// the present edition, types without a row carried, so the others' cases have none. By the strict way a listener is
+// asked too that was reset with no way named. Of unknown numbers only the listener is asked: it gives 16.
 use libc::STDIN_FILENO;
 use libc::STDOUT_FILENO;
 use listener::Answer;
+use listener::Listener;
 use message::Verdict;
 use rules::Book;
 ghost use Prim.Native.Nat.{_≤_};
@@ -66,20 +67,31 @@ fn say_title(edition: u8, way: u8, octets: &[u8]) {
     }
 }
 
-fn say_heard(edition: u8, way: u8, octets: &[u8]) {
-    let heard = listener::listen(listener::reset(edition, way), octets);
+// What a new listener answers to the octets.
+fn say_heard(text: &[u8], new: Listener, octets: &[u8]) {
+    let heard = listener::listen(new, octets);
     let answer = heard.answer;
+    say(text);
     match answer {
-        Answer::Waits => say(b"| L waits"),
-        Answer::Message(size) => say_number(b"| L size ", size as u64),
+        Answer::Waits => say(b" waits"),
+        Answer::Message(size) => say_number(b" size ", size as u64),
         Answer::Refused(fault) => {
-            say_number(b"| L ", fault.number as u64);
+            say_number(b" ", fault.number as u64);
             say_number(b" at ", fault.place as u64);
             say_number(b" in ", fault.parameter as u64);
         }
     }
     say_number(b", took ", heard.taken as u64);
     say_number(b", edition ", heard.edition as u64);
+}
+
+// What a listener answers that was reset to a way; where that is the strict one, also what one answers that was reset
+// to none (document 02, Q-11).
+fn say_listeners(edition: u8, way: u8, octets: &[u8]) {
+    say_heard(b"| L", listener::reset_way(edition, way), octets);
+    if way == rules::STRICT {
+        say_heard(b" | default", listener::reset(edition), octets);
+    }
 }
 
 fn say_verdict(book: Book, octets: &[u8]) {
@@ -98,7 +110,7 @@ fn show(edition: u8, way: u8, octets: &[u8]) {
     say_octets(octets);
     say(b"| ");
     say_title(edition, way, octets);
-    say_heard(edition, way, octets);
+    say_listeners(edition, way, octets);
     if rules::is_known(edition, way) {
         say_verdict(rules::book_of(edition, way), octets);
     }

@@ -88,8 +88,3 @@ small R S (suc zero) l m = S .one
 small R S (suc (suc zero)) l m = S .two
 small R S (suc (suc (suc zero))) l m = S .three
 small R S (suc (suc (suc (suc n)))) l m = absurd (omega arith)
-
--- the book of the exports and programs carries types without a row
-pub lenient-others : classFault (rulesOf PresentLenient .others) ≡ 3
-unfolding rulesOf classFault someLength whole pick _≤?_ _or_
-lenient-others = refl

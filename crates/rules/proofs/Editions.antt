@@ -8,11 +8,11 @@ use mathlib.Core.Logic.{_⊎_, inl, inr}
 use native.Mathlib.Omega.{arith}
 use lib.Dec.{T}
 use Rattle.rules.specs.Tests.{_≤?_, _=?_, _and_, _or_, pick}
-use Rattle.rules.proofs.Tests.{both, join, left, right, le-of, of-le, of-eq}
+use Rattle.rules.proofs.Tests.{both, join, left, right, le-of, of-le, eq-of, of-eq, pick-case}
 use Rattle.rules.proofs.Returns.{pick-t, pick-f, or-f, no-eq, holds}
 use Rattle.rules.specs.Contents.{someLength}
 use Rattle.rules.specs.Table.{rulesOf, classFault, whole}
-use Rattle.rules.specs.Editions.{lenient, edition, known, bookOf, namedBy}
+use Rattle.rules.specs.Editions.{strict, lenient, edition, known, bookOf, namedBy}
 use Rattle.rules.specs.declared.Book.{Book}
 use Rattle.rules.specs.declared.Book.the-variants.{PresentStrict, PresentLenient, OldStrict, OldLenient}
 
@@ -25,12 +25,23 @@ pub by-lenient : (e : ℕ) → T (edition e) → T (known e lenient)
 unfolding known
 by-lenient e t = join _ _ t (of-le _ _ (omega arith))
 
--- an edition beyond the last is unknown, and so is a way
-no-edition : (e w : ℕ) → T (known (suc (suc e)) w) → ⊥
-unfolding known edition
-no-edition e w t = let h = le-of _ _ (both _ _ t .0) in omega arith
+pub by-strict : (e : ℕ) → T (edition e) → T (known e strict)
+unfolding known
+by-strict e t = join _ _ t (of-le _ _ (omega arith))
 
-no-way : (e w : ℕ) → T (known e (suc (suc w))) → ⊥
+pub ways-known : (e : ℕ) → known e strict ≡ known e lenient
+unfolding known _≤?_
+ways-known e = refl
+
+-- an edition beyond the last is unknown, and so is a way
+pub beyond : (e : ℕ) → T (edition (suc (suc e))) → ⊥
+unfolding edition
+beyond e t = let h = le-of _ _ t in omega arith
+
+pub no-edition : (e w : ℕ) → T (known (suc (suc e)) w) → ⊥
+no-edition e w t = beyond e (edition-of (suc (suc e)) w t)
+
+pub no-way : (e w : ℕ) → T (known e (suc (suc w))) → ⊥
 unfolding known
 no-way e w t = let h = le-of _ _ (both _ _ t .1) in omega arith
 
@@ -56,6 +67,26 @@ book-way (suc zero) zero t = refl
 book-way (suc zero) (suc zero) t = refl
 book-way (suc zero) (suc (suc w)) t = absurd (no-way 1 w t)
 book-way (suc (suc e)) w t = absurd (no-edition e w t)
+
+-- by unknown numbers a strict one is asked for the range of a record
+abbrev Strict : Book → Type 0
+Strict b = classFault (rulesOf b .others) ≡ 10
+
+strict-books : Strict PresentStrict × Strict OldStrict
+unfolding rulesOf pick classFault someLength whole _≤?_ _or_
+strict-books = (refl, refl)
+
+pub unknown-strict : (e w : ℕ) → (T (known e w) → ⊥) → Strict (bookOf e w)
+unfolding bookOf known edition
+unknown-strict e w n =
+    pick-case Strict (w =? 1) _ _
+    (λ x. let y = eq-of _ _ x in
+    pick-case Strict (e =? 0) _ _
+    (λ z. let k = eq-of _ _ z in absurd (n (join _ _ (of-le _ _ (omega arith)) (of-le _ _ (omega arith)))))
+    (λ _. pick-case Strict (e =? 1) _ _
+    (λ z. let k = eq-of _ _ z in absurd (n (join _ _ (of-le _ _ (omega arith)) (of-le _ _ (omega arith)))))
+    (λ _. strict-books .0)))
+    (λ _. pick-case Strict (e =? 1) _ _ (λ _. strict-books .1) (λ _. strict-books .0))
 
 -- and every book has an edition and a way
 pub numbers-of : (b : Book) → (e : ℕ) × (w : ℕ) × T (known e w) × (bookOf e w ≡ b)

@@ -29,5 +29,7 @@ pub mod Rivals
 pub mod AtIndex
 pub mod Standing
 pub mod Asked
+pub mod Unlisted
+pub mod Ways
 pub mod Settled
 mod OtherLength

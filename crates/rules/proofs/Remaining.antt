@@ -10,9 +10,9 @@ use native.Mathlib.Omega.{arith}
 use lib.ListN.{length, length-append}
 use lib.Dec.{T}
 use Rattle.rules.specs.Tests.{_≤?_, _=?_, _and_, _or_}
-use Rattle.rules.proofs.Tests.{both, join, either, left, right, le-of, of-le, eq-of, of-eq, pick-case, clash}
-use Rattle.rules.specs.Contents.{Range, within, inSet}
-use Rattle.rules.specs.Table.{Rules, classOf, lengthFits, contentsFit, whole}
+use Rattle.rules.proofs.Tests.{both, join, either, left, right, le-of, of-le, eq-of, of-eq, pick-case, pick-yes, clash}
+use Rattle.rules.specs.Contents.{Range, within, inSet, someLength}
+use Rattle.rules.specs.Table.{Rules, classOf, classFault, lengthFits, contentsFit, whole}
 use Rattle.rules.specs.ContentJudge.{okAt, remember, fitsFrom, passes}
 use Rattle.rules.proofs.ClassLaw.{begin, proceed, fit-passes, passes-fit}
 use Rattle.rules.proofs.ContentLaw.{lawful, small, SoundRules}
@@ -131,6 +131,29 @@ has-possible (l ∷ ls) r t = go (has-possible ls r) (either _ _ t)
     go : (T (somePossible ls r) → Fitting ls r) → T (rangePossible l r) ⊎ T (somePossible ls r) → Fitting (l ∷ ls) r
     go f (inl e) = one (either _ _ e)
     go f (inr e) = let d = f e in (d .0, right _ _ (d .1), d .2)
+
+-- what is possible in some room has a length at all
+pub some-possible : (ls : List Range) (r : ℕ) → T (somePossible ls r) → T (someLength ls)
+unfolding somePossible rangePossible someLength
+some-possible [] r t = absurd t
+some-possible (l ∷ ls) r t = go (some-possible ls r) (either _ _ t)
+  where
+    one : T (l .0 + 2 ≤? r and r ≤? l .1 + 2) ⊎ T (l .0 + 5 ≤? r and l .0 ≤? l .1) → T (l .0 ≤? l .1)
+    one (inl e) =
+        let a = le-of _ _ (both _ _ e .0) in
+        let b = le-of _ _ (both _ _ e .1) in
+        of-le _ _ (omega arith)
+    one (inr e) = both _ _ e .1
+
+    go : (T (somePossible ls r) → T (someLength ls)) → T (rangePossible l r) ⊎ T (somePossible ls r) →
+        T (l .0 ≤? l .1 or someLength ls)
+    go f (inl e) = left _ _ (one (either _ _ e))
+    go f (inr e) = right _ _ (f e)
+
+-- so a type that can stand has a class which is never 10
+pub stands-fault : (c : Class) (r : ℕ) → T (possible c r) → classFault c ≡ 3
+unfolding possible classFault
+stands-fault c r t = pick-yes _ _ _ (some-possible (whole c .lengths) r t)
 
 -- what holds where the contents are through, and where they are not, holds at the stage of contents
 pub at-contents : (P : Stage → Type 0) (c : Class) (n i m r : ℕ) → (i ≡ n → P (Header r)) →

@@ -26,7 +26,7 @@ use Rattle.rules.specs.declared.State.{State}
 use Rattle.rules.specs.declared.State.the-variants.{Message}
 
 -- lists of one length that begin equal lists are equal, and so are the rests
-split : (a b c d : List ℕ) → length a ≡ length b → a ++ c ≡ b ++ d → (a ≡ b) × (c ≡ d)
+pub split : (a b c d : List ℕ) → length a ≡ length b → a ++ c ≡ b ++ d → (a ≡ b) × (c ≡ d)
 split [] [] c d l e = (refl, e)
 split [] (y ∷ b) c d l e = absurd (omega arith)
 split (x ∷ a) [] c d l e = absurd (omega arith)

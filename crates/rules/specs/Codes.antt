@@ -5,6 +5,7 @@ use mathlib.Core.Bool.{Bool}
 use mathlib.Core.List.{List, [], _∷_}
 use Rattle.rules.specs.Tests.{_≤?_, _=?_, pick}
 use Rattle.rules.specs.Contents.{Range, inSet, only}
+use Rattle.rules.specs.Editions.{lenient}
 use Rattle.rules.specs.declared.Class.{Class}
 use Rattle.rules.specs.declared.Class.the-variants.{Date, Number, Absent, Name, Lamp, Identity, CallType, Waiting, Forwarded, User, Carried, OldNumber, ShortText, OldForwarded, OldUser, Unlisted}
 
@@ -26,17 +27,20 @@ classCode OldForwarded = 13
 classCode OldUser = 14
 classCode Unlisted = 15
 
--- the classes of the present edition, unlisted types carried, have the codes up to this one
+-- the classes of the present edition's rows have the codes from 1 up to this one
 abbrev pub lastPresent : ℕ
 lastPresent = 10
 
--- and those of the old one: carried, a date, absent, a lamp, and its own
+-- and those of the old one: a date, absent, a lamp, and its own
 abbrev pub oldCodes : List Range
-oldCodes = (0, 1) ∷ (3, 3) ∷ (5, 5) ∷ (11, 14) ∷ []
+oldCodes = (1, 1) ∷ (3, 3) ∷ (5, 5) ∷ (11, 14) ∷ []
 
--- the code of a class that an edition has, types without a row carried; of an unknown edition, of one that any has
-unfoldable pub codeIn : ℕ → ℕ → Bool
-codeIn e k = pick (e =? 0) (k ≤? lastPresent) (pick (e =? 1) (inSet oldCodes k) (k ≤? 14))
+-- the code of a class that an edition has by a way: one of its rows (of an unknown edition, of any), or carried, but
+-- not by the strict way (document 02, Q-11)
+unfoldable pub codeIn : ℕ → ℕ → ℕ → Bool
+codeIn e w k =
+    pick (k =? 0) (lenient ≤? w)
+    (pick (e =? 0) (k ≤? lastPresent) (pick (e =? 1) (inSet oldCodes k) (k ≤? 14)))
 
 -- in the strict way a carried class has no contents
 unfoldable pub strictClass : Class → Class

@@ -7,7 +7,10 @@ use Rattle.rules.specs.Tests.{_≤?_, _=?_, _and_, _or_, pick}
 use Rattle.rules.specs.declared.Book.{Book}
 use Rattle.rules.specs.declared.Book.the-variants.{PresentStrict, PresentLenient, OldStrict, OldLenient}
 
--- the way in which types without a row are carried
+-- the way in which types without a row are refused, and the one in which they are carried
+abbrev pub strict : ℕ
+strict = 0
+
 abbrev pub lenient : ℕ
 lenient = 1
 
@@ -15,9 +18,13 @@ lenient = 1
 unfoldable pub edition : ℕ → Bool
 edition e = e ≤? 1
 
+-- there is a way of this number
+abbrev pub way : ℕ → Bool
+way w = w ≤? 1
+
 -- there are an edition and a way of these numbers
 unfoldable pub known : ℕ → ℕ → Bool
-known e w = edition e and w ≤? 1
+known e w = edition e and way w
 
 -- the book of an edition and a way. Where one is unknown nothing is judged by a book but the range of a record: there
 -- it is a strict one, which has every number that a listener can give

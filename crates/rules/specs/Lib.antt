@@ -8,6 +8,7 @@ pub mod Message
 pub mod Counting
 pub mod Roles
 pub mod Endings
+pub mod Unlisted
 pub mod ContentJudge
 pub mod OctetRows
 pub mod Codes

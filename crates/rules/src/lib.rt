@@ -40,10 +40,10 @@ const LAST_HOUR: u8 = 23;
 
 const LAST_MINUTE: u8 = 59;
 
-// The classes of the present edition, unlisted types carried, have the codes up to this one.
+// The classes of the present edition's rows have the codes from 1 up to this one.
 const LAST_PRESENT: u8 = 10;
 
-// The classes of all editions, unlisted types carried, have the codes up to this one.
+// The classes of all editions' rows have the codes from 1 up to this one.
 const LAST_LISTED: u8 = 14;
 
 // The first of the classes that the old edition alone has.
@@ -286,11 +286,11 @@ pub fn code_of(c: Class) -> u8
     }
 }
 
-// Is it the code of a class that the old edition has: carried, a date, absent, a lamp, or one of its own?
+// Is it the code of a class that a row of the old edition has: a date, absent, a lamp, or one of its own?
 fn old_code(code: u8) -> bool
     ensures { λ r. ⌜ r ≡ inSet oldCodes code ⌝ }
 {
-    if among(0, 1, code) {
+    if among(DATE, DATE, code) {
         true
     } else if among(3, 3, code) {
         true
@@ -301,12 +301,14 @@ fn old_code(code: u8) -> bool
     }
 }
 
-// Is it the code of a class that an edition has, types without a row carried? Of an unknown edition, of one that any
-// edition has.
-pub fn code_in(edition: u8, code: u8) -> bool
-    ensures { λ r. ⌜ r ≡ codeIn edition code ⌝ }
+// Is it the code of a class that a book has: one of the edition's rows, or carried where the way is not the strict one?
+// Of an unknown edition, of the rows of any.
+pub fn code_in(edition: u8, way: u8, code: u8) -> bool
+    ensures { λ r. ⌜ r ≡ codeIn edition way code ⌝ }
 {
-    if edition == PRESENT {
+    if code == CARRIED {
+        LENIENT <= way
+    } else if edition == PRESENT {
         code <= LAST_PRESENT
     } else if edition == OLD {
         old_code(code)

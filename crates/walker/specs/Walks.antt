@@ -1,5 +1,5 @@
 -- What the walker gives, over the written rules (document 01, Drafts): each parameter where it begins, none anywhere
--- else, refusals exactly as the whole read's; by a book, and by an edition and a way (document 02, Q-5).
+-- else, refusals exactly as the whole read's; by a book, and by an edition and a way (document 02, Q-5 and Q-11).
 -- Assumes nothing.
 use Prim.Native.Nat.{ℕ, _+_, _≤_, _<_}
 use mathlib.Core.Path.{_≡_}

@@ -1,6 +1,7 @@
-// Document 01's messages, dates on both sides of document 02's Q-2 and drafts of the old and of an unknown edition
-// (Q-5), written from drafts and printed as octets in hex, a line each; a refusal as its number and place; with each
-// the edition that the answer names.
+// Document 01's messages, dates on both sides of document 02's Q-2, drafts of the old and of an unknown edition (Q-5)
+// and drafts written in the strict and in an unknown way (Q-11), printed as octets in hex, a line each; a refusal as
+// its number and place; with each the edition that the answer names. Where nothing else is said the way is the lenient
+// one.
 use draft::Draft;
 use draft::Entry;
 use draft::Value;
@@ -38,8 +39,8 @@ fn print_edition(edition: u8) {
     io::write_all(STDOUT_FILENO, b"\n");
 }
 
-fn show_in(out: &mut [u8], d: Draft, texts: &[u8]) {
-    let writing = writer::write(rules::LENIENT, d, texts, out);
+fn show_in(out: &mut [u8], way: u8, d: Draft, texts: &[u8]) {
+    let writing = writer::write(way, d, texts, out);
     let answer = writing.answer;
     match answer {
         Written::Message { size } => {
@@ -53,9 +54,13 @@ fn show_in(out: &mut [u8], d: Draft, texts: &[u8]) {
     print_edition(writing.edition);
 }
 
-fn show(d: Draft, texts: &[u8]) {
+fn show_by(way: u8, d: Draft, texts: &[u8]) {
     let mut out = [0u8; 258];
-    show_in(&mut out, d, texts);
+    show_in(&mut out, way, d, texts);
+}
+
+fn show(d: Draft, texts: &[u8]) {
+    show_by(rules::LENIENT, d, texts);
 }
 
 fn one_by(edition: u8, kind: u8, a: Entry) -> Draft {
@@ -139,6 +144,25 @@ fn show_old() {
     show(old(0x80, midnight(2, 30)), digits);
 }
 
+// In the strict way an entry of a type that the draft's edition does not list is 12, and by the lenient way it is
+// written; an unknown way comes before everything that is wrong with a draft.
+fn show_ways() {
+    let digits = b"40912";
+    show_by(rules::STRICT, one(0x82, code(0x13, 2)), digits);
+    show_by(rules::STRICT, one(0x80, carried(0x05, 0, 5)), digits);
+    show_by(rules::LENIENT, one(0x80, carried(0x05, 0, 5)), digits);
+    show_by(
+        rules::STRICT,
+        two(0x82, code(0x13, 2), carried(0x17, 0, 5)),
+        digits,
+    );
+    show_by(rules::STRICT, old(0x82, code(0x0B, 0xFF)), digits);
+    show_by(rules::STRICT, old(0x82, carried(0x13, 0, 5)), digits);
+    show_by(rules::STRICT, old(0x82, code(0x13, 2)), digits);
+    show_by(2, one(0x82, code(0x13, 2)), digits);
+    show_by(255, old(0x81, code(0x13, 2)), digits);
+}
+
 // An unknown edition comes before everything that is wrong with a draft.
 fn show_unknown() {
     let none = b"";
@@ -163,4 +187,5 @@ fn main() {
     show(one(0x80, midnight(2, 30)), texts);
     show_old();
     show_unknown();
+    show_ways();
 }

@@ -105,7 +105,7 @@ module _ (b : Book) (d : Draft) (t old : List ℕ) (w : Written) (out : List ℕ
       Equal d t (draftOf (rulesOf b) (messageOf d t)) (textsOf (rulesOf b) (messageOf d t .parameters) ++ rest)
   reads-back-by n v k e rest = round-trips-of b .draft-again d t (length old) n v k (sym is ∙ e) rest
 
--- ---- by the draft's edition and a way (document 02, Q-5)
+-- ---- by the draft's edition and a way (document 02, Q-5 and Q-11)
 module _ (w : ℕ) (d : Draft) (t old : List ℕ) (r : Writing) (out : List ℕ) (h : write-gives w d t old r out) where
   pub write-in : r ≡ writeIn w d t (length old)
   write-in = h .3 .0 ∙ (λ i. writeIn (h .4 i) (h .5 i) (h .6 i) (length (h .7 i)))

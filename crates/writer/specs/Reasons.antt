@@ -107,7 +107,7 @@ pub record Writes (R : Rules) (d : Draft) (texts old : List ℕ) (w : Written) (
   pub lays : (n : ℕ) → told w ≡ success n → LaidMessage R d texts old new n
   pub keeps : 1 ≤ told w .number → new ≡ old
 
--- the same, by the draft's edition and the way w (document 02, Q-5)
+-- the same, by the draft's edition and the way w (document 02, Q-5 and Q-11)
 pub record WritesBy (w : ℕ) (d : Draft) (texts old : List ℕ) (r : Writing) (new : List ℕ) : Type 0 where
   -- by known numbers all that is said of writing by their book
   pub by-book : T (known (d .edition) w) → Writes (rulesOf (bookOf (d .edition) w)) d texts old (r .answer) new

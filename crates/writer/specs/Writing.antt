@@ -59,7 +59,7 @@ writeOf R d texts room =
     (pick (d .count =? 0) (unwritten 14 0) (pick (suc most ≤? d .count) (unwritten 13 0) (measuredOf R d texts room)))
     (unwritten 11 0)
 
--- by the draft's edition and a way (document 02, Q-5): before all others 16, where one of them is unknown
+-- by the draft's edition and a way (document 02, Q-5 and Q-11): before all others 16, where one of them is unknown
 unfoldable pub writeIn : ℕ → Draft → List ℕ → ℕ → Writing
 writeIn w d texts room =
     pick (known (d .edition) w)

@@ -1,23 +1,11 @@
--- `firmware::anthercup_read` meets its contract: the size first, then the edition, then the whole read.
+-- `firmware::anthercup_read` meets its contract: it is a read in the strict way.
 -- Assumes nothing.
-use mathlib.Core.Path.{refl}
-use Rattle.rules.proofs.Returns.{pick-t, pick-f, via, yes-eq, no-eq}
-use Rattle.firmware.specs.Exports.{readAnswer, readRecord, readTexts}
 use borrow.Author.Needs.{needs}
 use Rattle.firmware.proofs.anthercup_read.Statement.{statement}
 use Rattle.firmware.proofs.anthercup_read.Tie as tie
 
-is-edition-requires : tie.Need-is-edition-requires
-is-edition-requires c κs = search needs
-
-read-into-requires : tie.Need-read-into-requires
-read-into-requires c κs = search needs
-
-plain-requires : tie.Need-plain-requires
-plain-requires c κs = search needs
-
-plain-requires-2 : tie.Need-plain-requires-2
-plain-requires-2 c κs = search needs
+anthercup-read-way-requires : tie.Need-anthercup-read-way-requires
+anthercup-read-way-requires c κs = search needs
 
 same-length : tie.Need-same-length
 same-length c = search needs
@@ -26,43 +14,7 @@ same-length-2 : tie.Need-same-length-2
 same-length-2 c = search needs
 
 returns : tie.Need-returns
-unfolding readAnswer readRecord readTexts
-returns c =
-    let done = c .before .before .before .before in
-    let branch = done .before .before .before in
-    let n = yes-eq _ _ (branch .before .before .if1 .taken) in
-    let k = via _ _ _ (branch .before .is-edition .ensures) (branch .if2 .taken) in
-    let r = done .read-into .ensures in (
-      pick-t _ _ _ _ n (pick-t _ _ _ _ k (r .0)),
-      (pick-t _ _ _ _ n (pick-t _ _ _ _ k (r .1 .0)), pick-t _ _ _ _ n (pick-t _ _ _ _ k (r .1 .1))),
-    )
-
-returns-2 : tie.Need-returns-2
-unfolding readAnswer readRecord readTexts
-returns-2 c =
-    let branch = c .before in
-    let n = yes-eq _ _ (branch .before .before .if1 .taken) in
-    let k = via _ _ _ (branch .before .is-edition .ensures) (branch .if2 .left) in (
-      pick-t _ _ _ _ n (pick-f _ _ _ _ k (c .plain .ensures)),
-      (pick-t _ _ _ _ n (pick-f _ _ _ _ k refl), pick-t _ _ _ _ n (pick-f _ _ _ _ k refl)),
-    )
-
-returns-3 : tie.Need-returns-3
-unfolding readAnswer readRecord readTexts
-returns-3 c =
-    let n = no-eq _ _ (c .before .if1 .left) in
-    (pick-f _ _ _ _ n (c .plain2 .ensures), (pick-f _ _ _ _ n refl, pick-f _ _ _ _ n refl))
+returns c = c .before .before .before .before .anthercup-read-way .ensures
 
 pub anthercup-read-spec : {M : Type 1} → statement M
-anthercup-read-spec =
-    tie.close
-    (tie.spec
-    is-edition-requires
-    read-into-requires
-    plain-requires
-    plain-requires-2
-    same-length
-    same-length-2
-    returns
-    returns-2
-    returns-3)
+anthercup-read-spec = tie.close (tie.spec anthercup-read-way-requires same-length same-length-2 returns)

@@ -37,7 +37,7 @@ returns : tie.Need-returns
 returns c =
     let after-settle = c .before .before .before .before .before .before .before in
     let after-is-record = after-settle .before .before .before .before in
-    settles-known _ _ _ _ (after-is-record .is-record .ensures) (after-settle .before .before .before .if1 .taken) _
+    settles-known _ _ _ _ _ (after-is-record .is-record .ensures) (after-settle .before .before .before .if1 .taken) _
     _ _ _ (after-settle .before .decode .ensures) (after-settle .settle .ensures) (c .desk-word .ensures)
     (c .before .before .before .encode .ensures)
 
@@ -46,7 +46,7 @@ same-length-2 c = search needs
 
 returns-2 : tie.Need-returns-2
 returns-2 c =
-    settles-unknown _ _ _ _ (c .before .before .is-record .ensures) (c .before .if1 .left) _ (c .plain .ensures)
+    settles-unknown _ _ _ _ _ (c .before .before .is-record .ensures) (c .before .if1 .left) _ (c .plain .ensures)
 
 pub anthercup-settle-spec : {M : Type 1} → statement M
 anthercup-settle-spec =

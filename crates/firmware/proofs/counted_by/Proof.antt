@@ -15,11 +15,11 @@ use borrow.Author.Needs.{needs}
 use Rattle.firmware.proofs.counted_by.Statement.{statement}
 use Rattle.firmware.proofs.counted_by.Tie as tie
 
--- the verdict is that of the edition's book
-by-book : (e : ℕ) (b c : Book) (o : List ℕ) (t : ℕ) (v x : Verdict) → b ≡ c → x ≡ verdictOf (rulesOf b) o → x ≡ v →
-    countedUnder e v o t ≡ countedUnder e (verdictOf (rulesOf c) o) o t
-by-book e b c o t v x p q r =
-    ap (λ (y : Verdict). countedUnder e y o t) (sym r ∙ q ∙ ap (λ (z : Book). verdictOf (rulesOf z) o) p)
+-- the verdict is that of the numbers' book
+by-book : (e w : ℕ) (b c : Book) (o : List ℕ) (t : ℕ) (v x : Verdict) → b ≡ c → x ≡ verdictOf (rulesOf b) o → x ≡ v →
+    countedUnder e w v o t ≡ countedUnder e w (verdictOf (rulesOf c) o) o t
+by-book e w b c o t v x p q r =
+    ap (λ (y : Verdict). countedUnder e w y o t) (sym r ∙ q ∙ ap (λ (z : Book). verdictOf (rulesOf z) o) p)
 
 book-of-requires : tie.Need-book-of-requires
 book-of-requires c κs = search needs
@@ -49,14 +49,15 @@ unfolding countedUnder
 returns c =
     let judged = c .before .before .before in
     c .counted-in .ensures
-    ∙ by-book _ _ _ _ _ _ _ (judged .before .book-of .ensures) (judged .judge .ensures) (c .before .enum-told .given .1)
+    ∙ by-book _ _ _ _ _ _ _ _ (judged .before .book-of .ensures) (judged .judge .ensures)
+    (c .before .enum-told .given .1)
 
 returns-2 : tie.Need-returns-2
 unfolding countedUnder
 returns-2 c =
     let judged = c .before .before .before .before in
     c .packed .ensures
-    ∙ by-book _ _ _ _ _ _ _ (judged .before .book-of .ensures) (judged .judge .ensures)
+    ∙ by-book _ _ _ _ _ _ _ _ (judged .before .book-of .ensures) (judged .judge .ensures)
     (c .before .before .verdict .given .1)
 
 pub counted-by-spec : {M : Type 1} → statement M

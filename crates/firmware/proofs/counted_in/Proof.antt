@@ -14,7 +14,7 @@ use borrow.Author.Needs.{needs}
 use Rattle.firmware.proofs.counted_in.Statement.{statement}
 use Rattle.firmware.proofs.counted_in.Tie as tie
 
--- the part is that of the edition's book
+-- the part is that of the numbers' book
 by-book : (e : ℕ) (b c : Book) (o : List ℕ) (t : ℕ) (p x : Part) → b ≡ c → x ≡ countedAt (rulesOf b) o t → x ≡ p →
     partWord e p ≡ partWord e (countedAt (rulesOf c) o t)
 by-book e b c o t p x z q r =

@@ -1,4 +1,4 @@
--- `firmware::decode` meets its contract: the size, then the edition and the fields.
+-- `firmware::decode` meets its contract: the size, then edition, way and fields.
 -- Assumes nothing.
 use mathlib.Core.Path.{_∙_, ap}
 use Rattle.firmware.specs.Record.{decodeOf, stateOf}
@@ -10,6 +10,9 @@ use Rattle.firmware.proofs.decode.Tie as tie
 shared-slice-read-edition : tie.Need-shared-slice-read-edition
 shared-slice-read-edition c = search needs
 
+shared-slice-read-way : tie.Need-shared-slice-read-way
+shared-slice-read-way c = search needs
+
 fields-of-requires : tie.Need-fields-of-requires
 fields-of-requires c κs = search needs
 
@@ -19,8 +22,8 @@ state-of-requires c κs = search needs
 returns : tie.Need-returns
 unfolding decodeOf
 returns c =
-    pick-t _ _ _ _ (yes-eq _ _ (c .before .before .before .if1 .taken))
-    (c .state-of .ensures ∙ ap (stateOf _) (c .before .fields-of .ensures))
+    pick-t _ _ _ _ (yes-eq _ _ (c .before .before .before .before .if1 .taken))
+    (c .state-of .ensures ∙ ap (stateOf _ _) (c .before .fields-of .ensures))
 
 returns-2 : tie.Need-returns-2
 unfolding decodeOf
@@ -29,4 +32,4 @@ returns-2 c = search tests
 pub decode-spec : {M : Type 1} → statement M
 decode-spec =
     tie.close
-    (tie.spec shared-slice-read-edition fields-of-requires state-of-requires returns returns-2)
+    (tie.spec shared-slice-read-edition shared-slice-read-way fields-of-requires state-of-requires returns returns-2)

@@ -1,4 +1,4 @@
--- `firmware::encode` meets its contract: the edition and the fields of the state, laid down.
+-- `firmware::encode` meets its contract: edition, way and the fields of the state, laid down.
 -- Assumes nothing.
 use mathlib.Core.Path.{_∙_, ap}
 use Rattle.firmware.specs.Record.{laidFields, recordOf}
@@ -17,7 +17,7 @@ same-length c = search needs
 
 returns : tie.Need-returns
 unfolding recordOf
-returns c = c .before .before .lay .ensures ∙ ap (laidFields _) (c .before .before .before .fields-for .ensures)
+returns c = c .before .before .lay .ensures ∙ ap (laidFields _ _) (c .before .before .before .fields-for .ensures)
 
 pub encode-spec : {M : Type 1} → statement M
 encode-spec = tie.close (tie.spec fields-for-requires lay-requires same-length returns)

@@ -32,20 +32,17 @@ shared-slice-read-number c = search needs
 shared-slice-read-parameter : tie.Need-shared-slice-read-parameter
 shared-slice-read-parameter c = search needs
 
-shared-slice-read-four : tie.Need-shared-slice-read-four
-shared-slice-read-four c = search needs
+shared-slice-read-three : tie.Need-shared-slice-read-three
+shared-slice-read-three c = search needs
 
-shared-slice-read-four-2 : tie.Need-shared-slice-read-four-2
-shared-slice-read-four-2 c = search needs
+shared-slice-read-three-2 : tie.Need-shared-slice-read-three-2
+shared-slice-read-three-2 c = search needs
 
-shared-slice-read-four-3 : tie.Need-shared-slice-read-four-3
-shared-slice-read-four-3 c = search needs
+shared-slice-read-three-3 : tie.Need-shared-slice-read-three-3
+shared-slice-read-three-3 c = search needs
 
-shared-slice-read-four-4 : tie.Need-shared-slice-read-four-4
-shared-slice-read-four-4 c = search needs
-
-four-requires : tie.Need-four-requires
-four-requires c κs = search needs
+three-requires : tie.Need-three-requires
+three-requires c κs = search needs
 
 shared-slice-read-joined : tie.Need-shared-slice-read-joined
 shared-slice-read-joined c = search needs
@@ -58,7 +55,7 @@ joined-requires c κs = search needs
 
 returns : tie.Need-returns
 unfolding fieldsOf
-returns c = rw (← c .joined .ensures, ← c .before .before .before .four .ensures)
+returns c = rw (← c .joined .ensures, ← c .before .before .before .three .ensures)
 
 pub fields-of-spec : {M : Type 1} → statement M
 fields-of-spec =
@@ -73,11 +70,10 @@ fields-of-spec =
     shared-slice-read-room
     shared-slice-read-number
     shared-slice-read-parameter
-    shared-slice-read-four
-    shared-slice-read-four-2
-    shared-slice-read-four-3
-    shared-slice-read-four-4
-    four-requires
+    shared-slice-read-three
+    shared-slice-read-three-2
+    shared-slice-read-three-3
+    three-requires
     shared-slice-read-joined
     shared-slice-read-joined-2
     joined-requires

@@ -69,7 +69,8 @@ returns : tie.Need-returns
 unfolding laidFields
 returns c =
     let start = c .before .before in
-    stored (laidFields (start .args .edition) (start .args .f)) (start .args .cells .now) (omega arith)
+    stored (laidFields (start .args .edition) (start .args .way) (start .args .f)) (start .args .cells .now)
+    (omega arith)
 
 pub lay-spec : {M : Type 1} → statement M
 lay-spec =

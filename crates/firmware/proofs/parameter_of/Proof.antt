@@ -35,7 +35,7 @@ returns c =
     let branch = c .before .before .before in
     pick-t _ _ _ _ (via _ _ _ (branch .before .code-in .ensures) (branch .if1 .taken))
     (pick-t _ _ _ _ (yes-eq _ _ (c .before .if2 .taken))
-    (known-eq _ _ _ _ _ (rw (c .before .before .class-coded .ensures) at (c .known .ensures))))
+    (known-eq _ _ _ _ _ _ (rw (c .before .before .class-coded .ensures) at (c .known .ensures))))
 
 returns-2 : tie.Need-returns-2
 unfolding parameterState
@@ -43,7 +43,7 @@ returns-2 c =
     let branch = c .before .before .before in
     pick-t _ _ _ _ (via _ _ _ (branch .before .code-in .ensures) (branch .if1 .taken))
     (pick-f _ _ _ _ (no-eq _ _ (c .before .if2 .left))
-    (known-eq _ _ _ _ _ (rw (c .before .before .class-coded .ensures) at (c .known2 .ensures))))
+    (known-eq _ _ _ _ _ _ (rw (c .before .before .class-coded .ensures) at (c .known2 .ensures))))
 
 returns-3 : tie.Need-returns-3
 unfolding parameterState

@@ -19,7 +19,7 @@ use borrow.Author.Needs.{needs}
 use Rattle.firmware.proofs.read_into.Statement.{statement}
 use Rattle.firmware.proofs.read_into.Tie as tie
 
--- what is left of a read by a book; the book is that of the edition
+-- what is left of a read by a book; the book is that of the numbers
 abbrev Left : ℕ → List ℕ → List ℕ → List ℕ → ℕ → List ℕ → List ℕ → Book → Type 0
 Left e o c t w d u b =
     (w ≡ packedWord e (packOf (rulesOf b) o (length t)))

@@ -1,14 +1,14 @@
--- `listener::reset` meets its contract: it is the state in which the machine starts.
+-- `listener::reset` meets its contract: it is a reset to the strict way.
 -- Assumes nothing.
-use mathlib.Core.Path.{refl}
-use Rattle.rules.specs.Judge.{machine}
-use Rattle.listener.specs.Heard.{newListener}
+use borrow.Author.Needs.{needs}
 use Rattle.listener.proofs.reset.Statement.{statement}
 use Rattle.listener.proofs.reset.Tie as tie
 
+reset-way-requires : tie.Need-reset-way-requires
+reset-way-requires c κs = search needs
+
 returns : tie.Need-returns
-unfolding newListener machine
-returns c = refl
+returns c = c .reset-way .ensures
 
 pub reset-spec : {M : Type 1} → statement M
-reset-spec = tie.close (tie.spec returns)
+reset-spec = tie.close (tie.spec reset-way-requires returns)

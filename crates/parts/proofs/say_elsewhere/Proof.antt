@@ -7,8 +7,8 @@ use borrow.Author.Needs.{needs}
 use Rattle.parts.proofs.say_elsewhere.Statement.{statement}
 use Rattle.parts.proofs.say_elsewhere.Tie as tie
 
-sub-read : tie.Need-sub-read
-sub-read c = search needs
+sub-read-way : tie.Need-sub-read-way
+sub-read-way c = search needs
 
 part-area-start : tie.Need-part-area-start
 part-area-start c = search needs
@@ -16,15 +16,15 @@ part-area-start c = search needs
 part-area-end : tie.Need-part-area-end
 part-area-end c = search needs
 
-read-requires : tie.Need-read-requires
-read-requires c κs = search needs
+read-way-requires : tie.Need-read-way-requires
+read-way-requires c κs = search needs
 
 elsewhere-requires : tie.Need-elsewhere-requires
 elsewhere-requires c κs = search needs
 
 slice-aggregate-say-write : tie.Need-slice-aggregate-say-write
 slice-aggregate-say-write c =
-    let read = c .before .before .before .read in
+    let read = c .before .before .before .read-way in
     omega (arith, length-append (read .last .1 .1 .1 .0) [], read .kept .1 .1 .1 .0)
 
 say-write-requires : tie.Need-say-write-requires
@@ -37,10 +37,10 @@ pub say-elsewhere-spec : {M : Type 1} → statement M
 say-elsewhere-spec =
     tie.close
     (tie.spec
-    sub-read
+    sub-read-way
     part-area-start
     part-area-end
-    read-requires
+    read-way-requires
     elsewhere-requires
     slice-aggregate-say-write
     say-write-requires

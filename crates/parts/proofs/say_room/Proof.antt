@@ -10,11 +10,11 @@ use Rattle.parts.proofs.say_room.Tie as tie
 array-borrow-prefix-area : tie.Need-array-borrow-prefix-area
 array-borrow-prefix-area c = search needs
 
-slice-aggregate-read : tie.Need-slice-aggregate-read
-slice-aggregate-read c = sym (length-take-le _ _ (omega (arith, c .before .before .pre)))
+slice-aggregate-read-way : tie.Need-slice-aggregate-read-way
+slice-aggregate-read-way c = sym (length-take-le _ _ (omega (arith, c .before .before .pre)))
 
-read-requires : tie.Need-read-requires
-read-requires c κs = search needs
+read-way-requires : tie.Need-read-way-requires
+read-way-requires c κs = search needs
 
 slice-aggregate-say-number : tie.Need-slice-aggregate-say-number
 slice-aggregate-say-number c = search needs
@@ -36,8 +36,8 @@ say-room-spec =
     tie.close
     (tie.spec
     array-borrow-prefix-area
-    slice-aggregate-read
-    read-requires
+    slice-aggregate-read-way
+    read-way-requires
     slice-aggregate-say-number
     say-number-requires
     say-texts-requires

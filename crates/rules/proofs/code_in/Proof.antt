@@ -1,4 +1,4 @@
--- `rules::code_in` meets its contract: edition by edition.
+-- `rules::code_in` meets its contract: carried by its way, then edition by edition.
 -- Assumes nothing.
 use Rattle.rules.specs.Codes.{codeIn}
 use Rattle.rules.proofs.Returns.{tests}
@@ -22,5 +22,9 @@ returns-3 : tie.Need-returns-3
 unfolding codeIn
 returns-3 c = search tests
 
+returns-4 : tie.Need-returns-4
+unfolding codeIn
+returns-4 c = search tests
+
 pub code-in-spec : {M : Type 1} → statement M
-code-in-spec = tie.close (tie.spec old-code-requires returns returns-2 returns-3)
+code-in-spec = tie.close (tie.spec old-code-requires returns returns-2 returns-3 returns-4)
