@@ -13,14 +13,19 @@
 
 static uint8_t edition, way;
 
-/* parameters as octets; the message around them is made. The same messages by all editions and ways, but for two. The
+/* parameters as octets; the message around them is made. The same messages by all editions and ways, but for three. The
  * fourth, of 258 octets: the old edition takes neither numbers of 20 digits nor names of 50 characters, so there its
  * texts have 18 and 20, and what is carried is so much longer: as many octets and parameters. By the strict way nothing
  * is carried: in the present edition names stand in its place, again as many octets and parameters; in the old one,
  * whose longest parameter has 22 octets, 258 octets take 13 parameters. The first: the old edition does not list 13H,
- * and by the strict way its message has 0BH. */
+ * and by the strict way its message has 0BH. The sixth has one parameter of each type of document 02, Q-4: the old
+ * edition carries them all, and by the strict way refuses it. */
 static size_t message(int which, uint8_t *o) {
     static const uint8_t time[] = {1, 8, '0', '6', '1', '5', '1', '4', '3', '0'};
+    static const char european[] =
+        "\x0F\x0A" "0615143059" "\x10\x01" "7" "\x1A\x01" "8" "\x20\x0E" "FRF" "\x00" "0000023,45" "\x21\x0E" "---"
+        "\x10" "00023-----" "\x22\x0E" "DEM" "\x10" "0007800,12" "\x23\x06" "995958" "\x30\x02" "AB" "\x31\x01" "C"
+        "\x40\x02\x01\x07" "\x50\x03\x81" "Hi" "\x55\x01\x01" "\xE0\x0A" "33 FT  V01";
     size_t n = 2;
     uint8_t sum = 0;
     o[0] = which == 0 ? 0x82 : 0x80;
@@ -50,8 +55,10 @@ static size_t message(int which, uint8_t *o) {
             TEXT(0x60, 67, 0); TEXT(0x61, 68, 0);
         }
         break;
-    default:
+    case 4:
         for (int i = 0; i < 85; i++) TEXT(0x04, 1, 'P');
+        break;
+    default: memcpy(o + n, european, sizeof european - 1), n += sizeof european - 1;
     }
     o[1] = (uint8_t)(n - 2);
     for (size_t i = 0; i < n; i++) sum = (uint8_t)(sum + o[i]);

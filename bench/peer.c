@@ -1,14 +1,14 @@
 /* A plain C listener as a firmware programmer would write it by hand, on the record that include/anthercup.h lays out:
  * the record's size, every code and number, and that unused octets are 0, are judged at entry, then its edition and
- * way; every octet is judged by document 01's rules, or by those of the old edition (document 02, Q-5), as it arrives,
- * a type without a row by the way (document 02, Q-11), and parameters are counted as they begin (document 02, Q-3). */
+ * way; every octet is judged by document 01's rules and document 02's (Q-2, Q-4), or by the old edition's (Q-5), as it
+ * arrives, a type without a row by the way (Q-11), and parameters are counted as they begin (Q-3). */
 #include "peer.h"
 
 #include <string.h>
 
 enum { KIND, SIZE, HEADER, LENGTH, CONTENT, MESSAGE, REFUSED };
-enum { CARRIED, DATE, NUMBER, ABSENT, NAME, LAMP, IDENTITY, CALL_TYPE, WAITING, FORWARDED, USER,
-       OLD_NUMBER, OLD_NAME, OLD_FORWARDED, OLD_USER };
+enum { CARRIED, DATE, NUMBER, ABSENT, NAME, LAMP, IDENTITY, CALL_TYPE, WAITING, FORWARDED, USER, SHORT_TEXT, MOMENT,
+       CHARGE, DURATION, TERMINAL, DISPLAY, SERVICE, EXTENSION, OLD_NUMBER, OLD_FORWARDED, OLD_USER, CLASSES };
 enum { PRESENT, OLD };
 enum { STRICT, LENIENT };
 
@@ -18,14 +18,16 @@ struct state {
 
 static const uint8_t class_of[2][256] = {
     {[0x01] = DATE, [0x02] = NUMBER, [0x03] = NUMBER, [0x04] = ABSENT, [0x07] = NAME, [0x08] = ABSENT, [0x0B] = LAMP,
-     [0x0D] = IDENTITY, [0x0E] = NUMBER, [0x11] = CALL_TYPE, [0x12] = NUMBER, [0x13] = WAITING, [0x15] = FORWARDED,
-     [0x16] = USER},
-    {[0x01] = DATE, [0x02] = OLD_NUMBER, [0x04] = ABSENT, [0x07] = OLD_NAME, [0x0B] = LAMP, [0x12] = OLD_NUMBER,
+     [0x0D] = IDENTITY, [0x0E] = NUMBER, [0x0F] = MOMENT, [0x10] = NUMBER, [0x11] = CALL_TYPE, [0x12] = NUMBER,
+     [0x13] = WAITING, [0x15] = FORWARDED, [0x16] = USER, [0x1A] = NUMBER, [0x20] = CHARGE, [0x21] = CHARGE,
+     [0x22] = CHARGE, [0x23] = DURATION, [0x30] = SHORT_TEXT, [0x31] = SHORT_TEXT, [0x40] = TERMINAL, [0x50] = DISPLAY,
+     [0x55] = SERVICE, [0xE0] = EXTENSION},
+    {[0x01] = DATE, [0x02] = OLD_NUMBER, [0x04] = ABSENT, [0x07] = SHORT_TEXT, [0x0B] = LAMP, [0x12] = OLD_NUMBER,
      [0x15] = OLD_FORWARDED, [0x16] = OLD_USER},
 };
-static const uint8_t least[15] = {1, 8, 1, 1, 1, 1, 3, 1, 1, 1, 1, 1, 1, 1, 1};
-static const uint8_t most[15] = {253, 8, 20, 1, 50, 1, 3, 1, 1, 1, 1, 18, 20, 1, 1};
-static const uint8_t from[4] = {1, 1, 0, 0}, to[4] = {12, 31, 23, 59};
+static const uint8_t least[CLASSES] = {1, 8, 1, 1, 1, 1, 3, 1, 1, 1, 1, 1, 8, 14, 6, 2, 1, 1, 10, 1, 1, 1};
+static const uint8_t most[CLASSES] = {253, 8, 20, 1, 50, 1, 3, 1, 1, 1, 1, 20, 10, 14, 6, 21, 253, 1, 10, 18, 1, 1};
+static const uint8_t from[5] = {1, 1, 0, 0, 0}, to[5] = {12, 31, 23, 59, 59};
 static const uint8_t days[13] = {31, 31, 29, 31, 30, 31, 30, 31, 31, 30, 31, 30, 31};
 
 static uint64_t word(unsigned edition, unsigned number, unsigned place, unsigned size, size_t taken,
@@ -44,8 +46,9 @@ static int book_known(const struct state *s) { return s->edition <= OLD && s->wa
 /* each edition has classes of its own; of one that is not known any may stand. Nothing is carried in the strict way */
 static int class_known(const struct state *s) {
     if (s->class == CARRIED) return s->way != STRICT;
-    if (s->edition == PRESENT) return s->class <= USER;
-    if (s->edition == OLD && s->class <= USER) return s->class == DATE || s->class == ABSENT || s->class == LAMP;
+    if (s->edition == PRESENT) return s->class <= EXTENSION;
+    if (s->edition == OLD && s->class <= EXTENSION)
+        return s->class == DATE || s->class == ABSENT || s->class == LAMP || s->class == SHORT_TEXT;
     return s->class <= OLD_USER;
 }
 
@@ -126,45 +129,145 @@ static void ends(struct state *s, unsigned stage, unsigned place, unsigned numbe
 
 static int room_left(unsigned n, unsigned room) { return room == n + 2 || room >= n + 5; }
 
+/* a moment has 8 octets or 10 */
+static int is_length(unsigned c, unsigned n) { return among(least[c], most[c], n) && !(c == MOMENT && n == 9); }
+
 static int possible(unsigned c, unsigned room) {
-    return room >= least[c] + 2u && (room <= most[c] + 2u || room >= least[c] + 5u);
+    return room >= least[c] + 5u || (room >= 2 && is_length(c, room - 2));
 }
 
 /* document 02, Q-2: the days of a month; what is no month has 31 */
 static unsigned days_in(unsigned month) { return month <= 12 ? days[month] : 31; }
 
+static unsigned value_of(unsigned x) { return x >= '0' ? x - '0' : 0; }
+
 /* of a date the tens of the month are remembered, then its days, then what is left of them from the tens of the day
  * on; after that the last digit */
-static unsigned remember(unsigned index, unsigned memory, unsigned x) {
-    unsigned v = x >= '0' ? x - '0' : 0;
+static unsigned date_memory(unsigned index, unsigned memory, unsigned x) {
+    unsigned v = value_of(x);
     if (index == 1) return days_in(10 * memory + v);
     if (index == 2) return 10 * v <= memory ? memory - 10 * v : 0;
     return v;
 }
 
-static int date_octet(const struct state *s, unsigned x) {
-    if (s->index >= 8) return 1;
+/* a digit of a pair from low to high, its tens or, behind them, its ones */
+static int pair_octet(unsigned low, unsigned high, int ones, unsigned tens, unsigned v) {
+    if (ones) return among(low, high, 10 * tens + v);
+    return low <= 10 * v + 9 && 10 * v <= high;
+}
+
+/* a date, of 8 octets, or a moment, of up to 10: its last pair is the second */
+static int date_octet(const struct state *s, unsigned octets, unsigned x) {
+    if (s->index >= octets) return 1;
     unsigned pair = s->index >> 1, v = x - '0';
     if (v > 9) return 0;
     if (s->index == 2) return 10 * v <= s->memory;
     if (s->index == 3) return v <= s->memory && (s->memory <= 21 || v > 0);
-    if (s->index & 1) return among(from[pair], to[pair], 10 * s->memory + v);
-    return from[pair] <= 10 * v + 9 && 10 * v <= to[pair];
+    return pair_octet(from[pair], to[pair], s->index & 1, s->memory, v);
+}
+
+static int duration_octet(const struct state *s, unsigned x) {
+    if (s->index >= 6) return 1;
+    return x - '0' <= 9 && pair_octet(0, s->index < 2 ? 99 : 59, s->index & 1, s->memory, x - '0');
+}
+
+static int is_digit(unsigned x) { return among('0', '9', x); }
+
+static int is_number(unsigned x) { return is_digit(x) || among('(', '*', x) || x == '#' || x == ' ' || x == '-'; }
+
+static int is_character(unsigned x) { return among(0x20, 0x7E, x); }
+
+/* the flags of a charge: not available, in units */
+enum { NOT_AVAILABLE = 0x08, IN_UNITS = 0x10 };
+
+/* document 02, Q-4: what is remembered of a charge: of its currency that it is letters or dashes; then what the ten
+ * octets are, of a cost and of a price whether the comma has come */
+enum { LETTERS, DASHES };
+enum { COST, COST_DECIMALS, PRICED, PRICE_DECIMALS, UNITS, NOTHING };
+
+static int charged_octet(const struct state *s, unsigned x) {
+    int price = s->index >= 9;
+    switch (s->memory) {
+    case COST: return is_digit(x) || x == ',';
+    case PRICED: return is_digit(x) || (price && x == ',');
+    case COST_DECIMALS:
+    case PRICE_DECIMALS: return is_digit(x);
+    case UNITS: return price ? x == '-' : is_digit(x);
+    default: return s->memory == NOTHING && x == '-';
+    }
+}
+
+static int charge_octet(const struct state *s, unsigned x) {
+    if (s->index >= 14) return 1;
+    if (s->index == 0) return among('A', 'Z', x) || x == '-';
+    if (s->index >= 4) return charged_octet(s, x);
+    if (s->memory > DASHES) return 0;
+    if (s->index < 3) return s->memory == DASHES ? x == '-' : among('A', 'Z', x);
+    return s->memory == DASHES ? (x & (NOT_AVAILABLE | IN_UNITS)) != 0 : (x & NOT_AVAILABLE) == 0;
+}
+
+static unsigned charge_memory(const struct state *s, unsigned x) {
+    if (s->index >= 14) return 0;
+    if (s->index == 0) return x == '-' ? DASHES : LETTERS;
+    if (s->index != 3) return s->index > 3 && x == ',' ? s->memory + 1 : s->memory;
+    if (x & NOT_AVAILABLE) return NOTHING;
+    if (x & IN_UNITS) return s->memory == DASHES ? UNITS : PRICED;
+    return COST;
+}
+
+/* a connection type, its code behind it, has two octets; of the others the rest is a number */
+static int terminal_octet(const struct state *s, unsigned x) {
+    if (s->index == 0) return x == 2 || x == 3 || (x == 1 && s->length == 2);
+    return s->memory == 1 ? x <= 7 : is_number(x);
+}
+
+static int display_octet(const struct state *s, unsigned x) {
+    unsigned code = x & 0x7F;
+    return s->index ? is_character(x) : code <= 1 || among(3, 6, code) || code >= 0x70;
+}
+
+/* of the country's code the second octet is remembered where it is a space */
+static int extension_octet(const struct state *s, unsigned x) {
+    switch (s->index) {
+    case 0: return is_digit(x);
+    case 1: return is_digit(x) || x == ' ';
+    case 2: return x == ' ' || (s->memory != 1 && is_digit(x));
+    default: return s->index >= 10 || is_character(x);
+    }
+}
+
+static unsigned remember(const struct state *s, unsigned x) {
+    switch (s->class) {
+    case DATE:
+    case MOMENT: return date_memory(s->index, s->memory, x);
+    case CHARGE: return charge_memory(s, x);
+    case DURATION: return value_of(x);
+    case TERMINAL: return s->index ? s->memory : x == 1;
+    case EXTENSION: return s->index == 1 && x == ' ';
+    default: return 0;
+    }
 }
 
 static int content_octet(const struct state *s, unsigned x) {
     switch (s->class) {
-    case DATE: return date_octet(s, x);
-    case NUMBER: return among('0', '9', x) || among('(', '*', x) || x == '#' || x == ' ' || x == '-';
+    case DATE: return date_octet(s, 8, x);
+    case MOMENT: return date_octet(s, 10, x);
+    case CHARGE: return charge_octet(s, x);
+    case DURATION: return duration_octet(s, x);
+    case TERMINAL: return terminal_octet(s, x);
+    case DISPLAY: return display_octet(s, x);
+    case EXTENSION: return extension_octet(s, x);
+    case NUMBER: return is_number(x);
     case NAME:
-    case OLD_NAME: return among(0x20, 0x7E, x);
-    case OLD_NUMBER: return among('0', '9', x);
+    case SHORT_TEXT: return is_character(x);
+    case OLD_NUMBER: return is_digit(x);
     case ABSENT: return s->index || x == 'O' || x == 'P';
     case LAMP: return s->index || x == 0x00 || x == 0xFF;
     case IDENTITY: return s->index || x == 0x00 || x == 0x55 || x == 0xFF;
     case CALL_TYPE: return s->index || among(1, 7, x) || among(0x10, 0x11, x) || among(0x50, 0x51, x) || x >= 0x81;
     case FORWARDED: return s->index || x <= 6 || x >= 0x80;
     case USER: return s->index || x <= 0x0F;
+    case SERVICE: return s->index || x <= 1 || x >= 0x80;
     case OLD_FORWARDED: return s->index || x <= 6;
     case OLD_USER: return s->index || x == 0 || among(3, 5, x) || among(0x0A, 0x0D, x) || x == 0x0F;
     default: return 1;
@@ -200,14 +303,14 @@ static unsigned judge(struct state *s, unsigned x) {
         s->class = class_of[s->edition][x];
         return 0;
     case LENGTH:
-        if (!among(least[s->class], most[s->class], x) || !room_left(x, s->room)) return 4;
+        if (!is_length(s->class, x) || !room_left(x, s->room)) return 4;
         s->length = x;
         s->room -= x + 2;
         at_content(s);
         return 0;
     default:
         if (!content_octet(s, x)) return 5;
-        s->memory = s->class == DATE ? remember(s->index, s->memory, x) : 0;
+        s->memory = remember(s, x);
         s->index++;
         at_content(s);
         return 0;

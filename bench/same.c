@@ -1,10 +1,12 @@
 /* The peers of the benchmark do our work: the same words, records and areas.
  * The plain listener and the tuned C hear traffic of both editions, for both
  * ways, in random runs, by the edition and way that it is built for or by
- * others, and records of random octets; the tuned C reads it into areas of
- * random sizes, and settles it on a desk that lives on and on desks of random
- * octets. Ours is called by the functions that name no way, too. Unknown
- * editions and ways are named now and then. Usage: same [SEED] */
+ * others, records of random octets, and records inside contents of every
+ * class, at all places and with any memory, also such that no octets lead to;
+ * the tuned C reads the traffic into areas of random sizes, and settles it on a
+ * desk that lives on and on desks of random octets. Ours is called by the
+ * functions that name no way, too. Unknown editions and ways are named now and
+ * then. Usage: same [SEED] */
 #include <stdio.h>
 #include <stdlib.h>
 #include <string.h>
@@ -20,6 +22,9 @@ static unsigned long heard, sound, reads, accepted, nines, settled, done, full;
 
 /* answers that name the old edition, and those with 10 and 16 */
 static unsigned long old, unlisted, unknown;
+
+/* octets inside contents that were taken, and those that were refused */
+static unsigned long stood, spoilt;
 
 /* What a call is told. */
 struct book {
@@ -127,7 +132,7 @@ static uint8_t any_octet(struct traffic *t)
 {
     if (traffic_number(t, 2))
         return 0;
-    return (uint8_t)traffic_number(t, traffic_number(t, 8) ? 17 : 256);
+    return (uint8_t)traffic_number(t, traffic_number(t, 8) ? 23 : 256);
 }
 
 /* Parameters near the most that the octets so far can hold, or that any message
@@ -175,6 +180,63 @@ static void any_record(struct traffic *t, const uint8_t *o, size_t n)
     memcpy(r.peer, r.ours, ANY);
     memcpy(r.tuned, r.ours, ANY);
     all_hear(&r, size, o, n < 5 ? n : 5);
+}
+
+/* An octet that some contents have, or any. */
+static uint8_t content_octet(struct traffic *t)
+{
+    static const uint8_t some[] = {
+        '0', '1', '2', '3', '5', '6', '9', '-', ',', ' ', 'A', 'Z', '@', '[',
+        '#', '*', '(', ')', 'O', 'P', '/', ':', 0x7E, 0x7F, 0x1F, 0x00, 0x01,
+        0x02, 0x03, 0x06, 0x07, 0x08, 0x0F, 0x10, 0x11, 0x18, 0x70, 0x80, 0x81,
+        0x83, 0x87, 0xE0, 0xE8, 0xF0, 0xFF};
+
+    return traffic_number(t, 8) ? some[traffic_number(t, sizeof some)]
+                                : (uint8_t)traffic_number(t, 256);
+}
+
+/* A record inside contents: of a class, of its own length often, near or at
+ * any index, with memories that occur or any; then up to 15 octets, one at a
+ * time or in one run. A digit, a dash or a character is often repeated, so
+ * that runs go on. */
+static void in_contents(struct traffic *t)
+{
+    static const uint8_t lengths[] = {1,  8,  20, 1,  50, 1, 3,   1, 1,  1, 1,
+                                      20, 10, 14, 6,  2,  253, 1, 10, 18, 1, 1};
+    struct records r = {{0}, {0}, {0}};
+    uint8_t o[15], class = (uint8_t)traffic_number(t, 22), length, index;
+    size_t n = traffic_number(t, 2) ? 1 : traffic_number(t, sizeof o + 1);
+    unsigned place;
+
+    length = traffic_number(t, 4) ? lengths[class]
+                                  : (uint8_t)(1 + traffic_number(t, 24));
+    index = (uint8_t)traffic_number(t, length);
+    place = 4u + index + traffic_number(t, 8);
+    for (size_t i = 0; i < n; i++)
+        o[i] = i && traffic_number(t, 2) ? o[i - 1] : content_octet(t);
+    r.ours[0] = 4;
+    r.ours[1] = (uint8_t)traffic_number(t, 256);
+    r.ours[2] = (uint8_t)place;
+    r.ours[3] = (uint8_t)(place >> 8);
+    r.ours[4] = class;
+    r.ours[5] = length;
+    r.ours[6] = index;
+    r.ours[7] = (uint8_t)(traffic_number(t, 2)   ? traffic_number(t, 7)
+                          : traffic_number(t, 4) ? traffic_number(t, 34)
+                                                 : traffic_number(t, 256));
+    r.ours[8] = (uint8_t)(length == 253 ? 0 : traffic_number(t, 9));
+    r.ours[10] = 1;
+    r.ours[11] = class > 18 || (class % 2 && class < 12 && traffic_number(t, 2));
+    r.ours[12] = (uint8_t)(class ? traffic_number(t, 2) : ANTHERCUP_LENIENT);
+    memcpy(r.peer, r.ours, ANY);
+    memcpy(r.tuned, r.ours, ANY);
+    if (traffic_number(t, 4))
+        all_hear(&r, ANTHERCUP_LISTENER_OCTETS, o, n);
+    else
+        for (size_t i = 0; i < n; i++)
+            all_hear(&r, ANTHERCUP_LISTENER_OCTETS, o + i, 1);
+    stood += r.ours[0] <= 4;
+    spoilt += r.ours[0] == 6 && r.ours[9] == 5;
 }
 
 /* ---- Reading ---- */
@@ -250,8 +312,10 @@ static void one_message(struct traffic *t, uint8_t *ours, uint8_t *tuned,
     struct book b = any_book(t, t->edition, t->way);
 
     in_runs(t, b, o, n);
-    for (int k = 0; k < 20; k++)
+    for (int k = 0; k < 20; k++) {
         any_record(t, o, n);
+        in_contents(t);
+    }
     both_read(t, b, o, n);
     both_settle(b, ours, tuned, ANTHERCUP_DESK_OCTETS, o, n);
 }
@@ -292,9 +356,10 @@ int main(int argc, char **argv)
     }
     printf("same: %lu calls of listen alike, %lu on sound records; %lu reads, "
            "%lu accepted, %lu with 9; %lu settlings, %lu done, %lu with 21; "
-           "%lu answers name the old edition, %lu are 10, %lu are 16\n",
+           "%lu answers name the old edition, %lu are 10, %lu are 16; of %lu "
+           "runs inside contents %lu are refused with 5\n",
            heard, sound, reads, accepted, nines, settled, done, full, old,
-           unlisted, unknown);
+           unlisted, unknown, stood + spoilt, spoilt);
     return !(sound && accepted && nines && done && full && old && unlisted
-             && unknown);
+             && unknown && stood && spoilt);
 }

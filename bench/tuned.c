@@ -10,6 +10,13 @@
 
 #include <string.h>
 
+/* Kept out of what calls it, so that the common path stays short. */
+#ifdef __GNUC__
+#define APART __attribute__((noinline))
+#else
+#define APART
+#endif
+
 enum { KIND, SIZE, HEADER, LENGTH, CONTENT, MESSAGE, REFUSED };
 enum {
     CARRIED,
@@ -23,19 +30,39 @@ enum {
     WAITING,
     FORWARDED,
     USER,
+    SHORT_TEXT,
+    MOMENT,
+    CHARGE,
+    DURATION,
+    TERMINAL,
+    DISPLAY,
+    SERVICE,
+    EXTENSION,
     OLD_NUMBER,
-    OLD_NAME,
     OLD_FORWARDED,
     OLD_USER,
     CLASSES
 };
 enum { OLD = 1, EDITIONS };
 enum { STRICT, LENIENT, WAYS };
-enum { CODE_VALUE, DATE_VALUE, STATE_VALUE, TEXT_VALUE, CARRIED_VALUE };
+enum {
+    CODE_VALUE,
+    DATE_VALUE,
+    STATE_VALUE,
+    TEXT_VALUE,
+    CARRIED_VALUE,
+    MOMENT_VALUE,
+    DURATION_VALUE,
+    MARKED_VALUE
+};
 
-/* The kinds that an octet belongs to, a bit for each class that judges octets
- * by a set; the old edition's classes have the bits of the present ones, in a
- * table of its own. */
+/* How contents are judged: the first octet by a set, or by none; each octet by
+ * a set; or by places, as the class has them. */
+enum { FIRST, EACH, DATED, CHARGED, LASTING, TERMINALS, SHOWN, EXTENDED };
+
+/* The kinds that an octet belongs to, a bit for each set that octets are judged
+ * by; the old edition's classes have the bits of the present ones, in a table
+ * of its own. */
 enum {
     IN_NUMBER = 1,
     IN_NAME = 2,
@@ -44,7 +71,14 @@ enum {
     IN_IDENTITY = 16,
     IN_CALL_TYPE = 32,
     IN_FORWARDED = 64,
-    IN_USER = 128
+    IN_USER = 128,
+    IN_DISPLAY = 256,
+    IN_SERVICE = 512,
+    IN_CONNECTION = 1024,
+    IN_DIGIT = 2048,
+    IN_LETTER = 4096,
+    IN_COMMA = 8192,
+    IN_DASH = 16384
 };
 
 #define LOW(x)                                                      \
@@ -64,23 +98,34 @@ enum {
 #define HIGH(x)                                                         \
     ((x) >= 0x81 ? IN_CALL_TYPE : 0) | ((x) >= 0x80 ? IN_FORWARDED : 0) \
         | ((x) == 0xFF ? IN_LAMP | IN_IDENTITY : 0)
-#define OF(x) (uint8_t)((LOW(x)) | (MID(x)) | (HIGH(x)))
+#define SHOW(x)                                           \
+    (((x) & 127) <= 1 || (((x) & 127) >= 3 && ((x) & 127) <= 6) \
+             || ((x) & 127) >= 0x70                       \
+         ? IN_DISPLAY                                     \
+         : 0)                                             \
+        | ((x) <= 1 || (x) >= 0x80 ? IN_SERVICE : 0)      \
+        | ((x) <= 7 ? IN_CONNECTION : 0)
+#define PAY(x)                                        \
+    ((x) >= '0' && (x) <= '9' ? IN_DIGIT : 0)         \
+        | ((x) >= 'A' && (x) <= 'Z' ? IN_LETTER : 0)  \
+        | ((x) == ',' ? IN_COMMA : 0) | ((x) == '-' ? IN_DASH : 0)
+#define OF(x) (uint16_t)((LOW(x)) | (MID(x)) | (HIGH(x)) | (SHOW(x)) | (PAY(x)))
 #define OLD_OF(x)                                                           \
-    (uint8_t)(((x) == 0x00 || (x) == 0xFF ? IN_LAMP : 0)                    \
-              | ((x) <= 6 ? IN_FORWARDED : 0)                               \
-              | ((x) == 0 || ((x) >= 3 && (x) <= 5)                         \
-                         || ((x) >= 0x0A && (x) <= 0x0D) || (x) == 0x0F     \
-                     ? IN_USER                                              \
-                     : 0)                                                   \
-              | ((x) >= 0x20 && (x) <= 0x7E ? IN_NAME : 0)                  \
-              | ((x) >= '0' && (x) <= '9' ? IN_NUMBER : 0)                  \
-              | ((x) == 'O' || (x) == 'P' ? IN_ABSENT : 0))
+    (uint16_t)(((x) == 0x00 || (x) == 0xFF ? IN_LAMP : 0)                   \
+               | ((x) <= 6 ? IN_FORWARDED : 0)                              \
+               | ((x) == 0 || ((x) >= 3 && (x) <= 5)                        \
+                          || ((x) >= 0x0A && (x) <= 0x0D) || (x) == 0x0F    \
+                      ? IN_USER                                             \
+                      : 0)                                                  \
+               | ((x) >= 0x20 && (x) <= 0x7E ? IN_NAME : 0)                 \
+               | ((x) >= '0' && (x) <= '9' ? IN_NUMBER : 0)                 \
+               | ((x) == 'O' || (x) == 'P' ? IN_ABSENT : 0))
 #define ROW4(of, x) of(x), of((x) + 1), of((x) + 2), of((x) + 3)
 #define ROW16(of, x) \
     ROW4(of, x), ROW4(of, (x) + 4), ROW4(of, (x) + 8), ROW4(of, (x) + 12)
 #define ROW64(of, x) \
     ROW16(of, x), ROW16(of, (x) + 16), ROW16(of, (x) + 32), ROW16(of, (x) + 48)
-static const uint8_t kinds_of[EDITIONS][256] = {
+static const uint16_t kinds_of[EDITIONS][256] = {
     {ROW64(OF, 0), ROW64(OF, 64), ROW64(OF, 128), ROW64(OF, 192)},
     {ROW64(OLD_OF, 0), ROW64(OLD_OF, 64), ROW64(OLD_OF, 128),
      ROW64(OLD_OF, 192)},
@@ -97,17 +142,30 @@ static const uint8_t class_of[EDITIONS][256] = {
         [0x0B] = LAMP,
         [0x0D] = IDENTITY,
         [0x0E] = NUMBER,
+        [0x0F] = MOMENT,
+        [0x10] = NUMBER,
         [0x11] = CALL_TYPE,
         [0x12] = NUMBER,
         [0x13] = WAITING,
         [0x15] = FORWARDED,
         [0x16] = USER,
+        [0x1A] = NUMBER,
+        [0x20] = CHARGE,
+        [0x21] = CHARGE,
+        [0x22] = CHARGE,
+        [0x23] = DURATION,
+        [0x30] = SHORT_TEXT,
+        [0x31] = SHORT_TEXT,
+        [0x40] = TERMINAL,
+        [0x50] = DISPLAY,
+        [0x55] = SERVICE,
+        [0xE0] = EXTENSION,
     },
     {
         [0x01] = DATE,
         [0x02] = OLD_NUMBER,
         [0x04] = ABSENT,
-        [0x07] = OLD_NAME,
+        [0x07] = SHORT_TEXT,
         [0x0B] = LAMP,
         [0x12] = OLD_NUMBER,
         [0x15] = OLD_FORWARDED,
@@ -118,30 +176,38 @@ static const uint8_t class_of[EDITIONS][256] = {
 /* The classes that a record may have, a bit each: of the present edition, of
  * the old one, and of all that are not known; carried ones in no strict way. */
 #define COMMON (1 << CARRIED | 1 << DATE | 1 << ABSENT | 1 << LAMP)
-static const uint16_t classes_of[EDITIONS + 1] = {
+static const uint32_t classes_of[EDITIONS + 1] = {
     (1 << OLD_NUMBER) - 1,
-    COMMON | 1 << OLD_NUMBER | 1 << OLD_NAME | 1 << OLD_FORWARDED
+    COMMON | 1 << SHORT_TEXT | 1 << OLD_NUMBER | 1 << OLD_FORWARDED
         | 1 << OLD_USER,
     (1 << CLASSES) - 1,
 };
 
-/* By way and class: the least length and how far above it the greatest is, the
- * kinds that octets are judged by (0: by none, or as a date), and the form of
- * the value; of texts every octet is judged, of all others the first. In the
- * strict way no length of a carried type fits any room (document 02, Q-11). */
-#define LISTED                                                            \
-    {8, 0, 0, DATE_VALUE}, {1, 19, IN_NUMBER, TEXT_VALUE},                \
-        {1, 0, IN_ABSENT, CODE_VALUE}, {1, 49, IN_NAME, TEXT_VALUE},      \
-        {1, 0, IN_LAMP, CODE_VALUE}, {3, 0, IN_IDENTITY, STATE_VALUE},    \
-        {1, 0, IN_CALL_TYPE, CODE_VALUE}, {1, 0, 0, CODE_VALUE},          \
-        {1, 0, IN_FORWARDED, CODE_VALUE}, {1, 0, IN_USER, CODE_VALUE},    \
-        {1, 17, IN_NUMBER, TEXT_VALUE}, {1, 19, IN_NAME, TEXT_VALUE},     \
-        {1, 0, IN_FORWARDED, CODE_VALUE}, {1, 0, IN_USER, CODE_VALUE}
+/* By way and class: the least length and how far above it the greatest is, 1
+ * where only even lengths are among them, how contents are judged, the set of
+ * octets (0: none), of terminals and displays that of all but the first, and
+ * the form of the value. In the strict way no length of a carried type fits
+ * any room (document 02, Q-11). */
+#define CODED(set) {1, 0, 0, FIRST, set, CODE_VALUE}
+#define WRITTEN(most, set) {1, most - 1, 0, EACH, set, TEXT_VALUE}
+#define LISTED                                                               \
+    {8, 0, 0, DATED, 0, DATE_VALUE}, WRITTEN(20, IN_NUMBER),                 \
+        CODED(IN_ABSENT), WRITTEN(50, IN_NAME), CODED(IN_LAMP),              \
+        {3, 0, 0, FIRST, IN_IDENTITY, STATE_VALUE}, CODED(IN_CALL_TYPE),     \
+        CODED(0), CODED(IN_FORWARDED), CODED(IN_USER), WRITTEN(20, IN_NAME), \
+        {8, 2, 1, DATED, 0, MOMENT_VALUE}, {14, 0, 0, CHARGED, 0, TEXT_VALUE}, \
+        {6, 0, 0, LASTING, 0, DURATION_VALUE},                               \
+        {2, 19, 0, TERMINALS, IN_NUMBER, MARKED_VALUE},                      \
+        {1, 252, 0, SHOWN, IN_NAME, MARKED_VALUE}, CODED(IN_SERVICE),        \
+        {10, 0, 0, EXTENDED, 0, TEXT_VALUE}, WRITTEN(18, IN_NUMBER),         \
+        CODED(IN_FORWARDED), CODED(IN_USER)
 static const struct rule {
-    uint8_t least, span, kinds, form;
+    uint8_t least, span, even, style;
+    uint16_t kinds;
+    uint8_t form;
 } rules_of[WAYS][CLASSES] = {
-    {{255, 0, 0, CARRIED_VALUE}, LISTED},
-    {{1, 252, 0, CARRIED_VALUE}, LISTED},
+    {{255, 0, 0, FIRST, 0, CARRIED_VALUE}, LISTED},
+    {{1, 252, 0, FIRST, 0, CARRIED_VALUE}, LISTED},
 };
 
 /* The bit of a word that names the edition; 16 and 17 name none. */
@@ -186,13 +252,14 @@ static void record(uint8_t *r, uint64_t low, uint64_t high)
 static int length_fits(struct rule c, unsigned room, unsigned n)
 {
     unsigned left = room - n - 2;
-    return n - c.least <= c.span && (left == 0 || left - 3 < 253);
+    return n - c.least <= c.span && !(n & c.even)
+           && (left == 0 || left - 3 < 253);
 }
 
 static int possible(struct rule c, unsigned room)
 {
     unsigned over = room - c.least - 2u;
-    return over <= c.span || over - 3 < 253;
+    return (over <= c.span && !(over & c.even)) || over - 3 < 253;
 }
 
 /* The number of a type that is not possible. */
@@ -209,7 +276,9 @@ static unsigned days_in(unsigned month)
     return month <= 12 ? days[month] : 31;
 }
 
-static int date_octet(unsigned index, unsigned memory, unsigned x)
+/* A date, or, where seconds may follow, a moment. */
+static int date_octet(unsigned seconds, unsigned index, unsigned memory,
+                      unsigned x)
 {
     unsigned v = x - '0';
     switch (index) {
@@ -229,6 +298,10 @@ static int date_octet(unsigned index, unsigned memory, unsigned x)
         return v <= 5;
     case 7:
         return v <= 9 && 10 * memory + v <= 59;
+    case 8:
+        return !seconds || v <= 5;
+    case 9:
+        return !seconds || (v <= 9 && 10 * memory + v <= 59);
     default:
         return 1;
     }
@@ -247,36 +320,283 @@ static unsigned remember(unsigned index, unsigned memory, unsigned x)
     return v;
 }
 
-static unsigned remember_all(const uint8_t *p, const uint8_t *end,
-                             unsigned index, unsigned memory)
+/* No octet may stand here: no memory. */
+enum { NONE = 256 };
+
+/* Of what a charge's last ten octets are, by what is remembered: in front of
+ * the price's place, and from it on (document 02, Q-4). A comma is remembered
+ * by the next. */
+static const uint16_t charged[6][2] = {
+    {IN_DIGIT | IN_COMMA, IN_DIGIT | IN_COMMA},
+    {IN_DIGIT, IN_DIGIT},
+    {IN_DIGIT, IN_DIGIT | IN_COMMA},
+    {IN_DIGIT, IN_DIGIT},
+    {IN_DIGIT, IN_DASH},
+    {IN_DASH, IN_DASH},
+};
+enum { CURRENCY = 3, COST = 4, PRICE = 9, CHARGE_END = 14 };
+
+/* What is remembered behind the flags: 08H not available, 10H in units. */
+static unsigned flagged(unsigned memory, unsigned flags)
 {
+    unsigned by = flags & 0x18;
+    if (memory == 0)
+        return by & 0x08 ? NONE : by >> 3;
+    if (memory > 1 || !by)
+        return NONE;
+    return by & 0x08 ? 5 : 4;
+}
+
+/* The three octets of a currency are of one set. */
+static unsigned currency(unsigned memory)
+{
+    return memory == 0 ? IN_LETTER : memory == 1 ? IN_DASH : 0;
+}
+
+/* The greatest digits of a duration: hours, minutes, seconds. */
+static const uint8_t lasting[6] = {9, 9, 5, 9, 5, 9};
+
+static int lasting_octet(unsigned index, unsigned memory, unsigned x)
+{
+    unsigned v = x - '0';
+    return index >= 6
+           || (v <= lasting[index]
+               && (!(index & 1) || 10 * memory + v <= (index < 2 ? 99 : 59)));
+}
+
+static int is_mark(unsigned x, unsigned length)
+{
+    return x - 2 <= 1 || (x == 1 && length == 2);
+}
+
+/* The country's code is digits, then spaces; then come characters. */
+static int extension_octet(const uint16_t *kinds, unsigned index,
+                           unsigned memory, unsigned x)
+{
+    if (index >= 3)
+        return index >= 10 || kinds[x] & IN_NAME;
+    if (x == ' ')
+        return index > 0;
+    return kinds[x] & IN_DIGIT && !(index == 2 && memory == 1);
+}
+
+static unsigned charge_step(const uint16_t *kinds, unsigned index,
+                            unsigned memory, unsigned x)
+{
+    unsigned kind = kinds[x];
+    if (index >= CHARGE_END)
+        return 0;
+    if (index >= COST) {
+        kind &= memory <= 5 ? charged[memory][index >= PRICE] : 0;
+        return kind ? memory + (kind == IN_COMMA) : NONE;
+    }
+    if (index == CURRENCY)
+        return flagged(memory, x);
+    if (index == 0)
+        return kind & IN_LETTER ? 0 : kind & IN_DASH ? 1 : NONE;
+    return kind & currency(memory) ? memory : NONE;
+}
+
+/* What is remembered behind the octet x at `index` of contents that are judged
+ * by places, or NONE. */
+static unsigned step(struct rule c, const uint16_t *kinds, unsigned length,
+                     unsigned index, unsigned memory, unsigned x)
+{
+    switch (c.style) {
+    case DATED:
+        return date_octet(c.span, index, memory, x)
+                   ? remember(index, memory, x)
+                   : NONE;
+    case CHARGED:
+        return charge_step(kinds, index, memory, x);
+    case LASTING:
+        if (!lasting_octet(index, memory, x))
+            return NONE;
+        return x >= '0' ? x - '0' : 0;
+    case TERMINALS:
+        if (index == 0)
+            return is_mark(x, length) ? x == 1 : NONE;
+        return kinds[x] & (memory == 1 ? IN_CONNECTION : c.kinds) ? memory
+                                                                  : NONE;
+    case SHOWN:
+        return kinds[x] & (index ? c.kinds : IN_DISPLAY) ? 0 : NONE;
+    default:
+        if (!extension_octet(kinds, index, memory, x))
+            return NONE;
+        return index == 1 && x == ' ';
+    }
+}
+
+/* What is remembered behind octets that may stand, the first at `index`. */
+static unsigned step_all(struct rule c, const uint16_t *kinds,
+                         const uint8_t *p, const uint8_t *end, unsigned length,
+                         unsigned index, unsigned memory)
+{
+    if (c.style <= EACH)
+        return 0;
     while (p < end)
-        memory = remember(index++, memory, *p++);
+        memory = step(c, kinds, length, index++, memory, *p++);
     return memory;
+}
+
+/* The first place from p on whose octet is not of the set, or the end. */
+static const uint8_t *fine_each(const uint16_t *kinds, unsigned set,
+                                const uint8_t *p, const uint8_t *end)
+{
+    while (p < end && kinds[*p] & set)
+        p++;
+    return p;
+}
+
+/* As many octets as this from p on, or those up to the end. */
+static const uint8_t *stop_at(const uint8_t *p, const uint8_t *end,
+                              unsigned octets)
+{
+    return (size_t)(end - p) < octets ? end : p + octets;
+}
+
+/* The same of a charge's part in front of its price's place, or behind it. */
+static const uint8_t *fine_charged(const uint16_t *kinds, unsigned part,
+                                   const uint8_t *p, const uint8_t *end,
+                                   unsigned *memory)
+{
+    for (; p < end; p++) {
+        unsigned kind = kinds[*p] & charged[*memory][part];
+        if (!kind)
+            break;
+        *memory += kind == IN_COMMA;
+    }
+    return p;
+}
+
+/* The same of a charge, part by part; its first octet stands at `index`. */
+static const uint8_t *fine_charge(const uint16_t *kinds, const uint8_t *p,
+                                  const uint8_t *end, unsigned index,
+                                  unsigned memory)
+{
+    const uint8_t *stop;
+    if (index < CURRENCY) {
+        stop = stop_at(p, end, CURRENCY - index);
+        if (index == 0) {
+            memory = charge_step(kinds, 0, 0, *p);
+            if (memory == NONE)
+                return p;
+            p++;
+        }
+        p = fine_each(kinds, currency(memory), p, stop);
+        if (p < stop || p == end)
+            return p;
+        index = CURRENCY;
+    }
+    if (index == CURRENCY) {
+        memory = flagged(memory, *p);
+        if (memory == NONE)
+            return p;
+        p++;
+        index = COST;
+    }
+    if (index < CHARGE_END && memory > 5)
+        return p;
+    if (index < PRICE) {
+        stop = stop_at(p, end, PRICE - index);
+        p = fine_charged(kinds, 0, p, stop, &memory);
+        if (p < stop || p == end)
+            return p;
+        index = PRICE;
+    }
+    if (index < CHARGE_END) {
+        stop = stop_at(p, end, CHARGE_END - index);
+        p = fine_charged(kinds, 1, p, stop, &memory);
+        if (p < stop)
+            return p;
+    }
+    return end;
+}
+
+/* Tens that came before bear on the first octet alone: the others are within
+ * their limits where each digit is. */
+static const uint8_t *fine_lasting(const uint8_t *p, const uint8_t *end,
+                                   unsigned index, unsigned memory)
+{
+    if (!lasting_octet(index, memory, *p))
+        return p;
+    for (p++, index++; p < end && index < 6; p++, index++)
+        if ((uint8_t)(*p - '0') > lasting[index])
+            return p;
+    return end;
+}
+
+static const uint8_t *fine_extension(const uint16_t *kinds, const uint8_t *p,
+                                     const uint8_t *end, unsigned index,
+                                     unsigned memory)
+{
+    const uint8_t *stop;
+    for (; p < end && index < 3; p++, index++) {
+        if (!extension_octet(kinds, index, memory, *p))
+            return p;
+        memory = *p == ' ';
+    }
+    if (index >= 10)
+        return end;
+    stop = stop_at(p, end, 10 - index);
+    p = fine_each(kinds, IN_NAME, p, stop);
+    return p < stop ? p : end;
+}
+
+/* The same of contents that are judged by places. */
+static APART const uint8_t *
+fine_placed(const struct rule *c, const uint16_t *kinds, const uint8_t *p,
+            const uint8_t *end, unsigned length, unsigned index,
+            unsigned memory)
+{
+    switch (c->style) {
+    case DATED:
+        for (; p < end; p++) {
+            if (!date_octet(c->span, index, memory, *p))
+                break;
+            memory = remember(index++, memory, *p);
+        }
+        return p;
+    case CHARGED:
+        return fine_charge(kinds, p, end, index, memory);
+    case LASTING:
+        return fine_lasting(p, end, index, memory);
+    case TERMINALS:
+        if (index == 0) {
+            if (!is_mark(*p, length))
+                return p;
+            memory = *p++ == 1;
+        }
+        return fine_each(kinds, memory == 1 ? IN_CONNECTION : c->kinds, p, end);
+    case SHOWN:
+        if (index == 0) {
+            if (!(kinds[*p] & IN_DISPLAY))
+                return p;
+            p++;
+        }
+        return fine_each(kinds, c->kinds, p, end);
+    default:
+        return fine_extension(kinds, p, end, index, memory);
+    }
 }
 
 /* The first place from p on whose octet may not stand there, or the end; the
  * first of them, one at least, stands at `index`. Octets are judged by the
  * edition's kinds. */
-static const uint8_t *fine(struct rule c, const uint8_t *kinds,
-                           const uint8_t *p, const uint8_t *end,
-                           unsigned index, unsigned memory)
+static inline const uint8_t *fine(const struct rule *c, const uint16_t *kinds,
+                                  const uint8_t *p, const uint8_t *end,
+                                  unsigned length, unsigned index,
+                                  unsigned memory)
 {
-    if (c.form == TEXT_VALUE) {
-        while (kinds[*p] & c.kinds)
+    if (c->style == FIRST)
+        return index || !c->kinds || kinds[*p] & c->kinds ? end : p;
+    if (c->style == EACH) {
+        while (kinds[*p] & c->kinds)
             if (++p == end)
                 break;
         return p;
     }
-    if (c.form == DATE_VALUE) {
-        for (; p < end; p++) {
-            if (!date_octet(index, memory, *p))
-                break;
-            memory = remember(index++, memory, *p);
-        }
-        return p;
-    }
-    return index || !c.kinds || kinds[*p] & c.kinds ? end : p;
+    return fine_placed(c, kinds, p, end, length, index, memory);
 }
 
 static unsigned sum_of(const uint8_t *p, const uint8_t *end, unsigned sum)
@@ -322,7 +642,8 @@ static uint64_t run_on(uint8_t *r, const uint8_t *o, size_t count)
     const unsigned edition = r[11];
     const uint64_t kept = kept_of(edition, r[12]);
     const struct rule *rules = rules_of[r[12]];
-    const uint8_t *classes = class_of[edition], *kinds = kinds_of[edition];
+    const uint8_t *classes = class_of[edition];
+    const uint16_t *kinds = kinds_of[edition];
     unsigned room = r[8], parameter = r[10],
              sum = (unsigned)(low >> 8) & 0xff,
              place = (unsigned)(low >> 16) & 0xffff, class, length, index = 0,
@@ -366,15 +687,19 @@ static uint64_t run_on(uint8_t *r, const uint8_t *o, size_t count)
     content:
         number = 5;
         stop = (size_t)(end - p) < length - index ? end : p + (length - index);
-        good = fine(rules[class], kinds, p, stop, index, memory);
-        if (class == DATE)
-            memory = remember_all(p, good, index, memory);
-        index += (unsigned)(stop - p);
-        p = good;
-        if (good < stop)
+        good = fine(&rules[class], kinds, p, stop, length, index, memory);
+        if (good < stop) {
+            p = good;
             goto refuse;
-        if (index < length)
+        }
+        if ((size_t)(stop - p) < length - index) {
+            memory = step_all(rules[class], kinds, p, stop, length, index,
+                              memory);
+            index += (unsigned)(stop - p);
+            p = stop;
             goto cut;
+        }
+        p = stop;
     }
     while (p < end) {
         if (room == 0) {
@@ -413,7 +738,7 @@ static uint64_t run_on(uint8_t *r, const uint8_t *o, size_t count)
         }
         stop = p + length;
         number = 5;
-        p = fine(rules[class], kinds, p, stop, 0, 0);
+        p = fine(&rules[class], kinds, p, stop, length, 0, 0);
         if (p < stop)
             goto refuse;
     }
@@ -427,7 +752,7 @@ cut:
            CONTENT | (uint64_t)sum_of(o, p, sum) << 8
                | (uint64_t)(place + count) << 16 | (uint64_t) class << 32
                | (uint64_t)length << 40 | (uint64_t)index << 48
-               | (uint64_t)(class == DATE ? memory : 0) << 56,
+               | (uint64_t)memory << 56,
            room | parameter << 16 | kept);
     return word(0, 0, 0, count) | named(edition);
 refuse:
@@ -528,30 +853,10 @@ static void spot(uint8_t *r, unsigned stage, unsigned sum, unsigned place)
     memcpy(r, &w, 4);
 }
 
-/* What a stage does with a run, its record, place and edition being handed
- * over. One octet of a parameter, as a modem hands them over: only what the
- * stage uses is read and written. Behind its type the way bears on nothing: a
- * carried one that is known is lenient. Anything else goes to run_on. */
-static uint64_t at_content(uint8_t *r, unsigned place, unsigned edition,
-                           const uint8_t *o, size_t count)
+/* An octet of contents that may stand. */
+static uint64_t taken_one(uint8_t *r, unsigned place, unsigned edition,
+                          unsigned x)
 {
-    unsigned x;
-    if (!content_known(r, place, edition))
-        return word(17, 0, 0, 0);
-    if (count != 1)
-        return run_on(r, o, count);
-    x = *o;
-    if (r[4] == DATE) {
-        if (!date_octet(r[6], r[7], x))
-            return refused(r, 5, place, r[10], 1);
-        r[7] = (uint8_t)remember(r[6], r[7], x);
-    } else {
-        struct rule c = rules_of[LENIENT][r[4]];
-        if (c.kinds && (r[6] == 0 || c.form == TEXT_VALUE)
-            && !(kinds_of[edition][x] & c.kinds))
-            return refused(r, 5, place, r[10], 1);
-        r[7] = 0;
-    }
     if (++r[6] == r[5]) {
         store(r, HEADER | ((r[1] + x) & 0xff) << 8
                      | (uint64_t)(place + 1) << 16);
@@ -559,6 +864,53 @@ static uint64_t at_content(uint8_t *r, unsigned place, unsigned edition,
         spot(r, CONTENT, r[1] + x, place + 1);
     }
     return word(0, 0, 0, 1) | named(edition);
+}
+
+/* A date or a moment. */
+static APART uint64_t at_dated(uint8_t *r, unsigned place, unsigned edition,
+                               unsigned x)
+{
+    if (!date_octet(r[4] == MOMENT, r[6], r[7], x))
+        return refused(r, 5, place, r[10], 1);
+    r[7] = (uint8_t)remember(r[6], r[7], x);
+    return taken_one(r, place, edition, x);
+}
+
+/* Other contents that are judged by places. */
+static APART uint64_t at_placed(uint8_t *r, unsigned place, unsigned edition,
+                                unsigned x)
+{
+    unsigned memory = step(rules_of[LENIENT][r[4]], kinds_of[edition], r[5],
+                           r[6], r[7], x);
+    if (memory == NONE)
+        return refused(r, 5, place, r[10], 1);
+    r[7] = (uint8_t)memory;
+    return taken_one(r, place, edition, x);
+}
+
+/* What a stage does with a run, its record, place and edition being handed
+ * over. One octet of a parameter, as a modem hands them over: only what the
+ * stage uses is read and written. Behind its type the way bears on nothing: a
+ * carried one that is known is lenient. Anything else goes to run_on. */
+static uint64_t at_content(uint8_t *r, unsigned place, unsigned edition,
+                           const uint8_t *o, size_t count)
+{
+    const struct rule *c;
+    unsigned x;
+    if (!content_known(r, place, edition))
+        return word(17, 0, 0, 0);
+    if (count != 1)
+        return run_on(r, o, count);
+    x = *o;
+    c = &rules_of[LENIENT][r[4]];
+    if (c->style > EACH)
+        return c->style == DATED ? at_dated(r, place, edition, x)
+                                 : at_placed(r, place, edition, x);
+    if (c->kinds && (r[6] == 0 || c->style == EACH)
+        && !(kinds_of[edition][x] & c->kinds))
+        return refused(r, 5, place, r[10], 1);
+    r[7] = 0;
+    return taken_one(r, place, edition, x);
 }
 
 static uint64_t at_header(uint8_t *r, unsigned place, unsigned edition,
@@ -650,13 +1002,14 @@ uint64_t tuned_listen(uint8_t *r, size_t size, const uint8_t *o, size_t count)
     return at[stage](r, r[2] | (unsigned)r[3] << 8, edition, o, count);
 }
 
-/* The verdict on a whole message, 0 or 1 to 8 and 10 with place and parameter as a
- * word that names no edition; `texts` gets the text octets of an accepted
+/* The verdict on a whole message, 0 or 1 to 8 and 10 with place and parameter
+ * as a word that names no edition; `texts` gets the text octets of an accepted
  * one. */
 static uint64_t judge(unsigned edition, unsigned way, const uint8_t *o,
                       size_t n, unsigned *texts)
 {
-    const uint8_t *classes = class_of[edition], *kinds = kinds_of[edition];
+    const uint8_t *classes = class_of[edition];
+    const uint16_t *kinds = kinds_of[edition];
     const struct rule *rules = rules_of[way];
     const uint8_t *p = o + 2, *end = o + n, *stop;
     unsigned room, text = 0, number, parameter = 0;
@@ -691,17 +1044,19 @@ static uint64_t judge(unsigned edition, unsigned way, const uint8_t *o,
         number = 5;
         if ((size_t)(end - p) < length) {
             if (p < end)
-                p = fine(c, kinds, p, end, 0, 0);
+                p = fine(&c, kinds, p, end, length, 0, 0);
             if (p < end)
                 goto refuse;
             return word(8, (unsigned)n, 0, 0);
         }
         stop = p + length;
-        p = fine(c, kinds, p, stop, 0, 0);
+        p = fine(&c, kinds, p, stop, length, 0, 0);
         if (p < stop)
             goto refuse;
-        if (c.form >= TEXT_VALUE)
+        if (c.form == TEXT_VALUE || c.form == CARRIED_VALUE)
             text += length;
+        else if (c.form == MARKED_VALUE)
+            text += length - 1;
     }
     if (p == end)
         return word(8, (unsigned)n, 0, 0);
@@ -751,8 +1106,23 @@ uint64_t tuned_read(uint8_t edition, uint8_t way, const uint8_t *o, size_t n,
             value = digits(p) | digits(p + 2) << 8 | digits(p + 4) << 16
                     | digits(p + 6) << 24;
             break;
+        case MOMENT_VALUE:
+            value = digits(p) | digits(p + 2) << 8 | digits(p + 4) << 16
+                    | digits(p + 6) << 24;
+            if (length == 10)
+                value |= (uint64_t)(digits(p + 8) + 1) << 32;
+            break;
+        case DURATION_VALUE:
+            value = digits(p) | digits(p + 2) << 8 | digits(p + 4) << 16;
+            break;
         case STATE_VALUE:
             value = p[0] | (unsigned)p[2] << 16 | (unsigned)p[1] << 24;
+            break;
+        case MARKED_VALUE:
+            value = p[0] | (unsigned)(to - texts) << 16
+                    | (uint64_t)(length - 1) << 32;
+            memcpy(to, p + 1, length - 1);
+            to += length - 1;
             break;
         default:
             value = (unsigned)(to - texts) | length << 16;

@@ -1,8 +1,10 @@
 /* Document 01's rows, and document 02's, through the archive, as the firmware calls it, in both editions and by both
  * ways: heard whole, octet by octet and cut in two everywhere; read; settled; what counts and the caption; the calls
- * that name no way beside those that are told the strict one; records that are no listener's, no draft's, no part's and
- * no desk's; editions and ways that there are not, at each export and in a listener's record. Says how many answers it
- * compared; the first that differs ends it with status 1. */
+ * that name no way beside those that are told the strict one; every type in every room, every length of every class,
+ * every octet at the places of contents and what is remembered behind it; entries, charges and extensions by the
+ * header's readers; records that are no listener's, no draft's, no part's and no desk's; editions and ways that there
+ * are not, at each export and in a listener's record. Says how many answers it compared; the first that differs ends
+ * it with status 1. */
 #include <stdio.h>
 #include <stdlib.h>
 #include <string.h>
@@ -23,6 +25,13 @@ static const struct book books[] = {
 
 static struct book lenient(uint8_t edition) { return (struct book){edition, ANTHERCUP_LENIENT}; }
 static struct book strict(uint8_t edition) { return (struct book){edition, ANTHERCUP_STRICT}; }
+
+/* document 02, Q-4: a call with one parameter of each type, in their order: annex D's charges, 15 June 14:30:59, 99
+ * hours, a connection, a stored text, the country 33 */
+#define EUROPEAN \
+    "80690F0A303631353134333035391001371A0138200E46524600303030303032332C3435" \
+    "210E2D2D2D1030303032332D2D2D2D2D220E44454D10303030373830302C3132230639393539353830024142310143" \
+    "400201075003814869550101E00A3333204654202056303104"
 
 /* octets in hex; what the listener says of them: its number, place and parameter, or the size, or nothing while it
  * waits. By the strict way the same, or 10 where a type comes before that is not listed */
@@ -75,6 +84,194 @@ static const struct row {
     {"82060B01FF0B0101", 5, 7, 2, 0},
     {"82091301021301050B0101", 5, 10, 3, 0},
     {"800902013704015002012F", 5, 10, 3, 0},
+    /* document 02, Q-4: the date and time of 0FH. Rooms of 9 to 13; 8, 9 and 10 octets, and what they leave */
+    {"80090F", 3, 2, 1, 0},
+    {"800A0F08", 0, 0, 0, 0},
+    {"800A0F0A", 4, 3, 1, 0},
+    {"800B0F", 3, 2, 1, 0},
+    {"800C0F08", 4, 3, 1, 0},
+    {"800C0F09", 4, 3, 1, 0},
+    {"800C0F0A", 0, 0, 0, 0},
+    {"800D0F08", 0, 0, 0, 0},
+    {"800D0F0A", 4, 3, 1, 0},
+    {"800E0F09", 4, 3, 1, 0},
+    {"800E0F0A", 4, 3, 1, 0},
+    {"800F0F0A", 0, 0, 0, 0},
+    /* its days by Q-2; 29 February 23:59:59, and a minute and a second of 60 */
+    {"800A0F08303233", 5, 6, 1, 0},
+    {"800A0F0830343331", 5, 7, 1, 0},
+    {"800A0F083036313531343330CB", 0, 0, 0, 13},
+    {"800A0F0830363135313436", 5, 10, 1, 0},
+    {"800C0F0A303232393233353935394D", 0, 0, 0, 15},
+    {"800C0F0A303232393233353936", 5, 12, 1, 0},
+    {"800C0F0A3032323932333539353A", 5, 13, 1, 0},
+    /* numbers of 10H and 1AH: 20 digits and 21, and what is none */
+    {"80161014", 0, 0, 0, 0},
+    {"80171015", 4, 3, 1, 0},
+    {"80161A14", 0, 0, 0, 0},
+    {"80171A15", 4, 3, 1, 0},
+    {"80031000", 4, 3, 1, 0},
+    {"800310012A42", 0, 0, 0, 6},
+    {"800310012B", 5, 4, 1, 0},
+    {"80031A012939", 0, 0, 0, 6},
+    {"80031A0141", 5, 4, 1, 0},
+    /* charges: rooms around 16, lengths around 14 */
+    {"800F20", 3, 2, 1, 0},
+    {"8010200D", 4, 3, 1, 0},
+    {"8010200E", 0, 0, 0, 0},
+    {"8010200F", 4, 3, 1, 0},
+    {"801121", 3, 2, 1, 0},
+    {"801222", 3, 2, 1, 0},
+    {"8013210E", 0, 0, 0, 0},
+    {"8013220D", 4, 3, 1, 0},
+    {"8014220F", 4, 3, 1, 0},
+    /* annex D: 23,45 FRF; 23 units; 78 units of 0,12 DEM */
+    {"8010200E46524600303030303032332C34357A", 0, 0, 0, 19},
+    {"8010200E2D2D2D1030303032332D2D2D2D2DD5", 0, 0, 0, 19},
+    {"8010200E44454D10303030373830302C31326E", 0, 0, 0, 19},
+    /* a currency: letters A to Z, or dashes, never both */
+    {"8010200E40", 5, 4, 1, 0},
+    {"8010200E5B", 5, 4, 1, 0},
+    {"8010200E66", 5, 4, 1, 0},
+    {"8010200E462D", 5, 5, 1, 0},
+    {"8010200E46522D", 5, 6, 1, 0},
+    {"8010200E2D46", 5, 5, 1, 0},
+    {"8010200E2D2D46", 5, 6, 1, 0},
+    /* flags: behind letters not 08H, also with 10H; behind dashes 08H or 10H; all others are free */
+    {"8010200E46524607", 0, 0, 0, 0},
+    {"8010200E46524608", 5, 7, 1, 0},
+    {"8010200E46524618", 5, 7, 1, 0},
+    {"8010200E465246F7", 0, 0, 0, 0},
+    {"8010200E465246F8", 5, 7, 1, 0},
+    {"8010200E2D2D2D00", 5, 7, 1, 0},
+    {"8010200E2D2D2DE7", 5, 7, 1, 0},
+    {"8010200E2D2D2D08", 0, 0, 0, 0},
+    {"8010200E2D2D2D10", 0, 0, 0, 0},
+    {"8010200E2D2D2DFF", 0, 0, 0, 0},
+    /* a cost: one comma, anywhere; digits else */
+    {"8010200E415A41E72C303030303030303031A2", 0, 0, 0, 19},
+    {"8010200E5A415A073939393939393939392C19", 0, 0, 0, 19},
+    {"8010200E45555200393939393939393939391C", 0, 0, 0, 19},
+    {"8010200E46524600302C302C", 5, 11, 1, 0},
+    {"8010200E465246002C30303030303030302C", 5, 17, 1, 0},
+    {"8010200E465246002D", 5, 8, 1, 0},
+    {"8010200E465246002F", 5, 8, 1, 0},
+    {"8010200E465246003A", 5, 8, 1, 0},
+    {"8010200E465246003030303030303030302D", 5, 17, 1, 0},
+    /* units: no comma, no dash; a price: one comma, anywhere, and no dash */
+    {"8010200E4555521039393939392C3939393919", 0, 0, 0, 19},
+    {"8010200E455552F73030303030393939392C5F", 0, 0, 0, 19},
+    {"8010200E455552103030303031393939393938", 0, 0, 0, 19},
+    {"8010200E44454D102C", 5, 8, 1, 0},
+    {"8010200E44454D10303030372C", 5, 12, 1, 0},
+    {"8010200E44454D102D", 5, 8, 1, 0},
+    {"8010200E44454D1030303037382D", 5, 13, 1, 0},
+    {"8010200E44454D1030303037382C2C", 5, 14, 1, 0},
+    {"8010200E44454D1030303037382C3939392C", 5, 17, 1, 0},
+    {"8010200E44454D10303030373830302C312D", 5, 17, 1, 0},
+    /* units without a price: dashes in its place, and all of them */
+    {"8010200E2D2D2D10303030323330", 5, 13, 1, 0},
+    {"8010200E2D2D2D1030303032332C", 5, 13, 1, 0},
+    {"8010200E2D2D2D1030303032332D2D2D2D30", 5, 17, 1, 0},
+    {"8010200E2D2D2D102D", 5, 8, 1, 0},
+    /* not available: dashes alone */
+    {"8010210E2D2D2D082D2D2D2D2D2D2D2D2D2DF0", 0, 0, 0, 19},
+    {"8010220E2D2D2DFF2D2D2D2D2D2D2D2D2D2DF8", 0, 0, 0, 19},
+    {"8010210E2D2D2D0830", 5, 8, 1, 0},
+    {"8010210E2D2D2D1830", 5, 8, 1, 0},
+    {"8010210E2D2D2D082D2D2D2D2D2D2D2D2D30", 5, 17, 1, 0},
+    /* a duration: rooms around 8, lengths around 6, 99:59:59, and minutes and seconds of 60 */
+    {"800723", 3, 2, 1, 0},
+    {"80082305", 4, 3, 1, 0},
+    {"80082306", 0, 0, 0, 0},
+    {"80082307", 4, 3, 1, 0},
+    {"800923", 3, 2, 1, 0},
+    {"800A23", 3, 2, 1, 0},
+    {"800B2306", 0, 0, 0, 0},
+    {"800B2307", 4, 3, 1, 0},
+    {"8008230639393539353901", 0, 0, 0, 11},
+    {"800823063030303030302F", 0, 0, 0, 11},
+    {"80082306393A", 5, 5, 1, 0},
+    {"80082306393936", 5, 6, 1, 0},
+    {"800823063939353936", 5, 8, 1, 0},
+    {"800823062D", 5, 4, 1, 0},
+    /* texts of 30H and 31H: 20 characters and 21, 20H to 7EH */
+    {"80163014", 0, 0, 0, 0},
+    {"80173015", 4, 3, 1, 0},
+    {"80163114", 0, 0, 0, 0},
+    {"80173115", 4, 3, 1, 0},
+    {"800330011F", 5, 4, 1, 0},
+    {"80033001202C", 0, 0, 0, 6},
+    {"800331017ECD", 0, 0, 0, 6},
+    {"800331017F", 5, 4, 1, 0},
+    /* 40H: rooms from 4 on, 2 to 21 octets */
+    {"800340", 3, 2, 1, 0},
+    {"80044001", 4, 3, 1, 0},
+    {"80044002", 0, 0, 0, 0},
+    {"80064002", 4, 3, 1, 0},
+    {"80074002", 0, 0, 0, 0},
+    {"80174015", 0, 0, 0, 0},
+    {"80184016", 4, 3, 1, 0},
+    /* a connection's code has one octet, 00H to 07H; a number or a subaddress has digits */
+    {"80044002010732", 0, 0, 0, 7},
+    {"800440020108", 5, 5, 1, 0},
+    {"800440020130", 5, 5, 1, 0},
+    {"8005400301", 5, 4, 1, 0},
+    {"8004400200", 5, 4, 1, 0},
+    {"8004400204", 5, 4, 1, 0},
+    {"80054003022A23E9", 0, 0, 0, 8},
+    {"80044002032D0A", 0, 0, 0, 7},
+    {"800440020207", 5, 5, 1, 0},
+    {"80044002032F", 5, 5, 1, 0},
+    {"8005400303302B", 5, 6, 1, 0},
+    /* 50H: 1 to 253 octets; marks; characters behind them, or none */
+    {"80FF50FD", 0, 0, 0, 0},
+    {"80FF50FC", 4, 3, 1, 0},
+    {"80035000", 4, 3, 1, 0},
+    {"80035001002C", 0, 0, 0, 6},
+    {"8003500102", 5, 4, 1, 0},
+    {"8003500106", 0, 0, 0, 0},
+    {"8003500107", 5, 4, 1, 0},
+    {"800350016F", 5, 4, 1, 0},
+    {"8003500170", 0, 0, 0, 0},
+    {"8003500181", 0, 0, 0, 0},
+    {"8003500182", 5, 4, 1, 0},
+    {"8003500187", 5, 4, 1, 0},
+    {"80035001EF", 5, 4, 1, 0},
+    {"80035001FF", 0, 0, 0, 0},
+    {"80055003864869F1", 0, 0, 0, 8},
+    {"800450028600", 5, 5, 1, 0},
+    {"80045002861F", 5, 5, 1, 0},
+    {"80055003867E7F", 5, 6, 1, 0},
+    /* 55H: one octet, 00H, 01H and from 80H on */
+    {"800455", 3, 2, 1, 0},
+    {"80065502", 4, 3, 1, 0},
+    {"820355010124", 0, 0, 0, 6},
+    {"8203550102", 5, 4, 1, 0},
+    {"820355017F", 5, 4, 1, 0},
+    {"8203550180", 0, 0, 0, 0},
+    /* E0H: rooms around 12, 10 octets; a country's code of one, two and three digits, spaces behind them alone */
+    {"800BE0", 3, 2, 1, 0},
+    {"800CE009", 4, 3, 1, 0},
+    {"800CE00A", 0, 0, 0, 0},
+    {"800CE00B", 4, 3, 1, 0},
+    {"800DE0", 3, 2, 1, 0},
+    {"800EE0", 3, 2, 1, 0},
+    {"800FE00A", 0, 0, 0, 0},
+    {"800CE00A3120204654202056303188", 0, 0, 0, 15},
+    {"800CE00A3333204654202056303173", 0, 0, 0, 15},
+    {"800CE00A3335314654202056303160", 0, 0, 0, 15},
+    {"800CE00A20", 5, 4, 1, 0},
+    {"800CE00A332D", 5, 5, 1, 0},
+    {"800CE00A332033", 5, 6, 1, 0},
+    {"800CE00A33332D", 5, 6, 1, 0},
+    {"800CE00A3335311F", 5, 7, 1, 0},
+    {"800CE00A3335314654202056307F", 5, 13, 1, 0},
+    /* all of them, and a fault in the second behind a first */
+    {EUROPEAN, 0, 0, 0, 108},
+    {"801255010120", 3, 5, 2, 0},
+    {"801355010120", 0, 0, 0, 0},
+    {"800650010050020154", 4, 6, 2, 0},
 };
 
 /* document 02, Q-5: the old edition, on both sides of its limits */
@@ -139,6 +336,17 @@ static const struct row old_rows[] = {
     {"80071301000201", 4, 6, 2, 0},
     {"82060B01FF0B0101", 5, 7, 2, 0},
     {"820913010213010516010E", 5, 10, 3, 0},
+    /* document 02, Q-4: all of these are carried, of any length and contents */
+    {EUROPEAN, 0, 0, 0, 108},
+    {"800B0F", 0, 0, 0, 0},
+    {"800C0F0AFF", 0, 0, 0, 0},
+    {"80171015", 0, 0, 0, 0},
+    {"80032001005C", 0, 0, 0, 6},
+    {"8010200E46524608", 0, 0, 0, 0},
+    {"80034001003D", 6, 5, 0, 0},
+    {"80034001083400", 0, 0, 0, 6},
+    {"80035001022A", 0, 0, 0, 6},
+    {"80FFE0FD", 0, 0, 0, 0},
 };
 
 /* document 02, Q-11: by the strict way alone, in the present edition */
@@ -155,7 +363,22 @@ static const struct row strict_rows[] = {
     {"800305010077", 10, 2, 1, 0},
     {"80060401500501", 10, 5, 2, 0},
     {"820613010205010061", 10, 5, 2, 0},
-    {"82090B01FF13010220", 10, 8, 3, 0},
+    {"82090B01FF13010224", 10, 8, 3, 0},
+    /* document 02, Q-4: beside those that it lists */
+    {"80030C", 10, 2, 1, 0},
+    {"800319", 10, 2, 1, 0},
+    {"80101F", 10, 2, 1, 0},
+    {"80032F", 10, 2, 1, 0},
+    {"800332", 10, 2, 1, 0},
+    {"80033F", 10, 2, 1, 0},
+    {"800341", 10, 2, 1, 0},
+    {"80034F", 10, 2, 1, 0},
+    {"800351", 10, 2, 1, 0},
+    {"800354", 10, 2, 1, 0},
+    {"800356", 10, 2, 1, 0},
+    {"8003DF", 10, 2, 1, 0},
+    {"8003E1", 10, 2, 1, 0},
+    {"82090B01FF13010220", 3, 8, 3, 0},
     /* listed ones as ever, 3 too */
     {"800304", 0, 0, 0, 0},
     {"800404", 3, 2, 1, 0},
@@ -178,6 +401,19 @@ static const struct row old_strict_rows[] = {
     {"800313", 10, 2, 1, 0},
     {"800305", 10, 2, 1, 0},
     {"8003FF", 10, 2, 1, 0},
+    {"800A0F", 10, 2, 1, 0},
+    {"800310", 10, 2, 1, 0},
+    {"80031A", 10, 2, 1, 0},
+    {"801020", 10, 2, 1, 0},
+    {"801021", 10, 2, 1, 0},
+    {"801022", 10, 2, 1, 0},
+    {"800823", 10, 2, 1, 0},
+    {"800330", 10, 2, 1, 0},
+    {"800331", 10, 2, 1, 0},
+    {"800440", 10, 2, 1, 0},
+    {"800350", 10, 2, 1, 0},
+    {"800355", 10, 2, 1, 0},
+    {"800CE0", 10, 2, 1, 0},
     {"820313010265", 10, 2, 1, 0},
     {"82060B01FF13010257", 10, 5, 2, 0},
     {"800607014108014FD9", 10, 5, 2, 0},
@@ -228,9 +464,10 @@ static size_t taken_of(const struct row *r, size_t n) {
     return r->size ? r->size : n;
 }
 
-/* document 01's types, and the old sheet's */
+/* the old sheet's types, then the others of document 01, and those of document 02, Q-4 */
 static int is_listed(uint8_t edition, uint8_t type) {
-    static const uint8_t types[] = {0x01, 0x02, 0x04, 0x07, 0x0B, 0x12, 0x15, 0x16, 0x03, 0x08, 0x0D, 0x0E, 0x11, 0x13};
+    static const uint8_t types[] = {0x01, 0x02, 0x04, 0x07, 0x0B, 0x12, 0x15, 0x16, 0x03, 0x08, 0x0D, 0x0E, 0x11, 0x13,
+                                    0x0F, 0x10, 0x1A, 0x20, 0x21, 0x22, 0x23, 0x30, 0x31, 0x40, 0x50, 0x55, 0xE0};
     return memchr(types, type, edition == ANTHERCUP_OLD ? 8 : sizeof types) != NULL;
 }
 
@@ -427,9 +664,9 @@ static void records_that_are_none(void) {
 /* the classes that a record of this edition and way may have: carried by all ways but the strict one */
 static int class_in_range(struct book b, unsigned class) {
     if (class == 0) return b.way != ANTHERCUP_STRICT;
-    if (b.edition == ANTHERCUP_PRESENT) return class <= 10;
-    if (b.edition == ANTHERCUP_OLD && class <= 10) return class == 1 || class == 3 || class == 5;
-    return class <= 14;
+    if (b.edition == ANTHERCUP_PRESENT) return class <= 18;
+    if (b.edition == ANTHERCUP_OLD && class <= 18) return class == 1 || class == 3 || class == 5 || class == 11;
+    return class <= 21;
 }
 
 /* the parameters that a refusal with this number may have, 10 not being the lenient way's in a known edition */
@@ -475,18 +712,18 @@ static int may_stand(unsigned class, unsigned x) {
     case 1: return x == '0' || x == '1';
     case 3: return x == 'O' || x == 'P';
     case 5: return x == 0x00 || x == 0xFF;
-    case 11: return x >= '0' && x <= '9';
-    case 12: return x >= 0x20 && x <= 0x7E;
-    case 13: return x <= 0x06;
+    case 11: return x >= 0x20 && x <= 0x7E;
+    case 19: return x >= '0' && x <= '9';
+    case 20: return x <= 0x06;
     default: return x == 0 || (x >= 3 && x <= 5) || (x >= 0x0A && x <= 0x0D) || x == 0x0F;
     }
 }
 
 /* every octet in contents of every class of the old edition, and of texts in a later place too */
 static void old_contents(struct book b) {
-    for (unsigned class = 0; class <= 14; class++)
+    for (unsigned class = 0; class <= 21; class++)
         for (unsigned x = 0; x < 256 && class_in_range(b, class); x++)
-            for (uint8_t index = 0; index < (class == 11 || class == 12 ? 2 : 1); index++) {
+            for (uint8_t index = 0; index < (class == 11 || class == 19 ? 2 : 1); index++) {
                 uint8_t l[ANTHERCUP_LISTENER_OCTETS] = {4, 7, (uint8_t)(4 + index), 0, (uint8_t)class, 8, index, 0, 0,
                                                         0, 1, ANTHERCUP_OLD, b.way}, octet = (uint8_t)x;
                 uint64_t answer = anthercup_listen(l, sizeof l, &octet, 1);
@@ -511,11 +748,21 @@ static void of_another(const uint8_t *record, struct book b) {
 
 /* by document 01, may a parameter of this type stand in the room? */
 static int fits_room(uint8_t edition, uint8_t type, unsigned room) {
-    static const uint8_t ones[] = {0x04, 0x0B, 0x15, 0x16, 0x08, 0x11, 0x13};
+    static const uint8_t ones[] = {0x04, 0x0B, 0x15, 0x16, 0x08, 0x11, 0x13, 0x55};
     if (type == 0x01) return room == 10 || room >= 13;
-    if (type == 0x0D && edition == ANTHERCUP_PRESENT) return room == 5 || room >= 8;
     if (memchr(ones, type, edition == ANTHERCUP_OLD ? 4 : sizeof ones)) return room == 3 || room >= 6;
-    return room >= 3;
+    if (edition == ANTHERCUP_OLD) return room >= 3;
+    switch (type) {
+    case 0x0D: return room == 5 || room >= 8;
+    case 0x0F: return room == 10 || room >= 12;
+    case 0x20:
+    case 0x21:
+    case 0x22: return room == 16 || room >= 19;
+    case 0x23: return room == 8 || room >= 11;
+    case 0x40: return room >= 4;
+    case 0xE0: return room == 12 || room >= 15;
+    default: return room >= 3;
+    }
 }
 
 /* every type in every room, those of 1 and 2 too, to which no octets lead: by the strict way 10 comes ahead of 3 */
@@ -532,6 +779,186 @@ static void types_in_rooms(struct book b) {
             same("a type in a room", answer != (refusal(b.edition, number, place, parameter) | (uint64_t)1 << 40), 0);
             same("its record", l[9], number);
         }
+}
+
+/* every length of every class in every room, by document 01's table, the old sheet's and document 02, Q-4 */
+static void lengths_in_rooms(struct book b) {
+    static const uint8_t least[] = {1, 8, 1, 1, 1, 1, 3, 1, 1, 1, 1, 1, 8, 14, 6, 2, 1, 1, 10, 1, 1, 1};
+    static const uint8_t most[] = {253, 8, 20, 1, 50, 1, 3, 1, 1, 1, 1, 20, 10, 14, 6, 21, 253, 1, 10, 18, 1, 1};
+    for (unsigned class = 0; class < sizeof least; class++)
+        for (unsigned room = 1; room < 256 && class_in_range(b, class); room++)
+            for (unsigned x = 0; x < 256; x++) {
+                uint8_t l[ANTHERCUP_LISTENER_OCTETS] = {3, 0, 3, 0, (uint8_t)class, 0, 0, 0, (uint8_t)room, 0, 1,
+                                                        b.edition, b.way}, length = (uint8_t)x;
+                int fits = x >= least[class] && x <= most[class] && (x + 2 == room || x + 5 <= room);
+                if (class == 12 && x == 9) fits = 0;
+                if (room < 3) l[2] = 5;
+                unsigned place = l[2];
+                uint64_t answer = anthercup_listen(l, sizeof l, &length, 1);
+                uint64_t wanted = fits ? naming(b.edition) : refusal(b.edition, 4, place, 1);
+                same("a length in a room", answer != (wanted | (uint64_t)1 << 40), 0);
+                same("what is left", l[8], fits ? room - 2 - x : 0);
+                same("nothing remembered", l[7], 0);
+            }
+}
+
+/* a place in contents: which octets may stand there, in ranges, and what is remembered behind them. LAST is the last
+ * digit: the octet less 30H, 0 where it is below */
+enum { LAST = 256 };
+
+#define DIGITS(then) {'0', '9', then}
+#define NUMBERS(then) DIGITS(then), {'(', '*', then}, {'#', '#', then}, {' ', ' ', then}, {'-', '-', then}
+#define CHARACTERS {0x20, 0x7E, 0}
+#define ANY(then) {0x00, 0xFF, then}
+#define BOTH(...) 1, __VA_ARGS__}, {12, __VA_ARGS__
+
+static const struct place {
+    uint8_t class, length, index, memory, ranges;
+    struct {
+        unsigned low, high, then;
+    } may[8];
+} contents[] = {
+    /* a date and a moment: tens of the month, its days, how many are left, the last digit */
+    {BOTH(20, 0, 0, 1, {{'0', '1', LAST}})},
+    {BOTH(20, 1, 0, 8, {{'1', '1', 31}, {'2', '2', 29}, {'3', '3', 31}, {'4', '4', 30}, {'5', '5', 31}, {'6', '6', 30},
+                        {'7', '8', 31}, {'9', '9', 30}})},
+    {BOTH(20, 1, 1, 3, {{'0', '0', 31}, {'1', '1', 30}, {'2', '2', 31}})},
+    {BOTH(20, 1, 2, 0, {{0, 0, 0}})},
+    {BOTH(20, 2, 29, 3, {{'0', '0', 29}, {'1', '1', 19}, {'2', '2', 9}})},
+    {BOTH(20, 2, 30, 4, {{'0', '0', 30}, {'1', '1', 20}, {'2', '2', 10}, {'3', '3', 0}})},
+    {BOTH(20, 3, 29, 1, {{'1', '9', LAST}})},
+    {BOTH(20, 3, 21, 1, {{'0', '9', LAST}})},
+    {BOTH(20, 3, 1, 1, {{'0', '1', LAST}})},
+    {BOTH(20, 3, 0, 1, {{'0', '0', LAST}})},
+    {BOTH(20, 4, 9, 1, {{'0', '2', LAST}})},
+    {BOTH(20, 5, 1, 1, {DIGITS(LAST)})},
+    {BOTH(20, 5, 2, 1, {{'0', '3', LAST}})},
+    {BOTH(20, 6, 3, 1, {{'0', '5', LAST}})},
+    {BOTH(20, 7, 5, 1, {DIGITS(LAST)})},
+    {BOTH(20, 7, 6, 0, {{0, 0, 0}})},
+    /* from the seconds on: a date has none */
+    {1, 20, 8, 9, 1, {ANY(LAST)}},
+    {12, 20, 8, 9, 1, {{'0', '5', LAST}}},
+    {12, 20, 9, 5, 1, {DIGITS(LAST)}},
+    {12, 20, 9, 6, 0, {{0, 0, 0}}},
+    {12, 20, 10, 6, 1, {ANY(LAST)}},
+    /* numbers and short texts */
+    {2, 20, 0, 0, 5, {NUMBERS(0)}},
+    {2, 20, 18, 7, 5, {NUMBERS(0)}},
+    {11, 20, 0, 0, 1, {CHARACTERS}},
+    {11, 20, 18, 7, 1, {CHARACTERS}},
+    /* a charge's currency; with other memories no octet may stand behind its first */
+    {13, 20, 0, 0, 2, {{'A', 'Z', 0}, {'-', '-', 1}}},
+    {13, 20, 0, 9, 2, {{'A', 'Z', 0}, {'-', '-', 1}}},
+    {13, 20, 1, 0, 1, {{'A', 'Z', 0}}},
+    {13, 20, 2, 0, 1, {{'A', 'Z', 0}}},
+    {13, 20, 1, 1, 1, {{'-', '-', 1}}},
+    {13, 20, 2, 1, 1, {{'-', '-', 1}}},
+    {13, 20, 1, 2, 0, {{0, 0, 0}}},
+    {13, 20, 2, 255, 0, {{0, 0, 0}}},
+    {13, 20, 3, 2, 0, {{0, 0, 0}}},
+    /* a cost, and behind its comma */
+    {13, 20, 4, 0, 2, {DIGITS(0), {',', ',', 1}}},
+    {13, 20, 13, 0, 2, {DIGITS(0), {',', ',', 1}}},
+    {13, 20, 4, 1, 1, {DIGITS(1)}},
+    {13, 20, 13, 1, 1, {DIGITS(1)}},
+    /* units and a price, and behind its comma; units alone; nothing */
+    {13, 20, 4, 2, 1, {DIGITS(2)}},
+    {13, 20, 8, 2, 1, {DIGITS(2)}},
+    {13, 20, 9, 2, 2, {DIGITS(2), {',', ',', 3}}},
+    {13, 20, 13, 2, 2, {DIGITS(2), {',', ',', 3}}},
+    {13, 20, 4, 3, 1, {DIGITS(3)}},
+    {13, 20, 13, 3, 1, {DIGITS(3)}},
+    {13, 20, 4, 4, 1, {DIGITS(4)}},
+    {13, 20, 8, 4, 1, {DIGITS(4)}},
+    {13, 20, 9, 4, 1, {{'-', '-', 4}}},
+    {13, 20, 13, 4, 1, {{'-', '-', 4}}},
+    {13, 20, 4, 5, 1, {{'-', '-', 5}}},
+    {13, 20, 13, 5, 1, {{'-', '-', 5}}},
+    {13, 20, 4, 6, 0, {{0, 0, 0}}},
+    {13, 20, 13, 255, 0, {{0, 0, 0}}},
+    {13, 20, 14, 6, 1, {ANY(0)}},
+    /* a duration */
+    {14, 20, 0, 0, 1, {DIGITS(LAST)}},
+    {14, 20, 1, 9, 1, {DIGITS(LAST)}},
+    {14, 20, 1, 10, 0, {{0, 0, 0}}},
+    {14, 20, 2, 9, 1, {{'0', '5', LAST}}},
+    {14, 20, 3, 5, 1, {DIGITS(LAST)}},
+    {14, 20, 3, 6, 0, {{0, 0, 0}}},
+    {14, 20, 4, 9, 1, {{'0', '5', LAST}}},
+    {14, 20, 5, 5, 1, {DIGITS(LAST)}},
+    {14, 20, 5, 6, 0, {{0, 0, 0}}},
+    {14, 20, 6, 6, 1, {ANY(LAST)}},
+    /* a terminal of two octets, of one and of more; the memory stays behind its mark */
+    {15, 2, 0, 0, 2, {{0x01, 0x01, 1}, {0x02, 0x03, 0}}},
+    {15, 2, 0, 1, 2, {{0x01, 0x01, 1}, {0x02, 0x03, 0}}},
+    {15, 1, 0, 0, 1, {{0x02, 0x03, 0}}},
+    {15, 3, 0, 0, 1, {{0x02, 0x03, 0}}},
+    {15, 21, 0, 0, 1, {{0x02, 0x03, 0}}},
+    {15, 2, 1, 1, 1, {{0x00, 0x07, 1}}},
+    {15, 2, 1, 0, 5, {NUMBERS(0)}},
+    {15, 21, 19, 1, 1, {{0x00, 0x07, 1}}},
+    {15, 21, 19, 0, 5, {NUMBERS(0)}},
+    {15, 21, 19, 2, 5, {NUMBERS(2)}},
+    {15, 21, 1, 255, 5, {NUMBERS(255)}},
+    /* a display */
+    {16, 253, 0, 0, 6, {{0x00, 0x01, 0}, {0x03, 0x06, 0}, {0x70, 0x7F, 0}, {0x80, 0x81, 0}, {0x83, 0x86, 0},
+                        {0xF0, 0xFF, 0}}},
+    {16, 253, 0, 7, 6, {{0x00, 0x01, 0}, {0x03, 0x06, 0}, {0x70, 0x7F, 0}, {0x80, 0x81, 0}, {0x83, 0x86, 0},
+                        {0xF0, 0xFF, 0}}},
+    {16, 253, 1, 0, 1, {CHARACTERS}},
+    {16, 253, 251, 7, 1, {CHARACTERS}},
+    /* a service */
+    {17, 1, 0, 0, 2, {{0x00, 0x01, 0}, {0x80, 0xFF, 0}}},
+    {17, 3, 0, 7, 2, {{0x00, 0x01, 0}, {0x80, 0xFF, 0}}},
+    {17, 3, 1, 7, 1, {ANY(0)}},
+    /* an extension */
+    {18, 20, 0, 0, 1, {DIGITS(0)}},
+    {18, 20, 0, 1, 1, {DIGITS(0)}},
+    {18, 20, 1, 0, 2, {DIGITS(0), {' ', ' ', 1}}},
+    {18, 20, 1, 1, 2, {DIGITS(0), {' ', ' ', 1}}},
+    {18, 20, 2, 0, 2, {DIGITS(0), {' ', ' ', 0}}},
+    {18, 20, 2, 1, 1, {{' ', ' ', 0}}},
+    {18, 20, 2, 2, 2, {DIGITS(0), {' ', ' ', 0}}},
+    {18, 20, 3, 1, 1, {CHARACTERS}},
+    {18, 20, 9, 1, 1, {CHARACTERS}},
+    {18, 20, 10, 1, 1, {ANY(0)}},
+};
+
+/* one octet at a place in contents: taken with this memory behind it, or 5; behind the last octet a type comes */
+static void octet_at(struct book b, const struct place *p, unsigned x, int may, unsigned then) {
+    uint8_t l[ANTHERCUP_LISTENER_OCTETS] = {4, 7, (uint8_t)(4 + p->index), 0, p->class, p->length, p->index, p->memory,
+                                            0, 0, 1, b.edition, b.way}, octet = (uint8_t)x;
+    unsigned last = p->index + 1u == p->length;
+    if (4u + p->index > 255) l[3] = 1;
+    uint64_t answer = anthercup_listen(l, sizeof l, &octet, 1);
+    uint64_t wanted = may ? naming(b.edition) : refusal(b.edition, 5, 4u + p->index, 1);
+    same("an octet of contents", answer != (wanted | (uint64_t)1 << 40), 0);
+    same("what comes next", l[0], !may ? 6 : last ? 2 : 4);
+    same("what is remembered", l[7], may && !last ? then : 0);
+    same("the index", l[6], may && !last ? p->index + 1u : 0);
+}
+
+/* by the present edition, and by the old one where it has the class */
+static void all_contents(struct book b) {
+    for (size_t i = 0; i < sizeof contents / sizeof contents[0]; i++)
+        for (unsigned x = 0; x < 256 && class_in_range(b, contents[i].class); x++) {
+            const struct place *p = &contents[i];
+            unsigned may = 0, then = 0;
+            for (size_t k = 0; k < p->ranges; k++)
+                if (p->may[k].low <= x && x <= p->may[k].high) may = 1, then = p->may[k].then;
+            if (then == LAST) then = x >= '0' ? x - '0' : 0;
+            octet_at(b, p, x, (int)may, then);
+        }
+}
+
+/* the flags of a charge: 08H not behind letters, 08H or 10H behind dashes */
+static void charge_flags(struct book b) {
+    for (unsigned x = 0; x < 256; x++) {
+        struct place letters = {13, 14, 3, 0, 0, {{0, 0, 0}}}, dashes = {13, 14, 3, 1, 0, {{0, 0, 0}}};
+        octet_at(b, &letters, x, x % 16 < 8, x / 16 % 2 ? 2 : 0);
+        octet_at(b, &dashes, x, x % 16 >= 8 || x / 16 % 2, x % 16 >= 8 ? 5 : 4);
+    }
 }
 
 /* records that octets lead to, with every value of octet 11 and of octet 12, and with both of some */
@@ -602,7 +1029,7 @@ static void parameters_in_range(void) {
         for (size_t k = 0; k < sizeof some_numbers * sizeof some_ways; k++) {
             struct book b = {some_numbers[k / sizeof some_ways], some_ways[k % sizeof some_ways]};
             uint8_t class = cases[i].class;
-            if (class == 2 && b.edition == ANTHERCUP_OLD) class = 11;
+            if (class == 2 && b.edition == ANTHERCUP_OLD) class = 19;
             if (cases[i].stage == 4 && b.way == ANTHERCUP_STRICT) class = 3;
             uint8_t l[ANTHERCUP_LISTENER_OCTETS] = {cases[i].stage, 0, (uint8_t)cases[i].place,
                                                     (uint8_t)(cases[i].place >> 8), class, cases[i].length,
@@ -757,6 +1184,25 @@ static void counts(void) {
     counted_is("800305010077", 0x05, 0, 0); /* carried */
 }
 
+/* document 02, Q-4: each of the types counts, the first of two, and beside every other: no pair is new. In the old
+ * edition none counts */
+static void european_counts(void) {
+    static const uint8_t starts[256] = {[0x0F] = 4, [0x10] = 16, [0x1A] = 19, [0x20] = 22, [0x21] = 38, [0x22] = 54,
+                                        [0x23] = 70, [0x30] = 78, [0x31] = 82, [0x40] = 85, [0x50] = 89, [0x55] = 94,
+                                        [0xE0] = 97};
+    static const uint8_t lengths[256] = {[0x0F] = 10, [0x10] = 1, [0x1A] = 1, [0x20] = 14, [0x21] = 14, [0x22] = 14,
+                                         [0x23] = 6, [0x30] = 2, [0x31] = 1, [0x40] = 2, [0x50] = 3, [0x55] = 1,
+                                         [0xE0] = 10};
+    for (unsigned type = 0; type < 256; type++) {
+        counted_is(EUROPEAN, (uint8_t)type, starts[type], lengths[type]);
+        counted_in(ANTHERCUP_OLD, EUROPEAN, (uint8_t)type, 0, 0);
+    }
+    counted_is("80090401501001370201389F", ANTHERCUP_PARAMETER_NETWORK_CALLER, 7, 1);
+    counted_is("80090401501001370201389F", ANTHERCUP_PARAMETER_CALLER, 0, 0);
+    counted_is("80091001370201380401509F", ANTHERCUP_PARAMETER_CALLER, 7, 1);
+    counted_is("8006500100500104D4", ANTHERCUP_PARAMETER_DISPLAY, 4, 1);
+}
+
 /* every type of the old edition counts, of no other; 02H and 04H are its one pair, and 08H silences no name */
 static void old_counts(void) {
     static const char all[] = "801C010830363135313433300201370701410B01FF12013915010616010AB0";
@@ -831,6 +1277,254 @@ static void captions(void) {
     caption_in(ANTHERCUP_OLD, "800608014F070141D9", "A=B\n", 4, 0, 7, 1);
     caption_in(ANTHERCUP_OLD, "8006040150020137EB", "7=A\n", 4, 0, 0, 0);
     caption_in(ANTHERCUP_OLD, "800303013742", "7=A\n", 4, 0, 0, 0);
+}
+
+/* ---- Entries, charges and extensions by the header's readers (document 02, Q-4) ---- */
+
+static uint8_t draft[ANTHERCUP_DRAFT_OCTETS], area[ANTHERCUP_TEXTS_OCTETS];
+
+/* reads a message of the present edition by both ways, with the texts that it needs and with one octet less: 9 */
+static void read_into(const char *octets, unsigned entries, unsigned texts) {
+    uint8_t o[300], none[ANTHERCUP_DRAFT_OCTETS], less[ANTHERCUP_TEXTS_OCTETS];
+    size_t n = octets_of(octets, o);
+    for (uint8_t way = 0; way <= ANTHERCUP_LENIENT; way++) {
+        memset(none, 0x5A, sizeof none), memset(less, 0x5A, sizeof less), memset(area, 0x5A, sizeof area);
+        if (texts) {
+            uint64_t answer = anthercup_read_way(ANTHERCUP_PRESENT, way, o, n, none, sizeof none, less, texts - 1);
+            same(octets, (unsigned long)answer, (unsigned long)refusal(ANTHERCUP_PRESENT, 9, texts, 0));
+            for (size_t i = 0; i < sizeof none; i++) same("a draft that stays", none[i], 0x5A);
+        }
+        uint64_t answer = anthercup_read_way(ANTHERCUP_PRESENT, way, o, n, draft, sizeof draft, area, texts);
+        same(octets, (unsigned long)answer, (unsigned long)((uint64_t)texts << 24));
+        same(octets, anthercup_entries(draft), entries);
+        for (size_t i = texts; i < sizeof area; i++) same("an area's rest", area[i], 0x5A);
+        for (size_t i = 8 + 8 * (size_t)entries; i < sizeof draft; i++) same("an unused entry", draft[i], 0);
+    }
+}
+
+/* the eight octets of an entry, in hex */
+static void entry_is(unsigned i, const char *octets) {
+    uint8_t cell[300];
+    same("an entry's octets", octets_of(octets, cell), 8);
+    same(octets, (unsigned long)memcmp(anthercup_entry(draft, i), cell, 8), 0);
+}
+
+/* the text of an entry: where it starts, and what it is */
+static void text_is(unsigned i, unsigned start, const char *text) {
+    same(text, anthercup_entry_start(draft, i), start);
+    same(text, anthercup_entry_length(draft, i), strlen(text));
+    same(text, (unsigned long)memcmp(anthercup_entry_text(draft, i, area), text, strlen(text)), 0);
+}
+
+static void moment_is(unsigned i, unsigned month, unsigned day, unsigned hour, unsigned minute, int second) {
+    same("a moment", anthercup_entry_kind(draft, i), ANTHERCUP_VALUE_MOMENT);
+    same("its month", anthercup_entry_month(draft, i), month);
+    same("its day", anthercup_entry_day(draft, i), day);
+    same("its hour", anthercup_entry_hour(draft, i), hour);
+    same("its minute", anthercup_entry_minute(draft, i), minute);
+    same("its second", (unsigned long)anthercup_entry_second(draft, i), (unsigned long)second);
+}
+
+static void marked_is(unsigned i, unsigned type, unsigned mark, unsigned start, const char *text) {
+    same("a marked text's type", anthercup_entry_type(draft, i), type);
+    same("a marked text", anthercup_entry_kind(draft, i), ANTHERCUP_VALUE_MARKED);
+    same("its mark", (unsigned long)anthercup_entry_mark(draft, i), mark);
+    text_is(i, start, text);
+}
+
+static void duration_is(unsigned i, unsigned hours, unsigned minutes, unsigned seconds) {
+    same("a duration", anthercup_entry_kind(draft, i), ANTHERCUP_VALUE_DURATION);
+    same("its hours", (unsigned long)anthercup_entry_duration_hours(draft, i), hours);
+    same("its minutes", (unsigned long)anthercup_entry_duration_minutes(draft, i), minutes);
+    same("its seconds", (unsigned long)anthercup_entry_duration_seconds(draft, i), seconds);
+}
+
+static void entries(void) {
+    read_into(EUROPEAN, 13, 60);
+    entry_is(0, "0F05060F0E1E3C00");
+    moment_is(0, 6, 15, 14, 30, 59);
+    entry_is(1, "1003000001000000");
+    entry_is(3, "200302000E000000");
+    text_is(2, 1, "8");
+    text_is(4, 16, "---\x10" "00023-----");
+    entry_is(6, "2306633B3A000000");
+    duration_is(6, 99, 59, 58);
+    text_is(7, 44, "AB");
+    text_is(8, 46, "C");
+    entry_is(9, "400701002F000100");
+    marked_is(9, ANTHERCUP_PARAMETER_TERMINAL, ANTHERCUP_TERMINAL_CONNECTION, 47, "\x07");
+    entry_is(10, "5007810030000200");
+    marked_is(10, ANTHERCUP_PARAMETER_DISPLAY, ANTHERCUP_DISPLAY_STORED | ANTHERCUP_DISPLAY_POSITIVE, 48, "Hi");
+    entry_is(11, "5500010000000000");
+    entry_is(12, "E00332000A000000");
+    text_is(12, 50, "33 FT  V01");
+    /* a moment without a second, with 00 and with 59 */
+    read_into("800A0F083036313531343330CB", 1, 0);
+    entry_is(0, "0F05060F0E1E0000");
+    moment_is(0, 6, 15, 14, 30, -1);
+    read_into("800C0F0A3036313531343330303067", 1, 0);
+    entry_is(0, "0F05060F0E1E0100");
+    moment_is(0, 6, 15, 14, 30, 0);
+    read_into("800C0F0A303232393233353935394D", 1, 0);
+    moment_is(0, 2, 29, 23, 59, 59);
+    /* a display with no text: alone, and between two texts */
+    read_into("80035001002C", 1, 0);
+    entry_is(0, "5007000000000000");
+    marked_is(0, ANTHERCUP_PARAMETER_DISPLAY, ANTHERCUP_DISPLAY_UNKNOWN, 0, "");
+    read_into("800A300241425001813101437A", 3, 3);
+    entry_is(1, "5007810002000000");
+    marked_is(1, ANTHERCUP_PARAMETER_DISPLAY, 0x81, 2, "");
+    text_is(2, 2, "C");
+    read_into("80054003022A23E9", 1, 2);
+    marked_is(0, ANTHERCUP_PARAMETER_TERMINAL, ANTHERCUP_TERMINAL_NUMBER, 0, "*#");
+    /* in the old edition all are carried, marks too */
+    uint8_t o[300];
+    size_t n = octets_of("80044002010732", o);
+    uint64_t answer = anthercup_read_way(ANTHERCUP_OLD, ANTHERCUP_LENIENT, o, n, draft, sizeof draft, area, 2);
+    same("old: read", (unsigned long)answer, (unsigned long)(naming(ANTHERCUP_OLD) | (uint64_t)2 << 24));
+    entry_is(0, "4004000002000000");
+    text_is(0, 0, "\x01\x07");
+}
+
+/* the longest display, alone in the longest message: 252 characters behind its mark */
+static void longest_display(void) {
+    uint8_t o[ANTHERCUP_MESSAGE_OCTETS] = {0x80, 255, 0x50, 253, 0x05}, sum = 0;
+    char hex[2 * sizeof o + 1], text[253] = {0};
+    const struct row r = {hex, 0, 0, 0, sizeof o};
+    memset(text, '~', 252), memset(o + 5, '~', 252);
+    for (size_t i = 0; i < 257; i++) sum = (uint8_t)(sum + o[i]);
+    o[257] = (uint8_t)(0 - sum);
+    for (size_t i = 0; i < sizeof o; i++) snprintf(hex + 2 * i, 3, "%02X", o[i]);
+    all_cuttings(strict(ANTHERCUP_PRESENT), &r);
+    all_cuttings(lenient(ANTHERCUP_PRESENT), &r);
+    read_into(hex, 1, 252);
+    entry_is(0, "500705000000FC00");
+    marked_is(0, ANTHERCUP_PARAMETER_DISPLAY, ANTHERCUP_DISPLAY_PROVIDER, 0, text);
+}
+
+/* what the readers of one kind say of an entry with these octets behind its kind, of every kind and some types: of any
+ * other kind -1, or no text */
+static void other_kinds(void) {
+    static const uint8_t types[] = {0x00, 0x01, 0x0F, 0x1F, 0x20, 0x22, 0x23, 0x40, 0x50, 0xDF, 0xE0, 0xE1};
+    const unsigned i = ANTHERCUP_MOST_ENTRIES - 1;
+    memset(draft, 0xFF, sizeof draft);
+    for (unsigned kind = 0; kind < 256; kind++)
+        for (size_t k = 0; k < sizeof types; k++) {
+            const uint8_t cell[8] = {types[k], (uint8_t)kind, 1, 2, 3, 4, 5, 6};
+            int text = kind == 3 || kind == 4, marked = kind == 7;
+            memcpy(draft + sizeof draft - sizeof cell, cell, sizeof cell);
+            same("a second", (unsigned long)anthercup_entry_second(draft, i), (unsigned long)(kind == 5 ? 4L : -1L));
+            same("hours", (unsigned long)anthercup_entry_duration_hours(draft, i),
+                 (unsigned long)(kind == 6 ? 1L : -1L));
+            same("minutes", (unsigned long)anthercup_entry_duration_minutes(draft, i),
+                 (unsigned long)(kind == 6 ? 2L : -1L));
+            same("seconds", (unsigned long)anthercup_entry_duration_seconds(draft, i),
+                 (unsigned long)(kind == 6 ? 3L : -1L));
+            same("a mark", (unsigned long)anthercup_entry_mark(draft, i), (unsigned long)(marked ? 1L : -1L));
+            same("a start", anthercup_entry_start(draft, i), text ? 0x0201 : marked ? 0x0403 : 0);
+            same("a length", anthercup_entry_length(draft, i), text ? 0x0403 : marked ? 0x0605 : 0);
+            same("no charge", anthercup_entry_charge(draft, i, area, SIZE_MAX) != NULL, 0);
+            same("no extension", anthercup_entry_extension(draft, i, area, SIZE_MAX) != NULL, 0);
+        }
+}
+
+/* of every type and kind, a text of each of these lengths that starts at 0, 3 or 65,535, and areas on both sides of its
+ * end: a charge has 14 octets, an extension 10, both are texts and end within the area */
+static void sized_texts(void) {
+    static const unsigned starts[] = {0, 3, 65535};
+    for (unsigned k = 0; k < 256 * 9 * 6 * 3; k++) {
+        unsigned type = k % 256, kind = k / 256 % 9, length = 9 + k / 256 / 9 % 6, start = starts[k / 256 / 9 / 6];
+        const uint8_t cell[8] = {(uint8_t)type, (uint8_t)kind, (uint8_t)start, (uint8_t)(start >> 8), (uint8_t)length};
+        int charge = kind == 3 && type >= 0x20 && type <= 0x22 && length == 14;
+        int extension = kind == 3 && type == 0xE0 && length == 10;
+        memcpy(draft + 8, cell, sizeof cell);
+        for (size_t octets = start + length - 1; octets <= start + length && start < 65535; octets++) {
+            const uint8_t *found = anthercup_entry_charge(draft, 0, area, octets);
+            same("a charge's place", found == (charge && octets == start + length ? area + start : NULL), 1);
+            found = anthercup_entry_extension(draft, 0, area, octets);
+            same("an extension's place", found == (extension && octets == start + length ? area + start : NULL), 1);
+        }
+        same("a text outside", anthercup_entry_charge(draft, 0, area, sizeof area) != NULL, start < 4 && charge);
+        same("a text outside", anthercup_entry_extension(draft, 0, area, sizeof area) != NULL, start < 4 && extension);
+    }
+}
+
+/* these octets stand there, or none where `text` is NULL */
+static void part_is(const char *what, const uint8_t *found, const uint8_t *place, const char *text) {
+    same(what, found == (text ? place : NULL), 1);
+    if (text) same(what, (unsigned long)memcmp(found, text, strlen(text)), 0);
+}
+
+/* a charge, by its 14 octets: currency, flags, and cost, units and price, NULL and -1 where there is none */
+static void charge_is(const char *octets, const char *currency, unsigned flags, unsigned charged, const char *cost,
+                      long units, const char *price) {
+    const uint8_t *c = (const uint8_t *)octets;
+    part_is(octets, anthercup_charge_currency(c), c, currency);
+    same(octets, anthercup_charge_flags(c), flags);
+    same(octets, anthercup_charged(c), charged);
+    part_is(octets, anthercup_charge_cost(c), c + 4, cost);
+    same(octets, (unsigned long)anthercup_charge_units(c), (unsigned long)units);
+    part_is(octets, anthercup_charge_price(c), c + 9, price);
+}
+
+/* annex D's three: 23,45 FRF; 23 units; 78 units of 0,12 DEM */
+static void annex_d(const uint8_t *first, const uint8_t *second, const uint8_t *third) {
+    charge_is((const char *)first, "FRF", 0x00, ANTHERCUP_CHARGED_COST, "0000023,45", -1, NULL);
+    charge_is((const char *)second, NULL, 0x10, ANTHERCUP_CHARGED_UNITS, NULL, 23, NULL);
+    charge_is((const char *)third, "DEM", 0x10, ANTHERCUP_CHARGED_UNITS, NULL, 78, "00,12");
+}
+
+/* annex D's, by their entries and where they count; commas at both ends, all flags, nothing; octets that are none */
+static void charges(void) {
+    uint8_t o[300];
+    const uint8_t *in_area[3], *in_message[3];
+    size_t n = octets_of(EUROPEAN, o);
+    read_into(EUROPEAN, 13, 60);
+    for (uint8_t way = 0; way <= ANTHERCUP_LENIENT; way++)
+        for (uint8_t i = 0; i < 3; i++) {
+            uint8_t type = (uint8_t)(ANTHERCUP_PARAMETER_CHARGE + i);
+            uint64_t answer = anthercup_counted(ANTHERCUP_PRESENT, way, o, n, type);
+            same("a charge's octets", anthercup_counted_length(answer), ANTHERCUP_CHARGE_OCTETS);
+            in_message[i] = o + anthercup_counted_start(answer);
+            in_area[i] = anthercup_entry_charge(draft, 3u + i, area, 60);
+            same("a charge's text", in_area[i] == area + 2 + 14 * i, 1);
+        }
+    annex_d(in_area[0], in_area[1], in_area[2]);
+    annex_d(in_message[0], in_message[1], in_message[2]);
+    for (unsigned i = 0; i < 13; i++)
+        if (i < 3 || i > 5) same("no charge", anthercup_entry_charge(draft, i, area, 60) != NULL, 0);
+    charge_is("---\x08" "----------", NULL, 0x08, ANTHERCUP_CHARGED_NOTHING, NULL, -1, NULL);
+    charge_is("---\xFF" "----------", NULL, 0xFF, ANTHERCUP_CHARGED_NOTHING, NULL, -1, NULL);
+    charge_is("AZA\xE7" ",000000001", "AZA", 0xE7, ANTHERCUP_CHARGED_COST, ",000000001", -1, NULL);
+    charge_is("ZAZ\x07" "999999999,", "ZAZ", 0x07, ANTHERCUP_CHARGED_COST, "999999999,", -1, NULL);
+    charge_is("EUR\x14" "99999,9999", "EUR", 0x14, ANTHERCUP_CHARGED_UNITS, NULL, 99999, ",9999");
+    charge_is("EUR\xF7" "000009999,", "EUR", 0xF7, ANTHERCUP_CHARGED_UNITS, NULL, 0, "9999,");
+    charge_is("EUR\x11" "0000199999", "EUR", 0x11, ANTHERCUP_CHARGED_UNITS, NULL, 1, "99999");
+    charge_is("EUR\x10" "0/00199999", "EUR", 0x10, ANTHERCUP_CHARGED_UNITS, NULL, -1, "99999");
+    charge_is("EUR\x10" "0000:-9999", "EUR", 0x10, ANTHERCUP_CHARGED_UNITS, NULL, -1, NULL);
+    charge_is("EUR\x18" "0000199999", "EUR", 0x18, ANTHERCUP_CHARGED_NOTHING, NULL, -1, NULL);
+}
+
+static void extension_is(const char *octets, const char *text, unsigned country) {
+    read_into(octets, 1, ANTHERCUP_EXTENSION_OCTETS);
+    text_is(0, 0, text);
+    const uint8_t *e = anthercup_entry_extension(draft, 0, area, ANTHERCUP_EXTENSION_OCTETS);
+    same(text, e == area, 1);
+    same(text, (unsigned long)anthercup_extension_country(e), country);
+    same(text, (unsigned long)memcmp(anthercup_extension_operator(e), "FT  ", ANTHERCUP_OPERATOR_OCTETS), 0);
+    same(text, (unsigned long)memcmp(anthercup_extension_version(e), "V01", ANTHERCUP_VERSION_OCTETS), 0);
+}
+
+/* codes of one, two and three digits; and octets that are none */
+static void extensions(void) {
+    static const char *const none[] = {"   FT  V01", "3 3FT  V01", " 33FT  V01",
+                                       "/  FT  V01", "3: FT  V01", "33-FT  V01"};
+    extension_is("800CE00A3120204654202056303188", "1  FT  V01", 1);
+    extension_is("800CE00A3333204654202056303173", "33 FT  V01", 33);
+    extension_is("800CE00A3335314654202056303160", "351FT  V01", 351);
+    extension_is("800CE00A3030374654202056303162", "007FT  V01", 7);
+    for (size_t i = 0; i < sizeof none / sizeof none[0]; i++)
+        same(none[i], (unsigned long)anthercup_extension_country((const uint8_t *)none[i]), (unsigned long)-1L);
 }
 
 /* refusals as the whole read's, ahead of them 17 by the size alone, and the part's record as it was */
@@ -1043,6 +1737,9 @@ static void all_rows(struct book b) {
         one_row(b, &by_edition[b.edition].strict[i]);
     last_parameter(b);
     types_in_rooms(b);
+    lengths_in_rooms(b);
+    all_contents(b);
+    if (b.edition == ANTHERCUP_PRESENT) charge_flags(b);
 }
 
 int main(void) {
@@ -1057,14 +1754,23 @@ int main(void) {
     notice_is("820313010265", 2, ANTHERCUP_LAMP_UNKNOWN);
     notice_is("820613010213010549", 2, ANTHERCUP_LAMP_UNKNOWN);
     notice_is("8006040150020137EB", -1, ANTHERCUP_LAMP_UNKNOWN);
+    notice_is(EUROPEAN, -1, ANTHERCUP_LAMP_UNKNOWN);
+    notice_is("820E5001000B01FF2306303030303030CB", -1, ANTHERCUP_LAMP_ON);
     notice_in(ANTHERCUP_OLD, "82030B01FF70", -1, ANTHERCUP_LAMP_ON);
     notice_in(ANTHERCUP_OLD, "82030B01006F", -1, ANTHERCUP_LAMP_OFF);
     notice_in(ANTHERCUP_OLD, "820313010265", -1, ANTHERCUP_LAMP_UNKNOWN);
     notice_in(ANTHERCUP_OLD, "82060B01FF13010257", -1, ANTHERCUP_LAMP_ON);
     notice_in(ANTHERCUP_OLD, "82050D03FF010267", -1, ANTHERCUP_LAMP_UNKNOWN);
     counts();
+    european_counts();
     old_counts();
     captions();
+    entries();
+    longest_display();
+    other_kinds();
+    sized_texts();
+    charges();
+    extensions();
     other_sizes();
     other_desks();
     references();

@@ -1,8 +1,10 @@
 /* The deepest message, 85 parameters in 258 octets, on a painted stack, by each
- * edition and way: read, settled, asked for what counts and for its caption, and
- * heard; the deepest octet touched by each call is printed. More than the header
- * says ends it with status 1: so it does where header and contents are no longer
- * one loop, since each parameter then costs stack of its own. */
+ * edition and way, and one with a parameter of each type that the present
+ * edition lists, so with contents of each of its classes: read, settled, asked
+ * for what counts and for its caption, and heard; the deepest octet touched by
+ * each call is printed. More than the header says ends it with status 1: so it
+ * does where header and contents are no longer one loop, since each parameter
+ * then costs stack of its own. */
 #include <stdio.h>
 #include <string.h>
 
@@ -14,40 +16,69 @@ static uint8_t o[ANTHERCUP_MESSAGE_OCTETS], draft[ANTHERCUP_DRAFT_OCTETS],
     texts[ANTHERCUP_TEXTS_OCTETS], desk[ANTHERCUP_DESK_OCTETS],
     listener[ANTHERCUP_LISTENER_OCTETS], part[ANTHERCUP_PART_OCTETS];
 
+/* the message type, L, and behind the n octets that are laid down the sum */
+static size_t around(uint8_t type, size_t n)
+{
+    uint8_t sum = 0;
+
+    o[0] = type;
+    o[1] = (uint8_t)(n - 2);
+    for (size_t i = 0; i < n; i++)
+        sum = (uint8_t)(sum + o[i]);
+    o[n] = (uint8_t)-sum;
+    return n + 1;
+}
+
 /* L is 255: texts of one octet, by the lenient way carried ones, by the strict
- * way first called numbers; the checksum last */
-static size_t message(uint8_t type, uint8_t way)
+ * way first called numbers; the last is the caller, 7 */
+static size_t deepest(uint8_t type, uint8_t way)
 {
     int carried = way == ANTHERCUP_LENIENT;
-    uint8_t sum = 0;
-    size_t n = 0;
+    size_t n = 2;
 
-    o[n++] = type;
-    o[n++] = 255;
     for (unsigned i = 0; i < ANTHERCUP_MOST_ENTRIES; i++) {
         o[n++] = carried ? 0x60 : ANTHERCUP_PARAMETER_FIRST_CALLED;
         o[n++] = 1;
         o[n++] = (uint8_t)(carried ? i : '0' + i % 10);
     }
-    for (size_t i = 0; i < n; i++)
-        sum = (uint8_t)(sum + o[i]);
-    o[n++] = (uint8_t)-sum;
-    return n;
+    o[n - 3] = ANTHERCUP_PARAMETER_CALLER;
+    o[n - 1] = '7';
+    return around(type, n);
 }
 
-/* a call whose caller, 7, stands last, and whose directory has a line for it */
-static const uint8_t line[] = {'7', '=', 'A', 'n', 'n'};
-
-static size_t called(uint8_t way)
+/* each type of the present edition, in order, but for 08H, ahead of 07H: no
+ * name counts */
+static size_t each(uint8_t type, uint8_t way)
 {
-    size_t n = message(ANTHERCUP_CALL, way);
+    static const char all[] =
+        "\x01\x08" "06151430" "\x02\x01" "7" "\x03\x01" "7" "\x04\x01" "P"
+        "\x08\x01" "O" "\x07\x03" "Ann" "\x0B\x01\xFF" "\x0D\x03\xFF\x01\x02"
+        "\x0E\x01" "7" "\x0F\x0A" "0615143059" "\x10\x01" "7" "\x11\x01\x01"
+        "\x12\x01" "7" "\x13\x01\x02" "\x15\x01\x06" "\x16\x01\x0A"
+        "\x1A\x01" "7" "\x20\x0E" "FRF" "\x00" "0000023,45"
+        "\x21\x0E" "---" "\x10" "00023-----"
+        "\x22\x0E" "DEM" "\x10" "0007800,12" "\x23\x06" "995959"
+        "\x30\x02" "AB" "\x31\x01" "C" "\x40\x05\x02" "40*#"
+        "\x50\x06\x81" "Hello" "\x55\x01\x01" "\xE0\x0A" "33 FT  V01";
 
-    o[n - 1] = (uint8_t)(o[n - 1] + o[n - 4] - ANTHERCUP_PARAMETER_CALLER
-                         + o[n - 2] - '7');
-    o[n - 4] = ANTHERCUP_PARAMETER_CALLER;
-    o[n - 2] = '7';
-    return n;
+    (void)way;
+    memcpy(o + 2, all, sizeof all - 1);
+    return around(type, 2 + sizeof all - 1);
 }
+
+struct sample {
+    size_t (*made)(uint8_t type, uint8_t way);
+    size_t octets;
+    unsigned entries, texts;
+};
+
+static const struct sample deep = {deepest, ANTHERCUP_MESSAGE_OCTETS,
+                                   ANTHERCUP_MOST_ENTRIES,
+                                   ANTHERCUP_MOST_ENTRIES};
+static const struct sample of_each = {each, 167, 27, 73};
+
+/* of a call of the caller 7 */
+static const uint8_t line[] = {'7', '=', 'A', 'n', 'n'};
 
 static void paint(void)
 {
@@ -76,30 +107,45 @@ static int failed(const char *what, uint64_t answer)
     return 1;
 }
 
+/* Texts and carried texts are the contents of their parameters. */
+static int texts_are(void)
+{
+    size_t at = 2;
+
+    for (unsigned i = 0; i < anthercup_entries(draft); i++) {
+        unsigned kind = anthercup_entry_kind(draft, i);
+
+        if ((kind == ANTHERCUP_VALUE_TEXT || kind == ANTHERCUP_VALUE_CARRIED)
+            && memcmp(anthercup_entry_text(draft, i, texts), o + at + 2,
+                      o[at + 1]) != 0)
+            return 0;
+        at += 2u + o[at + 1];
+    }
+    return 1;
+}
+
 /* Each call is made between painting and looking, so that nothing else is
  * measured. */
-static int by(uint8_t edition, uint8_t way)
+static int by(const struct sample *s, uint8_t edition, uint8_t way)
 {
-    size_t n = message(ANTHERCUP_NOTICE, way), read, settle, listen, counted,
+    size_t n = s->made(ANTHERCUP_NOTICE, way), read, settle, listen, counted,
            caption;
     uint64_t answer;
 
-    if (n != ANTHERCUP_MESSAGE_OCTETS)
+    if (n != s->octets)
         return 1;
     paint();
     answer = anthercup_read_way(edition, way, o, n, draft, sizeof draft, texts,
                                 sizeof texts);
     read = touched();
-    if (anthercup_number(answer)
-        || anthercup_size(answer) != ANTHERCUP_MOST_ENTRIES
+    if (anthercup_number(answer) || anthercup_size(answer) != s->texts
         || anthercup_edition(answer) != edition)
         return failed("read", answer);
-    if (anthercup_entries(draft) != ANTHERCUP_MOST_ENTRIES
+    if (anthercup_entries(draft) != s->entries
         || anthercup_draft_edition(draft) != edition)
         return failed("entries", answer);
-    for (unsigned i = 0; i < ANTHERCUP_MOST_ENTRIES; i++)
-        if (*anthercup_entry_text(draft, i, texts) != o[4 + 3 * i])
-            return failed("text", answer);
+    if (!texts_are())
+        return failed("text", answer);
 
     anthercup_new_desk(desk, sizeof desk);
     paint();
@@ -109,19 +155,10 @@ static int by(uint8_t edition, uint8_t way)
         return failed("settle", answer);
 
     paint();
-    answer = anthercup_counted(edition, way, o, n, ANTHERCUP_PARAMETER_USER);
+    answer = anthercup_counted(edition, way, o, n, ANTHERCUP_PARAMETER_CALLER);
     counted = touched();
-    if (anthercup_number(answer) || anthercup_counts(answer))
+    if (anthercup_number(answer) || !anthercup_counts(answer))
         return failed("counted", answer);
-
-    n = called(way);
-    paint();
-    answer = anthercup_caption(edition, way, o, n, line, sizeof line, part,
-                               sizeof part);
-    caption = touched();
-    if (anthercup_number(answer) || anthercup_part_length(part) != 3)
-        return failed("caption", answer);
-    n = message(ANTHERCUP_NOTICE, way);
 
     anthercup_reset_way(edition, way, listener, sizeof listener);
     paint();
@@ -130,17 +167,28 @@ static int by(uint8_t edition, uint8_t way)
     if (anthercup_size(answer) != n)
         return failed("listen", answer);
 
-    printf("stack: edition %u way %u, 258 octets, 85 parameters: read %zu "
+    n = s->made(ANTHERCUP_CALL, way);
+    paint();
+    answer = anthercup_caption(edition, way, o, n, line, sizeof line, part,
+                               sizeof part);
+    caption = touched();
+    if (anthercup_number(answer) || !anthercup_part_in_directory(part))
+        return failed("caption", answer);
+
+    printf("stack: edition %u way %u, %zu octets, %u parameters: read %zu "
            "octets of stack, settle %zu, counted %zu, caption %zu, listen "
-           "%zu\n", edition, way, read, settle, counted, caption, listen);
+           "%zu\n", edition, way, n, s->entries, read, settle, counted,
+           caption, listen);
     return read > WANTED || settle > WANTED || counted > WANTED
         || caption > WANTED || listen > WANTED;
 }
 
 int main(void)
 {
-    return by(ANTHERCUP_PRESENT, ANTHERCUP_STRICT)
-        || by(ANTHERCUP_PRESENT, ANTHERCUP_LENIENT)
-        || by(ANTHERCUP_OLD, ANTHERCUP_STRICT)
-        || by(ANTHERCUP_OLD, ANTHERCUP_LENIENT);
+    return by(&deep, ANTHERCUP_PRESENT, ANTHERCUP_STRICT)
+        || by(&deep, ANTHERCUP_PRESENT, ANTHERCUP_LENIENT)
+        || by(&deep, ANTHERCUP_OLD, ANTHERCUP_STRICT)
+        || by(&deep, ANTHERCUP_OLD, ANTHERCUP_LENIENT)
+        || by(&of_each, ANTHERCUP_PRESENT, ANTHERCUP_STRICT)
+        || by(&of_each, ANTHERCUP_PRESENT, ANTHERCUP_LENIENT);
 }

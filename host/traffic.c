@@ -5,13 +5,13 @@
  * them held to the second reader too, and their edition and way to those of the reset; records with another
  * parameter's number, edition or way, and records of random octets, are refused with 17 or 16 as they were, or are
  * stepped, as the header says of them. Each message is read whole, with areas on both sides of what its texts need and
- * records of other sizes: every entry, every text and all that must stay. Where what counts stands is asked for some
- * types, and the caption with directories of many kinds. Each is settled on a desk, twice, and so is a history of
- * messages about a few references, of which the last word on each is kept here too. What the strict way accepts is
- * read, asked for and settled by the lenient one too, with the same words, records and areas. The calls that name no
- * way are made in turn with those that are told the strict one. Editions and ways that there are not are named at
- * every export. Messages with dates at the limits of their months follow. Says how many answers it compared; a
- * difference ends it with status 1. */
+ * records of other sizes: every octet of every entry, every text and all that must stay. Where what counts stands is
+ * asked for some types, often the message's own, and the caption with directories of many kinds. Each is settled on a
+ * desk, twice, and so is a history of messages about a few references, of which the last word on each is kept here
+ * too. What the strict way accepts is read, asked for and settled by the lenient one too, with the same words, records
+ * and areas. The calls that name no way are made in turn with those that are told the strict one. Editions and ways
+ * that there are not are named at every export. Messages with dates at the limits of their months follow. Says how
+ * many answers it compared; a difference ends it with status 1. */
 #include <stdio.h>
 #include <stdlib.h>
 #include <string.h>
@@ -27,6 +27,15 @@ static unsigned long in_first, in_later, in_last;
 
 /* records that octets did not lead to: heard, refused with 16, refused with 17 */
 static unsigned long records[3];
+
+/* entries read, by kind of value; those that are not used are among the codes */
+static unsigned long kinds[SECOND_MARKED + 1];
+
+/* entries read of the present edition, by type */
+static unsigned long types[256];
+
+/* types asked for that count */
+static unsigned long counting;
 
 /* what a call is told */
 struct book {
@@ -135,9 +144,9 @@ static int parameter_in_range(const uint8_t *l) {
 /* by the header, the classes of contents that a record of this edition and way may have */
 static int class_in_range(struct book b, uint8_t class) {
     if (class == 0) return b.way != ANTHERCUP_STRICT;
-    if (b.edition == ANTHERCUP_PRESENT) return class <= 10;
-    if (b.edition == ANTHERCUP_OLD && class <= 10) return class == 1 || class == 3 || class == 5;
-    return class <= 14;
+    if (b.edition == ANTHERCUP_PRESENT) return class <= 18;
+    if (b.edition == ANTHERCUP_OLD && class <= 18) return class == 1 || class == 3 || class == 5 || class == 11;
+    return class <= 21;
 }
 
 /* by the header, the numbers that a refusal in a record of this edition and way may have */
@@ -257,7 +266,7 @@ static void any_record(struct traffic *t) {
     uint8_t l[40], before[40], octet = (uint8_t)traffic_number(t, 256);
     size_t size = traffic_number(t, 4) ? ANTHERCUP_LISTENER_OCTETS : traffic_number(t, sizeof l);
     for (size_t i = 0; i < size; i++) {
-        uint32_t x = traffic_number(t, 16) ? traffic_number(t, 16) : traffic_number(t, 256);
+        uint32_t x = traffic_number(t, 16) ? traffic_number(t, 24) : traffic_number(t, 256);
         l[i] = (uint8_t)(traffic_number(t, 3) ? 0 : x);
     }
     if (size > 12 && traffic_number(t, 2)) {
@@ -276,28 +285,62 @@ static void any_record(struct traffic *t) {
     same("a record on 17", before, size, (unsigned long)memcmp(l, before, size), 0);
 }
 
-/* an entry through the header's readers */
+/* an entry's octets, by the header: what its kind does not use is 0 */
+static void lay_entry(const struct second_entry *e, uint8_t *cell) {
+    size_t text = e->kind == SECOND_MARKED ? 4 : 2;
+    memset(cell, 0, 8);
+    cell[0] = e->type, cell[1] = e->kind;
+    switch (e->kind) {
+    case SECOND_STATE: cell[4] = (uint8_t)e->number[1], cell[5] = (uint8_t)(e->number[1] >> 8); /* fall through */
+    case SECOND_CODE:
+    case SECOND_MARKED: cell[2] = (uint8_t)e->number[0]; break;
+    default:
+        for (size_t i = 0; i < 5; i++) cell[2 + i] = (uint8_t)e->number[i];
+    }
+    if (e->kind != SECOND_TEXT && e->kind != SECOND_CARRIED && e->kind != SECOND_MARKED) return;
+    cell[text] = (uint8_t)e->start, cell[text + 1] = (uint8_t)(e->start >> 8);
+    cell[text + 2] = (uint8_t)e->length, cell[text + 3] = (uint8_t)(e->length >> 8);
+}
+
+static void date_is(const uint8_t *o, size_t n, const uint8_t *draft, unsigned i, const struct second_entry *e) {
+    same("month", o, n, anthercup_entry_month(draft, i), e->number[0]);
+    same("day", o, n, anthercup_entry_day(draft, i), e->number[1]);
+    same("hour", o, n, anthercup_entry_hour(draft, i), e->number[2]);
+    same("minute", o, n, anthercup_entry_minute(draft, i), e->number[3]);
+}
+
+/* what the readers of one kind say, of any other entry -1, and of one that has no text 0 and 0 */
+static void readers_say(const uint8_t *o, size_t n, const uint8_t *draft, unsigned i, const struct second_entry *e) {
+    int moment = e->kind == SECOND_MOMENT, duration = e->kind == SECOND_DURATION, marked = e->kind == SECOND_MARKED;
+    const int said[] = {anthercup_entry_second(draft, i), anthercup_entry_duration_hours(draft, i),
+                        anthercup_entry_duration_minutes(draft, i), anthercup_entry_duration_seconds(draft, i),
+                        anthercup_entry_mark(draft, i)};
+    const int wanted[] = {moment ? e->number[4] - 1 : -1, duration ? e->number[0] : -1, duration ? e->number[1] : -1,
+                          duration ? e->number[2] : -1, marked ? e->number[0] : -1};
+    for (size_t k = 0; k < sizeof said / sizeof said[0]; k++)
+        same("second, duration or mark", o, n, (unsigned long)said[k], (unsigned long)wanted[k]);
+    same("start", o, n, anthercup_entry_start(draft, i), e->start);
+    same("length", o, n, anthercup_entry_length(draft, i), e->length);
+}
+
+/* an entry: its octets, and what the header's readers say of them */
 static void entry_is(const uint8_t *o, size_t n, const uint8_t *draft, unsigned i, const struct second_entry *e) {
+    uint8_t cell[8];
+    lay_entry(e, cell);
+    same("an entry's octets", o, n, (unsigned long)memcmp(anthercup_entry(draft, i), cell, sizeof cell), 0);
     same("entry type", o, n, anthercup_entry_type(draft, i), e->type);
     same("kind of value", o, n, anthercup_entry_kind(draft, i), e->kind);
     switch (e->kind) {
     case SECOND_CODE: same("code", o, n, anthercup_entry_code(draft, i), e->number[0]); break;
     case SECOND_DATE:
-        same("month", o, n, anthercup_entry_month(draft, i), e->number[0]);
-        same("day", o, n, anthercup_entry_day(draft, i), e->number[1]);
-        same("hour", o, n, anthercup_entry_hour(draft, i), e->number[2]);
-        same("minute", o, n, anthercup_entry_minute(draft, i), e->number[3]);
-        break;
+    case SECOND_MOMENT: date_is(o, n, draft, i, e); break;
     case SECOND_STATE:
         same("state", o, n, anthercup_entry_state(draft, i), e->number[0]);
         same("reference", o, n, anthercup_entry_reference(draft, i), e->number[1]);
         break;
-    default:
-        same("start", o, n, anthercup_entry_start(draft, i), e->start);
-        same("length", o, n, anthercup_entry_length(draft, i), e->length);
     }
-    same("octets of an entry kept at 0", o, n, anthercup_entry(draft, i)[6], 0);
-    same("octets of an entry kept at 0", o, n, anthercup_entry(draft, i)[7], 0);
+    readers_say(o, n, draft, i, e);
+    kinds[e->kind]++;
 }
 
 /* a whole read into a record and an area that hold noise: what is not written must stay, all that is written must be
@@ -331,6 +374,7 @@ static void read_as_second(struct traffic *t, struct book b, const uint8_t *o, s
         same("read: edition of the draft", o, n, anthercup_draft_edition(draft), s.edition);
         for (size_t i = 3; i < 8; i++) same("read: header", o, n, draft[i], 0);
         for (unsigned i = 0; i < ANTHERCUP_MOST_ENTRIES; i++) entry_is(o, n, draft, i, &s.entry[i]);
+        for (unsigned i = 0; i < s.entries && s.edition == ANTHERCUP_PRESENT; i++) types[s.entry[i].type]++;
         for (size_t i = ANTHERCUP_DRAFT_OCTETS; i < sizeof draft; i++)
             same("read: behind the record", o, n, draft[i], draft_before[i]);
     }
@@ -383,13 +427,21 @@ static uint64_t settles(struct book b, const uint8_t *o, size_t n, uint8_t *desk
     return answer;
 }
 
+/* the type of some parameter, where the octets are a message */
+static uint8_t own_type(struct traffic *t, const uint8_t *o, size_t n) {
+    size_t at = 2, end = n > 2 ? n - 1 : 0;
+    while (at + 1 < end && at + 2u + o[at + 1] < end && traffic_number(t, 4)) at += 2u + o[at + 1];
+    return at < end ? o[at] : 0;
+}
+
 /* of some types what counts, and number, place and parameter of the whole read where the octets are no message */
 static void counts(struct traffic *t, struct book b, const uint8_t *o, size_t n, struct second_verdict v) {
-    for (unsigned i = 0; i < 3; i++) {
-        uint32_t type = traffic_number(t, i ? 32 : 256);
+    const uint8_t asked[] = {(uint8_t)traffic_number(t, 256), (uint8_t)traffic_number(t, 32), own_type(t, o, n)};
+    for (size_t i = 0; i < sizeof asked; i++) {
         size_t start = 0, length = 0;
-        int one = second_counted(b.edition, b.way, o, n, (uint8_t)type, &start, &length);
-        uint64_t answer = anthercup_counted(b.edition, b.way, o, n, (uint8_t)type);
+        int one = second_counted(b.edition, b.way, o, n, asked[i], &start, &length);
+        uint64_t answer = anthercup_counted(b.edition, b.way, o, n, asked[i]);
+        counting += (unsigned long)one;
         same("counted: number", o, n, anthercup_number(answer), v.number);
         same("counted: place", o, n, anthercup_place(answer), v.place);
         same("counted: whether", o, n, (unsigned long)anthercup_counts(answer), (unsigned long)one);
@@ -618,6 +670,22 @@ static void say_books(const uint8_t *o) {
         }
 }
 
+/* what was read, by kind of value; of each there must be entries, and of each type that the present edition lists */
+static void say_entries(const uint8_t *o) {
+    static const uint8_t listed[] = {0x01, 0x02, 0x03, 0x04, 0x07, 0x08, 0x0B, 0x0D, 0x0E, 0x0F, 0x10, 0x11, 0x12, 0x13,
+                                     0x15, 0x16, 0x1A, 0x20, 0x21, 0x22, 0x23, 0x30, 0x31, 0x40, 0x50, 0x55, 0xE0};
+    unsigned long least = types[listed[0]];
+    for (size_t i = 0; i < sizeof kinds / sizeof kinds[0]; i++)
+        if (kinds[i] == 0) differ("no entry of a kind of value", o, 0, 0, i);
+    for (size_t i = 0; i < sizeof listed; i++)
+        if (types[listed[i]] < least) least = types[listed[i]];
+    if (least == 0) differ("no entry of a type", o, 0, 0, 1);
+    printf("entries: %lu codes and unused ones, %lu dates, %lu states, %lu texts, %lu carried, %lu moments, %lu "
+           "durations, %lu marked; of each type at least %lu; of the types asked for %lu count\n", kinds[SECOND_CODE],
+           kinds[SECOND_DATE], kinds[SECOND_STATE], kinds[SECOND_TEXT], kinds[SECOND_CARRIED], kinds[SECOND_MOMENT],
+           kinds[SECOND_DURATION], kinds[SECOND_MARKED], least, counting);
+}
+
 /* built for each edition and way in turn, and judged by them, or now and then by others */
 int main(int argc, char **argv) {
     struct traffic t;
@@ -638,6 +706,7 @@ int main(int argc, char **argv) {
     printf("parameters: %lu messages with a fault in the first, %lu in a later one, %lu of them in the 85th\n",
            in_first, in_later, in_last);
     say_books(o);
+    say_entries(o);
     if (!records[0] || !records[1] || !records[2]) differ("no other record of a kind", o, 0, 0, 1);
     printf("records: %lu that no octets led to heard, %lu with 16, %lu with 17\n", records[0], records[1], records[2]);
     printf("traffic: %ld messages, %lu answers as the second reader has them\n", messages, compared);

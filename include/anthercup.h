@@ -1,7 +1,7 @@
 /*
  * Anthercup for the boxes' firmware: the listener, the reader, what counts, the
- * caption and the desk (document 01, Listening, Drafts, What counts, The caption
- * and The desk; document 02, Q-2, Q-3, Q-5, Q-6 and Q-11).
+ * caption and the desk (document 01, Listening, Drafts, What counts, The
+ * caption and The desk; document 02, Q-2, Q-3, Q-4, Q-5, Q-6 and Q-11).
  *
  * Link with the archive: cc app.c -lanthercup (tools/install puts header,
  * archive and a pkg-config file in place). The archive is for x86-64 alone,
@@ -16,7 +16,7 @@
  * writing overlaps nothing else. The octets of a message, from the reset on,
  * are held by the caller: 258 suffice; read, counted, caption and settle want
  * them whole.
- * Indices of entries are below anthercup_entries(), places of a desk below
+ * Indices of entries are below ANTHERCUP_MOST_ENTRIES, places of a desk below
  * ANTHERCUP_MOST_PLACES.
  *
  * Anything else may be handed in: a record of another size, or one that holds
@@ -42,12 +42,30 @@
  *   0DH   n 3: 00H, 55H or FFH, and a reference of two octets, high octet
  *         first                             not listed
  *   0EH   as 02H                            not listed
+ *   0FH   n 8: as 01H; or n 10: behind it the second, 00-59, as digits
+ *                                           not listed
+ *   10H   as 02H                            not listed
  *   11H   n 1: 01H-07H, 10H, 11H, 50H, 51H, 81H-FFH
  *                                           not listed
  *   12H   as 02H                            n 1-18: 0-9
  *   13H   n 1: 0-255                        not listed
  *   15H   n 1: 00H-06H, 80H-FFH             n 1: 00H-06H
  *   16H   n 1: 00H-0FH                      n 1: 00H, 03H-05H, 0AH-0DH, 0FH
+ *   1AH   as 02H                            not listed
+ *   20H   n 14: a charge (below)            not listed
+ *   21H   as 20H                            not listed
+ *   22H   as 20H                            not listed
+ *   23H   n 6: hours 00-99, minutes 00-59, seconds 00-59, as digits
+ *                                           not listed
+ *   30H   n 1-20: 20H-7EH                   not listed
+ *   31H   as 30H                            not listed
+ *   40H   n 2: 01H, then 00H-07H; or n 2-21: 02H or 03H, then 1 to 20 octets
+ *         as in type 02H                    not listed
+ *   50H   n 1-253: 00H, 01H, 03H-06H or 70H-7FH, or one of these with bit 8
+ *         set; then 20H-7EH                 not listed
+ *   55H   n 1: 00H, 01H, 80H-FFH            not listed
+ *   E0H   n 10: an operator's extension (below)
+ *                                           not listed
  *   all others                              not listed in both
  *
  * Message types, lengths, rooms, checksum, places and parameters' numbers are
@@ -119,10 +137,16 @@ extern "C" {
 
 /* Which layout of records, words and calls this header describes. A record
  * that an archive of another layout wrote is reset, not handed on: so every
- * record is when the archive changes. A listener's of layout 3, which carried,
- * would be taken for one of the strict way by its octet 12. Number 16 had the
- * name ANTHERCUP_REFUSED_EDITION there. */
-#define ANTHERCUP_LAYOUT 4
+ * record is when the archive changes. Layout 5 numbers the classes of contents
+ * in a listener's record anew: one of layout 4 may be in range here and go on
+ * by another class. Its drafts have three kinds of value more, 5 to 7, and the
+ * present edition lists thirteen types more, 0FH, 10H, 1AH, 20H to 23H, 30H,
+ * 31H, 40H, 50H, 55H and E0H, which up to layout 4 were carried or refused with
+ * 10: a message with one of them may now be refused with 3, 4 or 5, and its
+ * contents count. A listener's record of layout 3, which carried, would be
+ * taken for one of the strict way by its octet 12. Number 16 had the name
+ * ANTHERCUP_REFUSED_EDITION there. */
+#define ANTHERCUP_LAYOUT 5
 
 #define ANTHERCUP_MESSAGE_OCTETS 258 /* the longest message */
 #define ANTHERCUP_LISTENER_OCTETS 16
@@ -132,6 +156,15 @@ extern "C" {
 #define ANTHERCUP_DESK_OCTETS 52
 #define ANTHERCUP_MOST_ENTRIES 85
 #define ANTHERCUP_MOST_PLACES 16
+
+/* Contents of one size, and their parts. */
+#define ANTHERCUP_CHARGE_OCTETS 14
+#define ANTHERCUP_CURRENCY_OCTETS 3
+#define ANTHERCUP_COST_OCTETS 10
+#define ANTHERCUP_PRICE_OCTETS 5
+#define ANTHERCUP_EXTENSION_OCTETS 10
+#define ANTHERCUP_OPERATOR_OCTETS 4
+#define ANTHERCUP_VERSION_OCTETS 3
 
 /* ---- Editions and ways ---- */
 
@@ -156,11 +189,24 @@ enum anthercup_parameters {
     ANTHERCUP_PARAMETER_LAMP = 0x0B,
     ANTHERCUP_PARAMETER_IDENTITY = 0x0D,
     ANTHERCUP_PARAMETER_DEPOSITOR = 0x0E,
+    ANTHERCUP_PARAMETER_LEFT_TIME = 0x0F,
+    ANTHERCUP_PARAMETER_NETWORK_CALLER = 0x10,
     ANTHERCUP_PARAMETER_CALL_TYPE = 0x11,
     ANTHERCUP_PARAMETER_FIRST_CALLED = 0x12,
     ANTHERCUP_PARAMETER_WAITING = 0x13,
     ANTHERCUP_PARAMETER_FORWARDED = 0x15,
-    ANTHERCUP_PARAMETER_USER = 0x16
+    ANTHERCUP_PARAMETER_USER = 0x16,
+    ANTHERCUP_PARAMETER_REDIRECTING = 0x1A,
+    ANTHERCUP_PARAMETER_CHARGE = 0x20,
+    ANTHERCUP_PARAMETER_ADDITIONAL_CHARGE = 0x21,
+    ANTHERCUP_PARAMETER_EXTRA_CHARGE = 0x22,
+    ANTHERCUP_PARAMETER_DURATION = 0x23,
+    ANTHERCUP_PARAMETER_PROVIDER = 0x30,
+    ANTHERCUP_PARAMETER_CARRIER = 0x31,
+    ANTHERCUP_PARAMETER_TERMINAL = 0x40,
+    ANTHERCUP_PARAMETER_DISPLAY = 0x50,
+    ANTHERCUP_PARAMETER_SERVICE = 0x55,
+    ANTHERCUP_PARAMETER_EXTENSION = 0xE0
 };
 
 /* The states of a message (0DH); a lamp (0BH) is off or on. */
@@ -168,6 +214,29 @@ enum anthercup_states {
     ANTHERCUP_STATE_OFF = 0x00,
     ANTHERCUP_STATE_UNSET = 0x55,
     ANTHERCUP_STATE_ON = 0xFF
+};
+
+/* What the rest of a terminal's contents is (40H), by its mark, their first
+ * octet: behind CONNECTION one octet that is no character, 0 not identified, 1
+ * voice, 2 fax, 3 data, 4 video, 5 e-mail, 6 telemetry, 7 text; behind the
+ * other two the digits of a number or of a subaddress. */
+enum anthercup_terminals {
+    ANTHERCUP_TERMINAL_CONNECTION = 0x01,
+    ANTHERCUP_TERMINAL_NUMBER = 0x02,
+    ANTHERCUP_TERMINAL_SUBADDRESS = 0x03
+};
+
+/* What a text for the display is (50H), by the lower seven bits of its mark;
+ * 70H-7FH are the operator's own. The highest bit, STORED, says that it was
+ * stored. */
+enum anthercup_displays {
+    ANTHERCUP_DISPLAY_UNKNOWN = 0x00, /* or another */
+    ANTHERCUP_DISPLAY_POSITIVE = 0x01,
+    ANTHERCUP_DISPLAY_NEGATIVE = 0x03,
+    ANTHERCUP_DISPLAY_ADVERTISEMENT = 0x04,
+    ANTHERCUP_DISPLAY_PROVIDER = 0x05,
+    ANTHERCUP_DISPLAY_REMOTE_USER = 0x06,
+    ANTHERCUP_DISPLAY_STORED = 0x80
 };
 
 /* ---- Refusals ---- */
@@ -276,14 +345,23 @@ static inline int anthercup_listen_waits(uint64_t answer)
  *            refusal's place; low octet first
  *    4       with 3 and 4 the class of contents: 0 carried, by the lenient
  *            way alone; 1 date, 2 number, 3 absent, 4 name, 5 lamp, 6
- *            identity, 7 call type, 8 waiting, 9 forwarded, 10 calling user;
- *            of the old edition alone 11 number, 12 name, 13 forwarded, 14
- *            calling user
+ *            identity, 7 call type, 8 waiting, 9 forwarded, 10 calling user,
+ *            11 short text (30H and 31H; in the old edition the name), 12
+ *            moment (0FH), 13 charge, 14 duration, 15 terminal, 16 display, 17
+ *            service, 18 extension; of the old edition alone 19 number, 20
+ *            forwarded, 21 calling user
  *    5, 6    with 4 the length of the contents, and the index of the octet to
  *            come
- *    7       with 4 what is remembered of the contents: of a date the tens of
- *            the month; then its days; then how many of them are left from the
- *            tens of the day on; after the day the last digit heard; else 0
+ *    7       with 4 what is remembered of the contents, 0 before the first of
+ *            them: of a date and a moment the tens of the month; then its
+ *            days; then how many of them are left from the tens of the day on;
+ *            after the day the last digit heard; of a duration the last digit
+ *            heard; of a charge 1 in and behind a currency of dashes, 0 of
+ *            letters; behind its flags 0 in a cost, 1 behind the comma there,
+ *            2 in units and their price, 3 behind the comma there, 4 in units
+ *            without a price, 5 where it is not available; of a terminal 1
+ *            behind the mark 01H; of an extension 1 behind a second octet that
+ *            is a space, until the third; else 0
  *    8       the room: with 2 what is left of the message's length, with 3 what
  *            was left as the parameter began, its type counted, with 4 what is
  *            left behind these contents
@@ -295,9 +373,9 @@ static inline int anthercup_listen_waits(uint64_t answer)
  *   13 to 15 0, kept
  *
  * A record is 17 where octet 0 is above 6, a class is none of its edition's
- * (the present one has 1 to 10, the old one 1, 3, 5 and 11 to 14, and both by
- * the lenient way also 0), an octet that its stage does not use is not 0, or a
- * number is out of range: with 0 and 1 the octets so far are 0 and 1; with 2
+ * (the present one has 1 to 18, the old one 1, 3, 5, 11 and 19 to 21, and both
+ * by the lenient way also 0), an octet that its stage does not use is not 0, or
+ * a number is out of range: with 0 and 1 the octets so far are 0 and 1; with 2
  * octets and room add up to 5 to 257; with 3 the room is at least 1 and they
  * add up to 6 to 258; with 4 the index is below the length, and octets, length
  * and room add up to 5 to 257 and the index; a size is 6 to 258; a refusal has
@@ -305,14 +383,14 @@ static inline int anthercup_listen_waits(uint64_t answer)
  * parameter's number, a parameter having three octets at least: with 2 three
  * times it and 2 are at most the octets so far; with 3 it is at least 1, and
  * three times it at most the octets so far; with 4 it is at least 1, and three
- * times it, 1 and the index are together at most the octets so far; a
- * refusal's is 1 to 85 with 3, 4, 5 and 10, and 0 with 1, 2 and 6. Sum and
- * memory are not judged: a record in range whose sum, memory or parameter's
- * number no octets lead to is stepped by the same rule.
+ * times it, 1 and the index are together at most the octets so far; a refusal's
+ * is 1 to 85 with 3, 4, 5 and 10, and 0 with 1, 2 and 6. Sum and memory are not
+ * judged: a record in range whose sum, memory or parameter's number no octets
+ * lead to is stepped by the same rule.
  *
  * A record whose edition or way, octet 11 or 12, is neither 0 nor 1 is 16
  * where all else is in range, and 17 where it is not. By an unknown edition a
- * class may then be 1 to 14, by a known one what it is with a known way; it
+ * class may then be 1 to 21, by a known one what it is with a known way; it
  * may be 0 where octet 12 is not 0; and a refusal's number may be 10, whatever
  * the other of the two octets. */
 
@@ -346,13 +424,20 @@ uint64_t anthercup_listen(uint8_t *listener, size_t listener_len,
  *    then 85 entries of eight octets, one for each parameter in message order:
  *    0       the parameter type
  *    1       the kind of value: 0 a code, 1 a date, 2 a state with a
- *            reference, 3 a text (numbers and names), 4 a carried text (types
- *            that the edition does not list, by the lenient way alone)
- *    2 to 5  0: the code; 1: month, day, hour, minute; 2: the state, 0, the
+ *            reference, 3 a text (numbers, names, 30H and 31H; charges and
+ *            E0H, contents of one size), 4 a carried text (types that the
+ *            edition does not list, by the lenient way alone), 5 a moment
+ *            (0FH), 6 a duration (23H), 7 a marked text (40H and 50H)
+ *    2 to 7  0: the code; 1: month, day, hour, minute; 2: the state, 0, the
  *            reference (low octet first); 3 and 4: start and length in the
- *            text area (low octets first)
- *    6, 7    0
- * What a record does not use is 0, and so is every entry that is not used.
+ *            text area (low octets first); 5: month, day, hour, minute, and
+ *            one more than the second, 0 where none was sent; 6: hours,
+ *            minutes, seconds; 7: the mark, which is the first octet of the
+ *            contents, 0, and of the rest of them start and length in the text
+ *            area (low octets first)
+ * What a record does not use is 0, and so is every entry that is not used. A
+ * text has at least one octet, but for that of 50H, which may be empty: then
+ * its start is where the next text's would be.
  *
  * A draft has every parameter, repeats too; which of them count, and which text
  * a display shows, say anthercup_counted and anthercup_caption. */
@@ -362,7 +447,10 @@ enum anthercup_values {
     ANTHERCUP_VALUE_DATE = 1,
     ANTHERCUP_VALUE_STATE = 2,
     ANTHERCUP_VALUE_TEXT = 3,
-    ANTHERCUP_VALUE_CARRIED = 4
+    ANTHERCUP_VALUE_CARRIED = 4,
+    ANTHERCUP_VALUE_MOMENT = 5,
+    ANTHERCUP_VALUE_DURATION = 6,
+    ANTHERCUP_VALUE_MARKED = 7
 };
 
 /* Reads one whole message into a draft's record and a text area, in which all
@@ -398,9 +486,11 @@ static inline unsigned anthercup_draft_edition(const uint8_t *draft)
     return draft[2];
 }
 
-/* Entries are numbered from 0, below anthercup_entries(). Ask of an entry what
- * its kind of value has: anything else reads as some number, and a text of an
- * entry that has none points anywhere. */
+/* Entries are numbered from 0; those from anthercup_entries() on are not used,
+ * and all zeros. Whatever a record holds, each of the readers below looks at
+ * the eight octets of one entry and at nothing else; what it gives is in the
+ * range that is named where the record was read into. A code, the parts of a
+ * date and those of a state read as some number in an entry that has none. */
 static inline const uint8_t *anthercup_entry(const uint8_t *draft, unsigned i)
 {
     return draft + 8 + 8 * (size_t)i;
@@ -421,6 +511,7 @@ static inline unsigned anthercup_entry_code(const uint8_t *draft, unsigned i)
     return anthercup_entry(draft, i)[2];
 }
 
+/* Month, day, hour and minute are those of a date or of a moment. */
 static inline unsigned anthercup_entry_month(const uint8_t *draft, unsigned i)
 {
     return anthercup_entry(draft, i)[2];
@@ -452,22 +543,261 @@ static inline unsigned anthercup_entry_reference(const uint8_t *draft,
     return anthercup_entry(draft, i)[4] + 256u * anthercup_entry(draft, i)[5];
 }
 
+/* An octet, from 2 to 7, of an entry of this kind; -1 of any other entry. */
+static inline int anthercup_entry_octet(const uint8_t *draft, unsigned i,
+                                        unsigned kind, unsigned at)
+{
+    const uint8_t *entry = anthercup_entry(draft, i);
+
+    return entry[1] == kind ? entry[at] : -1;
+}
+
+/* The second of a moment, 0 to 59; -1 where none was sent, and of any other
+ * entry, also of a date. */
+static inline int anthercup_entry_second(const uint8_t *draft, unsigned i)
+{
+    int more = anthercup_entry_octet(draft, i, ANTHERCUP_VALUE_MOMENT, 6);
+
+    return more > 0 ? more - 1 : -1;
+}
+
+/* Hours, 0 to 99, minutes and seconds of a duration; -1 of any other entry. */
+static inline int anthercup_entry_duration_hours(const uint8_t *draft,
+                                                 unsigned i)
+{
+    return anthercup_entry_octet(draft, i, ANTHERCUP_VALUE_DURATION, 2);
+}
+
+static inline int anthercup_entry_duration_minutes(const uint8_t *draft,
+                                                   unsigned i)
+{
+    return anthercup_entry_octet(draft, i, ANTHERCUP_VALUE_DURATION, 3);
+}
+
+static inline int anthercup_entry_duration_seconds(const uint8_t *draft,
+                                                   unsigned i)
+{
+    return anthercup_entry_octet(draft, i, ANTHERCUP_VALUE_DURATION, 4);
+}
+
+/* The mark of a marked text: of a terminal one of enum anthercup_terminals, of
+ * a display as enum anthercup_displays has it; -1 of any other entry. */
+static inline int anthercup_entry_mark(const uint8_t *draft, unsigned i)
+{
+    return anthercup_entry_octet(draft, i, ANTHERCUP_VALUE_MARKED, 2);
+}
+
+/* Start and length, in the area that was read into, of a text, a carried text
+ * or a marked text, of the last without its mark; 0 and 0 of any other entry.
+ * In a record that was read into, a text ends within the text octets laid
+ * down. */
 static inline unsigned anthercup_entry_start(const uint8_t *draft, unsigned i)
 {
-    return anthercup_entry(draft, i)[2] + 256u * anthercup_entry(draft, i)[3];
+    const uint8_t *entry = anthercup_entry(draft, i);
+
+    switch (entry[1]) {
+    case ANTHERCUP_VALUE_TEXT:
+    case ANTHERCUP_VALUE_CARRIED:
+        return entry[2] + 256u * entry[3];
+    case ANTHERCUP_VALUE_MARKED:
+        return entry[4] + 256u * entry[5];
+    default:
+        return 0;
+    }
 }
 
 static inline unsigned anthercup_entry_length(const uint8_t *draft, unsigned i)
 {
-    return anthercup_entry(draft, i)[4] + 256u * anthercup_entry(draft, i)[5];
+    const uint8_t *entry = anthercup_entry(draft, i);
+
+    switch (entry[1]) {
+    case ANTHERCUP_VALUE_TEXT:
+    case ANTHERCUP_VALUE_CARRIED:
+        return entry[4] + 256u * entry[5];
+    case ANTHERCUP_VALUE_MARKED:
+        return entry[6] + 256u * entry[7];
+    default:
+        return 0;
+    }
 }
 
-/* Where the text of an entry of kind 3 or 4 begins in the area that was read
- * into. */
+/* Where the text of an entry begins in the area that was read into; where the
+ * area does, for an entry that has none. */
 static inline const uint8_t *
 anthercup_entry_text(const uint8_t *draft, unsigned i, const uint8_t *texts)
 {
     return texts + anthercup_entry_start(draft, i);
+}
+
+/* Where a text of this size stands in an area of texts_len octets; NULL for an
+ * entry of another kind or size, and for one that does not end within them. */
+static inline const uint8_t *
+anthercup_entry_sized(const uint8_t *draft, unsigned i, const uint8_t *texts,
+                      size_t texts_len, unsigned size)
+{
+    unsigned start = anthercup_entry_start(draft, i);
+
+    if (anthercup_entry_kind(draft, i) != ANTHERCUP_VALUE_TEXT
+        || anthercup_entry_length(draft, i) != size
+        || texts_len < (size_t)start + size)
+        return NULL;
+    return texts + start;
+}
+
+/* ---- Charges and extensions ----
+ *
+ * Texts of one size, found by their entry, in the area that was read into, of
+ * texts_len octets: where the 14 octets of a charge stand (20H to 22H), or the
+ * 10 of an extension (E0H). NULL for any other entry, also for one of these
+ * types that is carried, as in the old edition. In a message of the present
+ * edition they stand where anthercup_counted says. */
+static inline const uint8_t *
+anthercup_entry_charge(const uint8_t *draft, unsigned i, const uint8_t *texts,
+                       size_t texts_len)
+{
+    unsigned type = anthercup_entry_type(draft, i);
+
+    if (type < ANTHERCUP_PARAMETER_CHARGE
+        || type > ANTHERCUP_PARAMETER_EXTRA_CHARGE)
+        return NULL;
+    return anthercup_entry_sized(draft, i, texts, texts_len,
+                                 ANTHERCUP_CHARGE_OCTETS);
+}
+
+static inline const uint8_t *
+anthercup_entry_extension(const uint8_t *draft, unsigned i,
+                          const uint8_t *texts, size_t texts_len)
+{
+    if (anthercup_entry_type(draft, i) != ANTHERCUP_PARAMETER_EXTENSION)
+        return NULL;
+    return anthercup_entry_sized(draft, i, texts, texts_len,
+                                 ANTHERCUP_EXTENSION_OCTETS);
+}
+
+/* A charge: 20H what the call cost, 21H all calls up to the last, 22H calls not
+ * made from this line, as forwarded ones (source 004, 5.4.18 to 5.4.20). Its 14
+ * octets:
+ *    0 to 2  the currency: three letters A-Z, or three dashes
+ *    3       flags, bits as enum anthercup_charge_bits has them
+ *    4 to 13 what is charged
+ * NOT_AVAILABLE, UNITS and currency say what that is, and nothing else is
+ * accepted:
+ *    both clear, letters       a cost in 4 to 13
+ *    UNITS alone, letters      units in 4 to 8, the price of one in 9 to 13
+ *    UNITS alone, dashes       units in 4 to 8, no price: dashes in 9 to 13
+ *    NOT_AVAILABLE, dashes,    nothing: dashes in 4 to 13
+ *    UNITS set or clear
+ * Units are five digits; of a cost's ten octets and a price's five all are
+ * digits, or all but one, which is the decimal comma and may be any of them.
+ * The other bits of the flags are free, and say nothing of the octets.
+ *
+ * Each of these takes a pointer to 14 octets, whatever they are, and looks at
+ * no others. */
+
+enum anthercup_charge_bits {
+    ANTHERCUP_CHARGE_FREE = 0x01,
+    ANTHERCUP_CHARGE_SUBTOTAL = 0x02, /* clear: the total */
+    ANTHERCUP_CHARGE_CARD = 0x04,     /* to a credit or debit card */
+    ANTHERCUP_CHARGE_NOT_AVAILABLE = 0x08,
+    ANTHERCUP_CHARGE_UNITS = 0x10 /* clear: an amount of the currency */
+};
+
+enum anthercup_charged_kinds {
+    ANTHERCUP_CHARGED_NOTHING = 0,
+    ANTHERCUP_CHARGED_COST = 1,
+    ANTHERCUP_CHARGED_UNITS = 2
+};
+
+/* Where the currency's ANTHERCUP_CURRENCY_OCTETS stand, all letters; NULL where
+ * the first is a dash, and so are all. */
+static inline const uint8_t *anthercup_charge_currency(const uint8_t *charge)
+{
+    return charge[0] == '-' ? NULL : charge;
+}
+
+static inline unsigned anthercup_charge_flags(const uint8_t *charge)
+{
+    return charge[3];
+}
+
+/* What is charged, by the flags: one of enum anthercup_charged_kinds. */
+static inline unsigned anthercup_charged(const uint8_t *charge)
+{
+    if (charge[3] & ANTHERCUP_CHARGE_NOT_AVAILABLE)
+        return ANTHERCUP_CHARGED_NOTHING;
+    return charge[3] & ANTHERCUP_CHARGE_UNITS ? ANTHERCUP_CHARGED_UNITS
+                                              : ANTHERCUP_CHARGED_COST;
+}
+
+/* Where the ANTHERCUP_COST_OCTETS of a cost stand; NULL where none is. */
+static inline const uint8_t *anthercup_charge_cost(const uint8_t *charge)
+{
+    return anthercup_charged(charge) == ANTHERCUP_CHARGED_COST ? charge + 4
+                                                               : NULL;
+}
+
+/* The number of units, 0 to 99,999; -1 where there are none, or their five
+ * octets are not all digits. */
+static inline int32_t anthercup_charge_units(const uint8_t *charge)
+{
+    int32_t units = 0;
+
+    if (anthercup_charged(charge) != ANTHERCUP_CHARGED_UNITS)
+        return -1;
+    for (unsigned i = 4; i < 9; i++) {
+        if (charge[i] < '0' || charge[i] > '9')
+            return -1;
+        units = 10 * units + (charge[i] - '0');
+    }
+    return units;
+}
+
+/* Where the ANTHERCUP_PRICE_OCTETS of the price of a unit stand; NULL where
+ * there are no units, or the first is a dash, and so are all. */
+static inline const uint8_t *anthercup_charge_price(const uint8_t *charge)
+{
+    if (anthercup_charged(charge) != ANTHERCUP_CHARGED_UNITS
+        || charge[9] == '-')
+        return NULL;
+    return charge + 9;
+}
+
+/* An extension names the operator whose own coding the message uses, and its
+ * version (source 004, 5.4.27). Its 10 octets:
+ *    0 to 2  the country's code: a digit, or two, or three, and spaces behind
+ *    3 to 6  the operator's code: 20H-7EH, spaces where it is shorter
+ *    7 to 9  the version: likewise
+ * Each of these takes a pointer to 10 octets, whatever they are, and looks at
+ * no others. */
+
+/* The country's code as a number, 0 to 999, a 0 in front adding nothing; -1 of
+ * octets that are none. */
+static inline int anthercup_extension_country(const uint8_t *extension)
+{
+    int country = 0;
+
+    for (unsigned i = 0; i < 3; i++) {
+        if (i > 0 && extension[i] == ' ')
+            return i == 2 || extension[2] == ' ' ? country : -1;
+        if (extension[i] < '0' || extension[i] > '9')
+            return -1;
+        country = 10 * country + (extension[i] - '0');
+    }
+    return country;
+}
+
+/* Where the operator's code stands, ANTHERCUP_OPERATOR_OCTETS. */
+static inline const uint8_t *
+anthercup_extension_operator(const uint8_t *extension)
+{
+    return extension + 3;
+}
+
+/* Where the version stands, ANTHERCUP_VERSION_OCTETS. */
+static inline const uint8_t *
+anthercup_extension_version(const uint8_t *extension)
+{
+    return extension + 7;
 }
 
 /* ---- What counts, and the caption ---- */

@@ -51,15 +51,27 @@ static void say_octets(const uint8_t *o, size_t n)
     SAY("\n");
 }
 
+/* The octets of a text, behind its mark if it has one; else four numbers, of a
+ * moment five. */
 static void say_entry(const struct second_draft *d,
                       const struct second_entry *e)
 {
     SAY("%02x %u ", e->type, e->kind);
-    if (e->kind == SECOND_TEXT || e->kind == SECOND_CARRIED)
+    switch (e->kind) {
+    case SECOND_MARKED:
+        SAY("%u ", e->number[0]);
+        /* fall through */
+    case SECOND_TEXT:
+    case SECOND_CARRIED:
         say_octets(d->texts + e->start, e->length);
-    else
-        SAY("%u %u %u %u\n", e->number[0], e->number[1], e->number[2],
+        return;
+    default:
+        SAY("%u %u %u %u", e->number[0], e->number[1], e->number[2],
             e->number[3]);
+    }
+    if (e->kind == SECOND_MOMENT)
+        SAY(" %u", e->number[4]);
+    SAY("\n");
 }
 
 /* What is read and written again is the message, and read again the draft,
@@ -360,6 +372,122 @@ static const struct row rows[] = {
      "read 80 2 2\n02 3 37\n02 3 38\n" TWICE(WRITTEN("9", "other"))
      "room 1: 9 at 2 in 0\nstep 02 4 1\nstep 02 7 1\nstep none\nstep none\n"
      "begins 2\nfind directory 2 1\ncaption 1=78\n"},
+    /* 02, Q-4: a moment without seconds, with 00 and with 59; with 60; of nine
+     * octets; a 30th of February */
+    {"82 0A 0F 08 30 36 31 35 31 34 33 30 C9", "", 0,
+     "read 82 1 0\n0f 5 6 15 14 30 0\n"
+     TWICE(WRITTEN("13", "same"))
+     "room 0: texts 0\nstep 0f 4 8\nstep none\nstep none\nbegins 1\n"
+     "find message 0 0\ncaption 0=\n"},
+    {"82 0C 0F 0A 30 36 31 35 31 34 33 30 30 30 65", "", 0,
+     "read 82 1 0\n0f 5 6 15 14 30 1\n"
+     TWICE(WRITTEN("15", "same"))
+     "room 0: texts 0\nstep 0f 4 10\nstep none\nstep none\nbegins 1\n"
+     "find message 0 0\ncaption 0=\n"},
+    {"82 0C 0F 0A 30 32 32 39 32 33 35 39 35 39 4B", "", 1,
+     "read 82 1 0\n0f 5 2 29 23 59 60\n"
+     TWICE(WRITTEN("15", "same"))
+     "room 1: texts 0\nstep 0f 4 10\nstep none\nstep none\nbegins 1\n"
+     "find message 0 0\ncaption 0=\n"},
+    {"82 0C 0F 0A 30 36 31 35 31 34 33 30 36 30 5F", "", 0,
+     REFUSED("0", "5 at 12 in 1")},
+    {"82 0E 0F 09 30 36 31 35 31 34 33 30 30 02 01 31 60", "", 0,
+     REFUSED("0", "4 at 3 in 1")},
+    {"82 0C 0F 0A 30 32 33 30 30 30 30 30 30 30 74", "", 0,
+     REFUSED("0", "5 at 6 in 1")},
+    /* durations */
+    {"80 10 23 06 39 39 35 39 35 39 23 06 30 30 30 31 30 30 AF", "", 0,
+     "read 80 2 0\n23 6 99 59 59 0\n23 6 0 1 0 0\n"
+     TWICE(WRITTEN("19", "same"))
+     "room 0: texts 0\nstep 23 4 6\nstep 23 12 6\nstep none\nstep none\n"
+     "begins 2\nfind message 0 0\ncaption 0=\n"},
+    {"80 08 23 06 39 39 36 30 30 30 17", "", 0, REFUSED("0", "5 at 6 in 1")},
+    /* 004's annex D, the second as its words have it; letters with dashes, two
+     * commas, a comma among units */
+    {"80 10 20 0E 46 52 46 00 30 30 30 30 30 32 33 2C 34 35 7A", "", 14,
+     "read 80 1 14\n20 3 46524600303030303032332c3435\n"
+     TWICE(WRITTEN("19", "other"))
+     "room 14: texts 14\nstep 20 4 14\nstep none\nstep none\nbegins 1\n"
+     "find message 0 0\ncaption 0=\n"},
+    {"80 20 21 0E 2D 2D 2D 10 30 30 30 32 33 2D 2D 2D 2D 2D 22 0E 44 45 4D "
+     "10 30 30 30 37 38 30 30 2C 31 32 C0", "", 27,
+     "read 80 2 28\n21 3 2d2d2d1030303032332d2d2d2d2d\n"
+     "22 3 44454d10303030373830302c3132\n"
+     TWICE(WRITTEN("35", "other"))
+     "room 27: 9 at 28 in 0\nstep 21 4 14\nstep 22 20 14\nstep none\n"
+     "step none\nbegins 2\nfind message 0 0\ncaption 0=\n"},
+    {"80 10 20 0E 46 52 46 08 2D 2D 2D 2D 2D 2D 2D 2D 2D 2D 9A", "", 14,
+     REFUSED("14", "5 at 7 in 1")},
+    {"80 10 20 0E 46 52 46 00 30 30 2C 30 30 32 33 2C 34 35 7E", "", 14,
+     REFUSED("14", "5 at 15 in 1")},
+    {"80 10 20 0E 44 45 4D 10 30 2C 30 37 38 30 30 30 31 32 6E", "", 14,
+     REFUSED("14", "5 at 9 in 1")},
+    /* numbers, which are no callers; what a caller is beside them */
+    {"80 07 10 01 37 1A 02 38 2A B3", "7=x\n8*=y\n", 2,
+     "read 80 2 3\n10 3 37\n1a 3 382a\n"
+     TWICE(WRITTEN("10", "other"))
+     "room 2: 9 at 3 in 0\nstep 10 4 1\nstep 1a 7 2\nstep none\nstep none\n"
+     "begins 2\nfind message 0 0\ncaption 0=\n"},
+    {"80 06 10 01 37 02 01 38 F7", "7=x\n8=y\n", 2,
+     "read 80 2 2\n10 3 37\n02 3 38\n"
+     TWICE(WRITTEN("9", "other"))
+     "room 2: texts 2\nstep 10 4 1\nstep 02 7 1\nstep none\nstep none\n"
+     "begins 2\nfind directory 6 1\ncaption 1=79\n"},
+    /* a provider and a carrier; a service; an extension */
+    {"82 07 30 02 41 7E 31 01 20 34", "", 3,
+     "read 82 2 3\n30 3 417e\n31 3 20\n"
+     TWICE(WRITTEN("10", "other"))
+     "room 3: texts 3\nstep 30 4 2\nstep 31 8 1\nstep none\nstep none\n"
+     "begins 2\nfind message 0 0\ncaption 0=\n"},
+    {"80 06 55 01 01 55 01 FF CE", "", 0,
+     "read 80 2 0\n55 0 1 0 0 0\n55 0 255 0 0 0\n"
+     TWICE(WRITTEN("9", "same"))
+     "room 0: texts 0\nstep 55 4 1\nstep 55 7 1\nstep none\nstep none\n"
+     "begins 2\nfind message 0 0\ncaption 0=\n"},
+    {"80 03 55 01 02 25", "", 0, REFUSED("0", "5 at 4 in 1")},
+    {"80 0C E0 0A 33 33 20 46 54 20 20 31 2E 30 9B", "", 9,
+     "read 80 1 10\ne0 3 33332046542020312e30\n"
+     TWICE(WRITTEN("15", "other"))
+     "room 9: 9 at 10 in 0\nstep e0 4 10\nstep none\nstep none\nbegins 1\n"
+     "find message 0 0\ncaption 0=\n"},
+    {"80 0C E0 0A 33 20 33 46 54 20 20 31 2E 30 9B", "", 10,
+     REFUSED("10", "5 at 6 in 1")},
+    /* a mark and the text behind it: a connection, a number, a subaddress; a
+     * connection of two octets */
+    {"80 04 40 02 01 07 32", "", 0,
+     "read 80 1 1\n40 7 1 07\n"
+     TWICE(WRITTEN("7", "other"))
+     "room 0: 9 at 1 in 0\nstep 40 4 2\nstep none\nstep none\nbegins 1\n"
+     "find message 0 0\ncaption 0=\n"},
+    {"80 08 40 06 02 34 30 39 31 32 30", "40912=x\n", 5,
+     "read 80 1 5\n40 7 2 3430393132\n"
+     TWICE(WRITTEN("11", "other"))
+     "room 5: texts 5\nstep 40 4 6\nstep none\nstep none\nbegins 1\n"
+     "find message 0 0\ncaption 0=\n"},
+    {"80 07 40 02 03 37 02 01 37 C3", "7=x\n", 2,
+     "read 80 2 2\n40 7 3 37\n02 3 37\n"
+     TWICE(WRITTEN("10", "other"))
+     "room 2: texts 2\nstep 40 4 2\nstep 02 8 1\nstep none\nstep none\n"
+     "begins 2\nfind directory 2 1\ncaption 1=78\n"},
+    {"80 05 40 03 01 07 07 29", "", 2, REFUSED("2", "5 at 4 in 1")},
+    /* a display with a text, with none, and with none among other texts */
+    {"82 08 50 06 04 48 65 6C 6C 6F 28", "", 4,
+     "read 82 1 5\n50 7 4 48656c6c6f\n"
+     TWICE(WRITTEN("11", "other"))
+     "room 4: 9 at 5 in 0\nstep 50 4 6\nstep none\nstep none\nbegins 1\n"
+     "find message 0 0\ncaption 0=\n"},
+    {"82 03 50 01 81 A9", "", 0,
+     "read 82 1 0\n50 7 129 \n"
+     TWICE(WRITTEN("6", "same"))
+     "room 0: texts 0\nstep 50 4 1\nstep none\nstep none\nbegins 1\n"
+     "find message 0 0\ncaption 0=\n"},
+    {"80 0C 02 01 37 50 01 00 07 01 41 50 01 FF 50", "7=x\n", 2,
+     "read 80 4 2\n02 3 37\n50 7 0 \n07 3 41\n50 7 255 \n"
+     TWICE(WRITTEN("15", "other"))
+     "room 2: texts 2\nstep 02 4 1\nstep 50 7 1\nstep 07 10 1\nstep 50 13 1\n"
+     "step none\nstep none\nbegins 4\nfind message 10 1\ncaption 0=41\n"},
+    {"82 03 50 01 02 28", "", 0, REFUSED("0", "5 at 4 in 1")},
+    {"82 04 50 02 00 1F 09", "", 1, REFUSED("1", "5 at 5 in 1")},
 };
 
 /* With types that it does not list: a state with a reference and something
@@ -503,6 +631,26 @@ static const struct unlisted_row old_unlisted_rows[] = {
      "10 at 8 in 3"},
     {{"80 06 02 01 37 03", "", 0, REFUSED("0", "8 at 6 in 0")},
      "10 at 5 in 2"},
+    /* the European parameters (02, Q-4) are carried, with any contents */
+    {{"82 0E 0F 08 30 36 31 35 31 34 33 30 40 02 01 02 80", "", 10,
+      "read 82 2 10\n0f 4 3036313531343330\n40 4 0102\n"
+      TWICE(WRITTEN("17", "other"))
+      "room 10: texts 10\nstep 0f 4 8\nstep 40 14 2\nstep none\nstep none\n"
+      "begins 2\nfind message 0 0\ncaption 0=\n"},
+     "10 at 2 in 1"},
+    {{"80 0C 02 01 37 50 01 81 55 01 02 20 01 00 EF", "7=x\n", 3,
+      "read 80 4 4\n02 3 37\n50 4 81\n55 4 02\n20 4 00\n"
+      TWICE(WRITTEN("15", "other"))
+      "room 3: 9 at 4 in 0\nstep 02 4 1\nstep 50 7 1\nstep 55 10 1\n"
+      "step 20 13 1\nstep none\nstep none\nbegins 4\nfind directory 2 1\n"
+      "caption 1=78\n"},
+     "10 at 5 in 2"},
+    {{"80 0C 10 01 37 E0 03 33 20 33 23 02 39 39 2C", "7=x\n", 6,
+      "read 80 3 6\n10 4 37\ne0 4 332033\n23 4 3939\n"
+      TWICE(WRITTEN("15", "other"))
+      "room 6: texts 6\nstep 10 4 1\nstep e0 7 3\nstep 23 12 2\nstep none\n"
+      "step none\nbegins 3\nfind message 0 0\ncaption 0=\n"},
+     "10 at 2 in 1"},
 };
 
 /* Editions and ways that there are not, one or both: 16 to everything,
@@ -583,7 +731,8 @@ static void put_rows(void)
             put_row(unknown[k], 0, &unknown_rows[i]);
 }
 
-/* ---- Both sides of the old edition's limits, by each edition and way ---- */
+/* ---- Both sides of the old edition's limits and of the European parameters'
+ * (02, Q-4), by each edition and way ---- */
 
 /* A call: n octets x of a type, and behind them the caller 7. */
 static void put_limit(uint8_t type, uint8_t n, uint8_t x)
@@ -610,13 +759,21 @@ static void put_limits(void)
     } lengths[] = {
         {0x02, 17, 21, '1'}, {0x12, 17, 21, '1'}, {0x07, 19, 22, 'A'},
         {0x08, 1, 5, 'O'},   {0x03, 20, 21, '1'}, {0x0D, 2, 4, 0xFF},
-        {0x13, 1, 2, 0x02},
+        {0x13, 1, 2, 0x02},  {0x0F, 7, 11, '1'},  {0x10, 20, 21, '1'},
+        {0x1A, 20, 21, '1'}, {0x20, 13, 15, '-'}, {0x21, 13, 15, '-'},
+        {0x22, 13, 15, '-'}, {0x23, 5, 7, '0'},   {0x30, 20, 21, 'A'},
+        {0x31, 20, 21, 'A'}, {0x50, 1, 3, 'p'},   {0x55, 1, 2, 0x01},
+        {0xE0, 9, 11, '3'},
     };
     static const struct {
         uint8_t type, low, high;
     } octets[] = {
         {0x02, 0x28, 0x3A}, {0x12, 0x2F, 0x3A}, {0x15, 0x00, 0x07},
         {0x15, 0x7F, 0x80}, {0x16, 0x00, 0x10}, {0x11, 0x00, 0x01},
+        {0x10, 0x2F, 0x30}, {0x1A, 0x39, 0x3A}, {0x30, 0x1F, 0x20},
+        {0x31, 0x7E, 0x7F}, {0x50, 0x00, 0x03}, {0x50, 0x06, 0x07},
+        {0x50, 0x6F, 0x70}, {0x50, 0x80, 0x83}, {0x50, 0x86, 0x87},
+        {0x50, 0xEF, 0xF0}, {0x55, 0x01, 0x02}, {0x55, 0x7F, 0x80},
     };
 
     for (size_t i = 0; i < sizeof lengths / sizeof *lengths; i++)

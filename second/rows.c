@@ -1,9 +1,10 @@
 /*
  * Writes what the program `rows` reads and what it must print: the rows of
- * 01's table, of 02's calendar (Q-2) and parameters at fault (Q-3) and of the
- * other editions and ways, whose outcomes stand here by hand, and both sides
- * of every limit of both editions by both ways, with what the second reader
- * says; of the limits of 02 the refusals stand here too. Each case is an
+ * 01's table, of 02's calendar (Q-2), parameters at fault (Q-3) and European
+ * parameters (Q-4) and of the other editions and ways, whose outcomes stand
+ * here by hand, and both sides of every limit of both editions by both ways,
+ * with what the second reader says; of the limits of 02 the refusals stand
+ * here too. Each case is an
  * edition (0 the present one, 1 the old, Q-5), a way (0 strict, 1 lenient,
  * Q-11), the octets' number in two octets, and the octets. Usage: rows CASES
  * LINES
@@ -258,6 +259,89 @@ static const char *const parameter_table[][2] = {
     {"82 06 13 01 02 13 01 05 4A", SPOILT("6", "8", "0", "9")},
 };
 
+/* ---- 02, Q-4: the rest of the European parameters ---- */
+
+static const char *const european_table[][2] = {
+    /* 004's annex D: an amount; units alone, as its words have them and as its
+     * octets do; units with a price */
+    {"80 10 20 0E 46 52 46 00 30 30 30 30 30 32 33 2C 34 35 7A",
+     "kind=call charge=FRF 00 0000023,45 carried=0" ACCEPTED("19")},
+    {"80 10 20 0E 2D 2D 2D 10 30 30 30 32 33 2D 2D 2D 2D 2D D5",
+     "kind=call charge=--- 10 00023----- carried=0" ACCEPTED("19")},
+    {"80 10 20 0E 2D 2D 2D 10 30 30 30 30 32 2D 2D 2D 2D 2D D8",
+     "kind=call charge=--- 10 00002----- carried=0" ACCEPTED("19")},
+    {"80 10 20 0E 44 45 4D 10 30 30 30 37 38 30 30 2C 31 32 6E",
+     "kind=call charge=DEM 10 0007800,12 carried=0" ACCEPTED("19")},
+    /* the other two; flags that bind nothing; not available */
+    {"82 10 21 0E 49 54 4C E7 30 30 30 30 30 30 31 30 30 30 8E",
+     "kind=notice additional-charge=ITL E7 0000001000 carried=0"
+     ACCEPTED("19")},
+    {"82 10 22 0E 2D 2D 2D 18 2D 2D 2D 2D 2D 2D 2D 2D 2D 2D DD",
+     "kind=notice extra-charge=--- 18 ---------- carried=0" ACCEPTED("19")},
+    {"80 10 20 0E 46 52 46 08 2D 2D 2D 2D 2D 2D 2D 2D 2D 2D 9A",
+     SPOILT("5", "7", "1", "8")},
+    /* 004's table 33, with the type of table 7 and with its own; a mark alone;
+     * a text of spaces */
+    {"80 08 50 06 04 48 65 6C 6C 6F 2A",
+     "kind=call display=04 Hello carried=0" ACCEPTED("11")},
+    {"80 08 0F 06 04 48 65 6C 6C 6F 6B", SPOILT("3", "2", "1", "3")},
+    {"82 03 50 01 81 A9",
+     "kind=notice display=81  carried=0" ACCEPTED("6")},
+    {"82 05 50 03 FF 20 20 E7",
+     "kind=notice display=FF    carried=0" ACCEPTED("8")},
+    /* with seconds and without; 00 is not none */
+    {"82 0A 0F 08 30 36 31 35 31 34 33 30 C9",
+     "kind=notice left-time=06-15 14:30 carried=0" ACCEPTED("13")},
+    {"82 0C 0F 0A 30 36 31 35 31 34 33 30 35 39 57",
+     "kind=notice left-time=06-15 14:30:59 carried=0" ACCEPTED("15")},
+    {"82 0C 0F 0A 30 32 32 39 30 30 30 30 30 30 6C",
+     "kind=notice left-time=02-29 00:00:00 carried=0" ACCEPTED("15")},
+    {"82 08 23 06 39 39 35 39 35 39 FF",
+     "kind=notice duration=99:59:59 carried=0" ACCEPTED("11")},
+    /* a connection, a number, a subaddress */
+    {"80 04 40 02 01 00 39",
+     "kind=call terminal=connection 00 carried=0" ACCEPTED("7")},
+    {"80 04 40 02 01 07 32",
+     "kind=call terminal=connection 07 carried=0" ACCEPTED("7")},
+    {"80 0B 40 09 02 30 20 2A 23 2D 28 29 39 D6",
+     "kind=call terminal=number 0 *#-()9 carried=0" ACCEPTED("14")},
+    {"80 04 40 02 03 37 00",
+     "kind=call terminal=subaddress 7 carried=0" ACCEPTED("7")},
+    /* a service; a country of one, two and three digits */
+    {"80 03 55 01 01 26",
+     "kind=call service=01 carried=0" ACCEPTED("6")},
+    {"80 03 55 01 FF 28",
+     "kind=call service=FF carried=0" ACCEPTED("6")},
+    {"80 0C E0 0A 31 20 20 46 54 20 20 31 2E 30 B0",
+     "kind=call extension=1  FT  1.0 carried=0" ACCEPTED("15")},
+    {"80 0C E0 0A 33 33 20 46 54 20 20 31 2E 30 9B",
+     "kind=call extension=33 FT  1.0 carried=0" ACCEPTED("15")},
+    {"80 0C E0 0A 33 35 31 46 54 20 20 31 2E 30 88",
+     "kind=call extension=351FT  1.0 carried=0" ACCEPTED("15")},
+    /* all of them, the last key first */
+    {"80 67 E0 0A 33 33 20 4F 50 20 20 20 32 20 55 01 00 50 01 00 40 02 01 "
+     "02 31 01 62 30 01 61 23 06 30 30 30 30 30 31 22 0E 2D 2D 2D 08 2D 2D "
+     "2D 2D 2D 2D 2D 2D 2D 2D 21 0E 2D 2D 2D 10 30 30 30 30 31 2D 2D 2D 2D "
+     "2D 20 0E 41 42 43 00 30 30 30 30 30 30 30 30 30 2C 1A 01 33 10 01 32 "
+     "0F 08 31 32 33 31 32 33 35 39 02 01 31 9D",
+     "kind=call caller=1 left-time=12-31 23:59 network-caller=2 "
+     "redirecting=3 charge=ABC 00 000000000, "
+     "additional-charge=--- 10 00001----- "
+     "extra-charge=--- 08 ---------- duration=00:00:01 "
+     "provider=a carrier=b terminal=connection 02 display=00  "
+     "service=00 extension=33 OP   2  carried=0" ACCEPTED("106")},
+    /* the first of two counts; there is no pair but 01's */
+    {"82 10 23 06 30 30 30 30 30 31 23 06 30 30 30 30 30 32 D9",
+     "kind=notice duration=00:00:01 carried=0" ACCEPTED("19")},
+    {"80 09 04 01 50 10 01 37 02 01 38 9F",
+     "kind=call caller-absent=P network-caller=7 carried=0" ACCEPTED("12")},
+    {"80 09 02 01 31 10 01 32 1A 01 33 B2",
+     "kind=call caller=1 network-caller=2 redirecting=3 carried=0"
+     ACCEPTED("12")},
+    {"80 06 10 01 32 02 01 31 03",
+     "kind=call caller=1 network-caller=2 carried=0" ACCEPTED("9")},
+};
+
 /* ---- The other editions and ways, by hand: number, place and parameter, 0
  * where a listener waits, SIZE where the octets are a message ---- */
 
@@ -469,6 +553,35 @@ static const struct {
     {1, 1, "82 06 0B 01 FF 16 01 0E 48", 5, 7, 2},
     {1, 1, "80 06 02 01 37 04 01 50 EC", 6, 8, 0},
     {1, 1, "80 06 04 01 50 02 01 37 EB", SIZE, 0, 0},
+    /* the European parameters (02, Q-4), which the old edition carries or, by
+     * the strict way, refuses in any room */
+    {0, 0, "80 09 0F", 3, 2, 1},
+    {0, 0, "80 0A 0F", 0, 0, 0},
+    {0, 0, "80 0B 0F", 3, 2, 1},
+    {0, 0, "80 0C 0F", 0, 0, 0},
+    {0, 0, "80 0D 0F", 0, 0, 0},
+    {0, 0, "80 0B 0F 09", 3, 2, 1},
+    {0, 0, "80 0E 0F 09", 4, 3, 1},
+    {0, 0, "80 0C 0F 08", 4, 3, 1},
+    {0, 0, "80 03 40", 3, 2, 1},
+    {0, 0, "80 04 40", 0, 0, 0},
+    {0, 0, "80 05 40 03 01", 5, 4, 1},
+    {0, 0, "80 04 40 02 01", 0, 0, 0},
+    {0, 0, "80 06 02 01 37 24", 10, 5, 2},
+    {0, 0, "80 06 02 01 37 55", 0, 0, 0},
+    {0, 0, "80 06 55 01 01 55 01 02", 5, 7, 2},
+    {1, 1, "80 09 0F", 0, 0, 0},
+    {1, 1, "80 0B 0F 09", 0, 0, 0},
+    {1, 1, "80 0C 0F 09", 4, 3, 1},
+    {1, 1, "80 03 40", 0, 0, 0},
+    {1, 1, "80 05 40 03 01 08 1F", 0, 0, 0},
+    {1, 1, "80 03 55 01 02 25", SIZE, 0, 0},
+    {1, 1, "80 03 20 01 00 5C", SIZE, 0, 0},
+    {1, 0, "80 0A 0F", 10, 2, 1},
+    {1, 0, "80 0B 0F", 10, 2, 1},
+    {1, 0, "80 03 40", 10, 2, 1},
+    {1, 0, "80 06 02 01 37 55", 10, 5, 2},
+    {1, 0, "80 03 55 01 01 26", 10, 2, 1},
 };
 
 /* By hand: what a listener of this name says. */
@@ -572,14 +685,16 @@ static void unknown_ones(void)
 
 /* ---- Both sides of every limit ---- */
 
-/* the listed types, and unlisted ones beside and between them */
+/* 01's types, and unlisted ones beside and between them */
 static const uint8_t types[] = {0x00, 0x01, 0x02, 0x03, 0x04, 0x05, 0x07,
                                 0x08, 0x0B, 0x0D, 0x0E, 0x11, 0x12, 0x13,
                                 0x15, 0x16, 0x17, 0xFF};
 
 /* types that neither edition lists, and those that the old one does not */
-static const uint8_t unlisted[] = {0x00, 0x05, 0x17, 0x20, 0x80, 0xFF,
-                                   0x03, 0x08, 0x0D, 0x0E, 0x11, 0x13};
+static const uint8_t unlisted[] = {0x00, 0x05, 0x17, 0x24, 0x80, 0xFF,
+                                   0x03, 0x08, 0x0D, 0x0E, 0x11, 0x13,
+                                   0x0F, 0x10, 0x1A, 0x20, 0x21, 0x22, 0x23,
+                                   0x30, 0x31, 0x40, 0x50, 0x55, 0xE0};
 
 static size_t unlisted_types(void)
 {
@@ -622,12 +737,18 @@ static const struct contents contents[] = {
     {0x15, 1, "00 06 07 7F 80 FF"},
     {0x16, 1, "00 0F 10 FF"},
     {0x05, 1, "00 FF"},
+    {0x10, 1, "1F 20 21 22 23 24 27 28 29 2A 2B 2C 2D 2E 2F 30 39 3A FF"},
+    {0x1A, 1, "1F 20 21 22 23 24 27 28 29 2A 2B 2C 2D 2E 2F 30 39 3A FF"},
+    {0x30, 1, "00 1F 20 7E 7F FF"},
+    {0x31, 1, "00 1F 20 7E 7F FF"},
+    {0x50, 1, "00 01 02 03 06 07 6F 70 7F 80 81 82 83 86 87 EF F0 FF"},
+    {0x55, 1, "00 01 02 7F 80 FF"},
     {0, 0, NULL},
 };
 
-/* those of the old edition, which does not list six of the types; of four, and
- * of the caller, every octet is tried besides, or by the strict way those at
- * the limits */
+/* those of the old edition, which does not list the others; of four, and of the
+ * caller, every octet is tried besides, or by the strict way those at the
+ * limits */
 static const struct contents old_contents[] = {
     {0x12, 1, "00 1F 20 23 28 29 2A 2D 2F 30 31 38 39 3A 41 61 80 B0 B9 FF"},
     {0x07, 1, "00 1F 20 21 7D 7E 7F 80 A0 FE FF"},
@@ -641,6 +762,9 @@ static const struct contents old_contents[] = {
     {0x13, 1, "00 01 FF"},
     {0x13, 2, "00 01 FF"},
     {0x05, 1, "00 FF"},
+    {0x10, 1, "2F 30 FF"},
+    {0x50, 1, "02 03"},
+    {0x55, 1, "01 02 80"},
     {0, 0, NULL},
 };
 
@@ -815,6 +939,404 @@ static void calendar(void)
     }
 }
 
+/* ---- 02, Q-4: both sides of the European parameters' limits ---- */
+
+/* What a first parameter of one of these types must get in the present edition;
+ * the old one carries it by the lenient way, and refuses its type by the strict
+ * one. */
+static void european_case(const uint8_t *o, size_t n, unsigned number,
+                          size_t place)
+{
+    if (edition == SECOND_PRESENT)
+        spoilt_case(o, n, number, place, number == 0 ? 0 : 1);
+    else if (way == SECOND_STRICT)
+        spoilt_case(o, n, 10, 2, 1);
+    else
+        spoilt_case(o, n, 0, 0, 0);
+}
+
+/* By type the rooms, of 3 to 20, that none of its lengths fits; 0 behind the
+ * last of them. */
+static const struct {
+    uint8_t type, rooms[16];
+} too_small[] = {
+    {0x0F, {3, 4, 5, 6, 7, 8, 9, 11}},
+    {0x10, {0}},
+    {0x1A, {0}},
+    {0x20, {3, 4, 5, 6, 7, 8, 9, 10, 11, 12, 13, 14, 15, 17, 18}},
+    {0x21, {3, 4, 5, 6, 7, 8, 9, 10, 11, 12, 13, 14, 15, 17, 18}},
+    {0x22, {3, 4, 5, 6, 7, 8, 9, 10, 11, 12, 13, 14, 15, 17, 18}},
+    {0x23, {3, 4, 5, 6, 7, 9, 10}},
+    {0x30, {0}},
+    {0x31, {0}},
+    {0x40, {3}},
+    {0x50, {0}},
+    {0x55, {4, 5}},
+    {0xE0, {3, 4, 5, 6, 7, 8, 9, 10, 11, 13, 14}},
+};
+
+static void european_rooms(void)
+{
+    for (size_t t = 0; t < sizeof too_small / sizeof *too_small; t++) {
+        const uint8_t *small = too_small[t].rooms;
+
+        for (uint8_t room = 3; room <= 20; room++) {
+            uint8_t o[3] = {0x80, room, too_small[t].type};
+
+            european_case(o, 3, room == *small ? 3 : 0,
+                          room == *small ? 2 : 0);
+            small += room == *small;
+        }
+    }
+}
+
+/* Lengths that a type has, and those beside them. */
+static const struct {
+    uint8_t type, n, has;
+} european_lengths[] = {
+    {0x0F, 0, 0},  {0x0F, 7, 0},  {0x0F, 8, 1},    {0x0F, 9, 0},
+    {0x0F, 10, 1}, {0x0F, 11, 0}, {0x10, 0, 0},    {0x10, 1, 1},
+    {0x10, 20, 1}, {0x10, 21, 0}, {0x1A, 0, 0},    {0x1A, 1, 1},
+    {0x1A, 20, 1}, {0x1A, 21, 0}, {0x20, 13, 0},   {0x20, 14, 1},
+    {0x20, 15, 0}, {0x21, 13, 0}, {0x21, 14, 1},   {0x21, 15, 0},
+    {0x22, 13, 0}, {0x22, 14, 1}, {0x22, 15, 0},   {0x23, 5, 0},
+    {0x23, 6, 1},  {0x23, 7, 0},  {0x30, 0, 0},    {0x30, 1, 1},
+    {0x30, 20, 1}, {0x30, 21, 0}, {0x31, 0, 0},    {0x31, 1, 1},
+    {0x31, 20, 1}, {0x31, 21, 0}, {0x40, 0, 0},    {0x40, 1, 0},
+    {0x40, 2, 1},  {0x40, 3, 1},  {0x40, 21, 1},   {0x40, 22, 0},
+    {0x50, 0, 0},  {0x50, 1, 1},  {0x50, 2, 1},    {0x50, 250, 1},
+    {0x50, 253, 1}, {0x55, 0, 0}, {0x55, 1, 1},    {0x55, 2, 0},
+    {0xE0, 9, 0},  {0xE0, 10, 1}, {0xE0, 11, 0},
+};
+
+/* In the largest room, where each type is possible; then with nothing, 1, 2 and
+ * 3 octets left after it. */
+static void european_length(uint8_t type, uint8_t n, int has)
+{
+    uint8_t o[4] = {0x80, 0xFF, type, n};
+
+    if (edition == SECOND_OLD)
+        has = n > 0;
+    spoilt_case(o, 4, has ? 0 : 4, has ? 0 : 3, has ? 0 : 1);
+    for (unsigned room = 2u + n; room <= 5u + n; room++) {
+        o[1] = (uint8_t)room;
+        if (room >= 3 && room <= 255)
+            put_case(o, 4, NULL);
+    }
+}
+
+#define OCTETS(s) (s), sizeof(s) - 1
+#define NONE 255
+
+/* n octets, or the first of them, and which one spoils them. */
+struct european {
+    uint8_t type, n;
+    const char *octets;
+    uint8_t heard, spoilt;
+};
+
+static const struct european european[] = {
+    /* a moment by the calendar, its hours, minutes and seconds, and no digit */
+    {0x0F, 8, OCTETS("02292359"), NONE},
+    {0x0F, 8, OCTETS("02302359"), 2},
+    {0x0F, 8, OCTETS("04302359"), NONE},
+    {0x0F, 8, OCTETS("04312359"), 3},
+    {0x0F, 8, OCTETS("12312400"), 5},
+    {0x0F, 8, OCTETS("00"), 1},
+    {0x0F, 8, OCTETS("13"), 1},
+    {0x0F, 10, OCTETS("0229235959"), NONE},
+    {0x0F, 10, OCTETS("0230"), 2},
+    {0x0F, 10, OCTETS("02300000"), 2},
+    {0x0F, 10, OCTETS("04310000"), 3},
+    {0x0F, 10, OCTETS("0100"), 3},
+    {0x0F, 10, OCTETS("010123"), NONE},
+    {0x0F, 10, OCTETS("010124"), 5},
+    {0x0F, 10, OCTETS("01013"), 4},
+    {0x0F, 10, OCTETS("01010059"), NONE},
+    {0x0F, 10, OCTETS("0101006"), 6},
+    {0x0F, 10, OCTETS("0101000000"), NONE},
+    {0x0F, 10, OCTETS("0101000009"), NONE},
+    {0x0F, 10, OCTETS("0101000059"), NONE},
+    {0x0F, 10, OCTETS("0101000060"), 8},
+    {0x0F, 10, OCTETS("010100005"), NONE},
+    {0x0F, 10, OCTETS("010100006"), 8},
+    {0x0F, 10, OCTETS("01010000/"), 8},
+    {0x0F, 10, OCTETS("01010000 "), 8},
+    {0x0F, 10, OCTETS("010100005/"), 9},
+    {0x0F, 10, OCTETS("010100005:"), 9},
+    /* a duration */
+    {0x23, 6, OCTETS("000000"), NONE},
+    {0x23, 6, OCTETS("235959"), NONE},
+    {0x23, 6, OCTETS("240000"), NONE},
+    {0x23, 6, OCTETS("995959"), NONE},
+    {0x23, 6, OCTETS("996000"), 2},
+    {0x23, 6, OCTETS("990060"), 4},
+    {0x23, 6, OCTETS("/"), 0},
+    {0x23, 6, OCTETS(":"), 0},
+    {0x23, 6, OCTETS("9/"), 1},
+    {0x23, 6, OCTETS("9:"), 1},
+    {0x23, 6, OCTETS("9959"), NONE},
+    {0x23, 6, OCTETS("995:"), 3},
+    {0x23, 6, OCTETS("99595/"), 5},
+    /* characters behind the first */
+    {0x30, 2, OCTETS("A\x1F"), 1},
+    {0x30, 2, OCTETS("A~"), NONE},
+    {0x31, 2, OCTETS("A "), NONE},
+    {0x31, 2, OCTETS("A\x7F"), 1},
+    {0x10, 20, OCTETS("0123456789*# -()0000"), NONE},
+    {0x1A, 20, OCTETS("0123456789*# -()000A"), 19},
+    {0x30, 20, OCTETS("abcdefghijklmnopqrst"), NONE},
+    {0x31, 20, OCTETS("abcdefghijklmnopqrs\x80"), 19},
+    /* a connection's code, and its length */
+    {0x40, 2, OCTETS("\x00"), 0},
+    {0x40, 2, OCTETS("\x01"), NONE},
+    {0x40, 2, OCTETS("\x02"), NONE},
+    {0x40, 2, OCTETS("\x03"), NONE},
+    {0x40, 2, OCTETS("\x04"), 0},
+    {0x40, 2, OCTETS("\xFF"), 0},
+    {0x40, 2, OCTETS("0"), 0},
+    {0x40, 2, OCTETS("\x01\x00"), NONE},
+    {0x40, 2, OCTETS("\x01\x07"), NONE},
+    {0x40, 2, OCTETS("\x01\x08"), 1},
+    {0x40, 2, OCTETS("\x01" "0"), 1},
+    {0x40, 3, OCTETS("\x00"), 0},
+    {0x40, 3, OCTETS("\x01"), 0},
+    {0x40, 3, OCTETS("\x01\x00\x00"), 0},
+    {0x40, 3, OCTETS("\x01\x07" "7"), 0},
+    {0x40, 3, OCTETS("\x02"), NONE},
+    {0x40, 3, OCTETS("\x04"), 0},
+    {0x40, 21, OCTETS("\x01"), 0},
+    /* a number and a subaddress */
+    {0x40, 2, OCTETS("\x02" "0"), NONE},
+    {0x40, 2, OCTETS("\x02\x00"), 1},
+    {0x40, 2, OCTETS("\x02\x07"), 1},
+    {0x40, 2, OCTETS("\x02/"), 1},
+    {0x40, 2, OCTETS("\x02:"), 1},
+    {0x40, 2, OCTETS("\x02+"), 1},
+    {0x40, 2, OCTETS("\x03" "9"), NONE},
+    {0x40, 2, OCTETS("\x03\x07"), 1},
+    {0x40, 2, OCTETS("\x03" "A"), 1},
+    {0x40, 3, OCTETS("\x03*#"), NONE},
+    {0x40, 3, OCTETS("\x02" "0\x01"), 2},
+    {0x40, 21, OCTETS("\x02" "0123456789*# -()9876"), NONE},
+    {0x40, 21, OCTETS("\x03" "0123456789*# -()9876"), NONE},
+    {0x40, 21, OCTETS("\x03" "0123456789*# -()987."), 20},
+    /* characters behind a display's mark */
+    {0x50, 2, OCTETS("\x00\x1F"), 1},
+    {0x50, 2, OCTETS("\x00 "), NONE},
+    {0x50, 2, OCTETS("\x00~"), NONE},
+    {0x50, 2, OCTETS("\x00\x7F"), 1},
+    {0x50, 2, OCTETS("\x86\x86"), 1},
+    {0x50, 2, OCTETS("\x02"), 0},
+    {0x50, 2, OCTETS("\xEF"), 0},
+    {0x50, 2, OCTETS("\xF0"), NONE},
+    {0x50, 5, OCTETS("\x7F" "ab\x0A"), 3},
+    /* a country's digits, and characters */
+    {0xE0, 10, OCTETS("1  ABCD1.0"), NONE},
+    {0xE0, 10, OCTETS("33 ABCD1.0"), NONE},
+    {0xE0, 10, OCTETS("351ABCD1.0"), NONE},
+    {0xE0, 10, OCTETS("000       "), NONE},
+    {0xE0, 10, OCTETS("3 3ABCD1.0"), 2},
+    {0xE0, 10, OCTETS(" 33ABCD1.0"), 0},
+    {0xE0, 10, OCTETS("/"), 0},
+    {0xE0, 10, OCTETS("0"), NONE},
+    {0xE0, 10, OCTETS("9"), NONE},
+    {0xE0, 10, OCTETS(":"), 0},
+    {0xE0, 10, OCTETS("3\x1F"), 1},
+    {0xE0, 10, OCTETS("3 "), NONE},
+    {0xE0, 10, OCTETS("3!"), 1},
+    {0xE0, 10, OCTETS("3/"), 1},
+    {0xE0, 10, OCTETS("3:"), 1},
+    {0xE0, 10, OCTETS("3  "), NONE},
+    {0xE0, 10, OCTETS("3 !"), 2},
+    {0xE0, 10, OCTETS("3 0"), 2},
+    {0xE0, 10, OCTETS("33/"), 2},
+    {0xE0, 10, OCTETS("339"), NONE},
+    {0xE0, 10, OCTETS("33:"), 2},
+    {0xE0, 10, OCTETS("33-"), 2},
+    {0xE0, 10, OCTETS("351\x1F"), 3},
+    {0xE0, 10, OCTETS("351 ~ ~ ~ "), NONE},
+    {0xE0, 10, OCTETS("351 ~ ~ ~~"), NONE},
+    {0xE0, 10, OCTETS("351\x7F"), 3},
+    {0xE0, 10, OCTETS("351ABCD1.\x1F"), 9},
+    {0xE0, 10, OCTETS("351ABCD1.\x7F"), 9},
+};
+
+/* Of the three charges alike: the type is put in. */
+static const struct european charges[] = {
+    /* a currency of letters, or dashes */
+    {0, 14, OCTETS("A"), NONE},
+    {0, 14, OCTETS("Z"), NONE},
+    {0, 14, OCTETS("@"), 0},
+    {0, 14, OCTETS("["), 0},
+    {0, 14, OCTETS("a"), 0},
+    {0, 14, OCTETS("-"), NONE},
+    {0, 14, OCTETS(","), 0},
+    {0, 14, OCTETS("."), 0},
+    {0, 14, OCTETS("0"), 0},
+    {0, 14, OCTETS(" "), 0},
+    {0, 14, OCTETS("AZ"), NONE},
+    {0, 14, OCTETS("A@"), 1},
+    {0, 14, OCTETS("A["), 1},
+    {0, 14, OCTETS("A-"), 1},
+    {0, 14, OCTETS("-A"), 1},
+    {0, 14, OCTETS("--"), NONE},
+    {0, 14, OCTETS("-."), 1},
+    {0, 14, OCTETS("AAZ"), NONE},
+    {0, 14, OCTETS("AAz"), 2},
+    {0, 14, OCTETS("AA-"), 2},
+    {0, 14, OCTETS("--A"), 2},
+    {0, 14, OCTETS("---"), NONE},
+    {0, 14, OCTETS("FRF\x08----------"), 3},
+    {0, 14, OCTETS("FRF\x18----------"), 3},
+    {0, 14, OCTETS("---\x00" "0000023,45"), 3},
+    {0, 14, OCTETS("---\x07" "0000000000"), 3},
+    /* a cost: one comma, anywhere */
+    {0, 14, OCTETS("FRF\x00" "0000000000"), NONE},
+    {0, 14, OCTETS("FRF\x00" "9999999999"), NONE},
+    {0, 14, OCTETS("FRF\x00,000000000"), NONE},
+    {0, 14, OCTETS("FRF\x00" "000000000,"), NONE},
+    {0, 14, OCTETS("FRF\x00" "0000,00000"), NONE},
+    {0, 14, OCTETS("FRF\x00" "00000,0000"), NONE},
+    {0, 14, OCTETS("FRF\x00,,"), 5},
+    {0, 14, OCTETS("FRF\x00,00000000,"), 13},
+    {0, 14, OCTETS("FRF\x00" "1,234,567,"), 9},
+    {0, 14, OCTETS("FRF\x00/"), 4},
+    {0, 14, OCTETS("FRF\x00:"), 4},
+    {0, 14, OCTETS("FRF\x00."), 4},
+    {0, 14, OCTETS("FRF\x00-"), 4},
+    {0, 14, OCTETS("FRF\x00 "), 4},
+    {0, 14, OCTETS("FRF\x00" "000000000-"), 13},
+    {0, 14, OCTETS("FRF\x00" "00000-----"), 9},
+    /* units with a price, whose comma may stand from its first digit on */
+    {0, 14, OCTETS("DEM\x10" "0007800,12"), NONE},
+    {0, 14, OCTETS("DEM\x10" "0007800012"), NONE},
+    {0, 14, OCTETS("DEM\x10" "99999,9999"), NONE},
+    {0, 14, OCTETS("DEM\x10" "999999999,"), NONE},
+    {0, 14, OCTETS("DEM\x10,"), 4},
+    {0, 14, OCTETS("DEM\x10" "0007,00012"), 8},
+    {0, 14, OCTETS("DEM\x10" "00078,00,1"), 12},
+    {0, 14, OCTETS("DEM\x10" "00078,,"), 10},
+    {0, 14, OCTETS("DEM\x10" "00078-----"), 9},
+    {0, 14, OCTETS("DEM\x10" "000780000-"), 13},
+    {0, 14, OCTETS("DEM\x10-"), 4},
+    {0, 14, OCTETS("DEM\x10" "0007-"), 8},
+    /* units alone */
+    {0, 14, OCTETS("---\x10" "00023-----"), NONE},
+    {0, 14, OCTETS("---\x10" "99999-----"), NONE},
+    {0, 14, OCTETS("---\x10" "000,3-----"), 7},
+    {0, 14, OCTETS("---\x10-"), 4},
+    {0, 14, OCTETS("---\x10" "0002------"), 8},
+    {0, 14, OCTETS("---\x10" "000230"), 9},
+    {0, 14, OCTETS("---\x10" "00023,"), 9},
+    {0, 14, OCTETS("---\x10" "00023----0"), 13},
+    {0, 14, OCTETS("---\x10" "00023----,"), 13},
+    /* not available, in units or not: ten dashes */
+    {0, 14, OCTETS("---\x08----------"), NONE},
+    {0, 14, OCTETS("---\x18----------"), NONE},
+    {0, 14, OCTETS("---\x08" "0"), 4},
+    {0, 14, OCTETS("---\x08,"), 4},
+    {0, 14, OCTETS("---\x08----0"), 8},
+    {0, 14, OCTETS("---\x08-----0"), 9},
+    {0, 14, OCTETS("---\x08---------0"), 13},
+    {0, 14, OCTETS("---\x08---------."), 13},
+    {0, 14, OCTETS("---\x18" "0"), 4},
+    {0, 14, OCTETS("---\x18" "00023-----"), 4},
+};
+
+static void european_contents(uint8_t type, const struct european *of)
+{
+    uint8_t o[300] = {0x80, (uint8_t)(of->n + 2), type, of->n};
+    size_t n = 4u + of->heard;
+    unsigned sum = 0;
+
+    memcpy(o + 4, of->octets, of->heard);
+    for (size_t i = 0; i < n; i++)
+        sum += o[i];
+    o[n] = (uint8_t)(256 - sum % 256);
+    if (of->heard == of->n)
+        n++;
+    european_case(o, n, of->spoilt == NONE ? 0 : 5,
+                  of->spoilt == NONE ? 0 : 4u + of->spoilt);
+}
+
+/* A charge's flags, bits 4 and 5 in each case: with bit 4 no letters, with
+ * neither no dashes. */
+static void charge_flags(uint8_t type)
+{
+    static const uint8_t flags[] = {
+        0x00, 0x01, 0x02, 0x04, 0x07, 0x08, 0x09, 0x0C, 0x0F, 0x10, 0x11, 0x17,
+        0x18, 0x1F, 0x20, 0x40, 0x80, 0xE0, 0xE7, 0xE8, 0xF0, 0xF7, 0xF8, 0xFF
+    };
+
+    for (size_t i = 0; i < sizeof flags; i++) {
+        uint8_t o[8] = {0x80, 0x10, type, 14, 'F', 'R', 'F', flags[i]};
+        int unavailable = (flags[i] & 0x08) != 0;
+        int currency_alone = (flags[i] & 0x18) == 0;
+
+        european_case(o, 8, unavailable ? 5 : 0, unavailable ? 7 : 0);
+        memcpy(o + 4, "---", 3);
+        european_case(o, 8, currency_alone ? 5 : 0, currency_alone ? 7 : 0);
+    }
+}
+
+/* Every month's last day and the day after, of moments with and without
+ * seconds. */
+static void moments(void)
+{
+    for (size_t i = 0; i < 2 * sizeof months / sizeof *months; i++) {
+        uint8_t n = i % 2 ? 10 : 8;
+        uint8_t o[8] = {0x80, (uint8_t)(n + 2), 0x0F, n};
+
+        memcpy(o + 4, months[i / 2].last, 4);
+        european_case(o, 8, 0, 0);
+        memcpy(o + 4, months[i / 2].after, 4);
+        european_case(o, 8, 5, months[i / 2].spoilt);
+    }
+}
+
+/* types beside these that neither edition lists, in the smallest room */
+static void neighbours(void)
+{
+    static const uint8_t beside[] = {0x0C, 0x14, 0x19, 0x1B, 0x1F, 0x24,
+                                     0x2F, 0x32, 0x3F, 0x41, 0x4F, 0x51,
+                                     0x54, 0x56, 0xDF, 0xE1};
+
+    for (size_t i = 0; i < sizeof beside; i++) {
+        uint8_t o[3] = {0x80, 3, beside[i]};
+
+        if (way == SECOND_STRICT)
+            spoilt_case(o, 3, 10, 2, 1);
+        else
+            spoilt_case(o, 3, 0, 0, 0);
+    }
+}
+
+/* By the old edition's strict way the types alone, and of the charges, which
+ * are judged alike, the first but where there are listings. */
+static void european_limits(void)
+{
+    uint8_t last = edition == SECOND_PRESENT && way == SECOND_LENIENT ? 0x22
+                                                                      : 0x20;
+
+    european_rooms();
+    neighbours();
+    if (edition == SECOND_OLD && way == SECOND_STRICT)
+        return;
+    for (size_t i = 0; i < sizeof european_lengths / sizeof *european_lengths;
+         i++)
+        european_length(european_lengths[i].type, european_lengths[i].n,
+                        european_lengths[i].has);
+    for (size_t i = 0; i < sizeof european / sizeof *european; i++)
+        european_contents(european[i].type, &european[i]);
+    for (uint8_t type = 0x20; type <= last; type++) {
+        for (size_t i = 0; i < sizeof charges / sizeof *charges; i++)
+            european_contents(type, &charges[i]);
+        charge_flags(type);
+    }
+    moments();
+}
+
 /* ---- What counts, and long messages ---- */
 
 static uint8_t built[300];
@@ -875,7 +1397,7 @@ static void whole(void)
     end();
     /* one carried parameter of 253 octets, the longest */
     begin(0x82), add(0x17, 253, 0), end();
-    /* the longest listing: each value as long as it can be */
+    /* a long listing: each value of 01's as long as it can be */
     begin(0x82), add(0x01, 8, '0');
     memcpy(built + 4, "12312359", 8);
     add(0x02, 20, '0'), add(0x03, 20, '1'), add(0x07, 50, 'A');
@@ -886,6 +1408,55 @@ static void whole(void)
     for (int i = 0; i < 10; i++)
         add(0x05, 1, 0);
     end();
+}
+
+/* A mark, and n octets x behind it. */
+static void add_marked(uint8_t type, uint8_t mark, uint8_t n, uint8_t x)
+{
+    add(type, (uint8_t)(n + 1), x);
+    built[2 + built[1] - n - 1] = mark;
+}
+
+static void add_text(uint8_t type, const char *text)
+{
+    uint8_t n = (uint8_t)strlen(text);
+
+    add(type, n, 0);
+    memcpy(built + 2 + built[1] - n, text, n);
+}
+
+/* The European parameters at their longest and beside it (02, Q-4), and the
+ * longest listing that there is with them. */
+static void european_whole(void)
+{
+    begin(0x82), add_marked(0x50, 0x00, 252, ' '), end();
+    begin(0x80), add_marked(0x50, 0xFF, 252, '~'), end();
+    begin(0x80), add_marked(0x50, 0x7F, 252, 0x7F), end();
+    begin(0x80), add_marked(0x50, 0x07, 252, 'A'), end();
+    begin(0x80), add_marked(0x50, 0x03, 249, 'A'), add(0x55, 1, 0x80), end();
+    for (uint8_t n = 19; n <= 21; n++) {
+        begin(0x80), add(0x10, n, '1'), add(0x1A, 20, '2'), end();
+        begin(0x80), add(0x1A, n, '2'), add(0x55, 1, 0x00), end();
+        begin(0x82), add(0x30, n, 'A'), add(0x31, 20, '~'), end();
+        begin(0x82), add(0x31, n, '~'), add(0x55, 1, 0x01), end();
+        begin(0x80), add_marked(0x40, 0x02, n, '3'), end();
+        begin(0x80), add_marked(0x40, 0x03, n, '#'), add(0x55, 1, 0xFF), end();
+    }
+    begin(0x80);
+    for (int i = 0; i < 85; i++)
+        add(0x55, 1, i % 2 ? 0x80 : 0x01);
+    end();
+    begin(0x82), add_text(0x01, "12312359"), add(0x03, 1, '1');
+    add(0x04, 1, 'P'), add(0x08, 1, 'O'), add(0x0B, 1, 0x00);
+    add_marked(0x0D, 0x55, 2, 0xFF), add(0x0E, 1, '2');
+    add_text(0x0F, "1231235959"), add(0x10, 1, '3'), add(0x11, 1, 0xFF);
+    add(0x12, 1, '4'), add(0x13, 1, 0xFF), add(0x15, 1, 0xFF);
+    add(0x16, 1, 0x0F), add(0x1A, 1, '5');
+    for (uint8_t type = 0x20; type <= 0x22; type++)
+        add(type, 14, '-');
+    add_text(0x23, "995959"), add(0x30, 1, 'A'), add(0x31, 1, 'B');
+    add_marked(0x40, 0x01, 1, 0x07), add_marked(0x50, 0x86, 108, 'C');
+    add(0x55, 1, 0x01), add_text(0xE0, "351ABCD1.0"), end();
 }
 
 /* As many parameters and octets of listed types as there can be, and rooms
@@ -1044,8 +1615,10 @@ static void unlisted_ones(void)
     for (size_t k = 1; k <= 4; k++) {
         unlisted_in_whole(0x05, k);
         unlisted_in_whole(0xFF, k);
-        if (edition == SECOND_OLD)
+        if (edition == SECOND_OLD) {
             unlisted_in_whole(0x13, k);
+            unlisted_in_whole(0x55, k);
+        }
     }
 }
 
@@ -1062,13 +1635,17 @@ static void tables(int hand)
     for (size_t i = 0; i < sizeof parameter_table / sizeof *parameter_table;
          i++)
         hex_case(parameter_table[i][0], hand ? parameter_table[i][1] : NULL);
+    for (size_t i = 0; i < sizeof european_table / sizeof *european_table; i++)
+        hex_case(european_table[i][0], hand ? european_table[i][1] : NULL);
 }
 
 static void present_edition(void)
 {
     limits(contents);
     calendar();
+    european_limits();
     whole();
+    european_whole();
     parameters();
 }
 
@@ -1080,7 +1657,9 @@ static void old_edition(void)
     else
         all_octets();
     calendar();
+    european_limits();
     whole();
+    european_whole();
     old_whole();
     parameters();
 }

@@ -3,7 +3,8 @@
  * below and second_is_message; "Listening" asks of each prefix whether it is
  * a message or can still become one; the read, the desk, the caption and the
  * listing look only at octets that are known to be a message. No state is
- * handed from octet to octet. Each edition has a table of its own: source
+ * handed from octet to octet. Each edition has a table of its own: 01's and
+ * the rest of source 004's parameters are the present one's (02, Q-4), source
  * 001's is the old one's (02, Q-5); by the strict way a message is made of its
  * rows alone (02, Q-11). -DSECOND_WRONG=N makes it wrong on purpose: 1 in a
  * limit, 2 in the line for a caller, 3 in what counts, 4 in the days of
@@ -15,6 +16,8 @@
  * unlisted type at its length only, 14, which says 3 for 10, 15, which goes by
  * the present table in the old edition, and 16, which carries; 17 takes
  * unknown ways for the lenient one, and 18 settles by the lenient way alone.
+ * Of the European parameters 19 takes a charge with two commas, 20 reads a
+ * moment without seconds as one with 00, and 21 a mark into its text.
  */
 #include "second.h"
 
@@ -53,13 +56,22 @@
 #define FEBRUARY 29 /* no year is sent (02, Q-2) */
 #endif
 
+#if SECOND_WRONG == 19
+#define COMMAS 2 /* likewise */
+#else
+#define COMMAS 1 /* in a cost or a price (004, 5.4.18) */
+#endif
+
 #define SHOWMSG_LOOKS_AT 259
 
 /* ---- The tables of types ---- */
 
-enum octet_set {
+/* Contents: each octet is in a set, or octets hang on those before them. */
+enum contents {
     ANY, DIGIT, IN_NUMBER, IN_NAME, REASON, LAMP, STATE, CALL_TYPE, FORWARDED,
-    USER, OLD_FORWARDED, OLD_USER
+    USER, OLD_FORWARDED, OLD_USER, LETTER, DASH, SPACE, DIGIT_OR_SPACE,
+    CONNECTION_CODE, DISPLAY_MARK, SERVICE,
+    CALENDAR, CLOCK, IDENTITY, CHARGE, TERMINAL, DISPLAY, EXTENSION
 };
 
 struct range {
@@ -85,24 +97,38 @@ static const struct {
     [OLD_FORWARDED] = {1, {{0x00, 0x06}}},
     [OLD_USER] = {4, {{0x00, 0x00}, {0x03, 0x05}, {0x0A, 0x0D},
                       {0x0F, 0x0F}}},
+    [LETTER] = {1, {{'A', 'Z'}}},
+    [DASH] = {1, {{'-', '-'}}},
+    [SPACE] = {1, {{' ', ' '}}},
+    [DIGIT_OR_SPACE] = {2, {{'0', '9'}, {' ', ' '}}},
+    /* 004, table 32 */
+    [CONNECTION_CODE] = {1, {{0x00, 0x07}}},
+    /* 004, table 33: information that is not stored, and stored; the ranges
+     * for network operators too, as 11H and 15H have them in 01 */
+    [DISPLAY_MARK] = {6, {{0x00, 0x01}, {0x03, 0x06}, {0x70, 0x7F},
+                          {0x80, 0x81}, {0x83, 0x86}, {0xF0, 0xFF}}},
+    /* 004, table 34 */
+    [SERVICE] = {2, {{0x00, 0x01}, {0x80, 0xFF}}},
 };
 
 /* How a value is printed after its key. */
-enum look { AS_IT_IS, MONTH_TO_MINUTE, OFF_OR_ON, WITH_REFERENCE, HEX,
-            DECIMAL };
+enum look { AS_IT_IS, MONTH_TO_SECOND, HOUR_TO_SECOND, OFF_OR_ON,
+            WITH_REFERENCE, HEX, DECIMAL, CURRENCY_AND_COST, FUNCTION,
+            MARK_AND_TEXT };
 
 struct rule {
-    char key[14];      /* showmsg's, of the present edition */
+    char key[18];      /* showmsg's, of the present edition */
     uint8_t low, high; /* of n; 0 for a type without a row */
     uint8_t kind;      /* of value, in a draft */
-    uint8_t set;       /* of contents; a state's first octet */
+    uint8_t contents;
     uint8_t look;
     uint8_t rival;     /* the other type of the pair, or the type itself */
 };
 
-/* 01's table. */
+/* 01's table, and from 0FH on among it the rest of 004's table 7 (02, Q-4);
+ * table 33 prints 0FH for 50H. */
 static const struct rule present[256] = {
-    [0x01] = {"time", 8, 8, SECOND_DATE, DIGIT, MONTH_TO_MINUTE, 0x01},
+    [0x01] = {"time", 8, 8, SECOND_DATE, CALENDAR, MONTH_TO_SECOND, 0x01},
     [0x02] = {"caller", 1, NUMBER_LIMIT, SECOND_TEXT, IN_NUMBER, AS_IT_IS,
               0x04},
     [0x03] = {"called", 1, NUMBER_LIMIT, SECOND_TEXT, IN_NUMBER, AS_IT_IS,
@@ -111,21 +137,40 @@ static const struct rule present[256] = {
     [0x07] = {"name", 1, 50, SECOND_TEXT, IN_NAME, AS_IT_IS, 0x08},
     [0x08] = {"name-absent", 1, 1, SECOND_CODE, REASON, AS_IT_IS, 0x07},
     [0x0B] = {"lamp", 1, 1, SECOND_CODE, LAMP, OFF_OR_ON, 0x0B},
-    [0x0D] = {"message", 3, 3, SECOND_STATE, STATE, WITH_REFERENCE, 0x0D},
+    [0x0D] = {"message", 3, 3, SECOND_STATE, IDENTITY, WITH_REFERENCE, 0x0D},
     [0x0E] = {"depositor", 1, NUMBER_LIMIT, SECOND_TEXT, IN_NUMBER, AS_IT_IS,
               0x0E},
+    [0x0F] = {"left-time", 8, 10, SECOND_MOMENT, CALENDAR, MONTH_TO_SECOND,
+              0x0F},
+    [0x10] = {"network-caller", 1, NUMBER_LIMIT, SECOND_TEXT, IN_NUMBER,
+              AS_IT_IS, 0x10},
     [0x11] = {"call-type", 1, 1, SECOND_CODE, CALL_TYPE, HEX, 0x11},
     [0x12] = {"first-called", 1, NUMBER_LIMIT, SECOND_TEXT, IN_NUMBER,
               AS_IT_IS, 0x12},
     [0x13] = {"waiting", 1, 1, SECOND_CODE, ANY, DECIMAL, 0x13},
     [0x15] = {"forwarded", 1, 1, SECOND_CODE, FORWARDED, HEX, 0x15},
     [0x16] = {"user", 1, 1, SECOND_CODE, USER, HEX, 0x16},
+    [0x1A] = {"redirecting", 1, NUMBER_LIMIT, SECOND_TEXT, IN_NUMBER, AS_IT_IS,
+              0x1A},
+    [0x20] = {"charge", 14, 14, SECOND_TEXT, CHARGE, CURRENCY_AND_COST, 0x20},
+    [0x21] = {"additional-charge", 14, 14, SECOND_TEXT, CHARGE,
+              CURRENCY_AND_COST, 0x21},
+    [0x22] = {"extra-charge", 14, 14, SECOND_TEXT, CHARGE, CURRENCY_AND_COST,
+              0x22},
+    [0x23] = {"duration", 6, 6, SECOND_DURATION, CLOCK, HOUR_TO_SECOND, 0x23},
+    [0x30] = {"provider", 1, 20, SECOND_TEXT, IN_NAME, AS_IT_IS, 0x30},
+    [0x31] = {"carrier", 1, 20, SECOND_TEXT, IN_NAME, AS_IT_IS, 0x31},
+    [0x40] = {"terminal", 2, 21, SECOND_MARKED, TERMINAL, FUNCTION, 0x40},
+    [0x50] = {"display", 1, SECOND_TEXTS, SECOND_MARKED, DISPLAY,
+              MARK_AND_TEXT, 0x50},
+    [0x55] = {"service", 1, 1, SECOND_CODE, SERVICE, HEX, 0x55},
+    [0xE0] = {"extension", 10, 10, SECOND_TEXT, EXTENSION, AS_IT_IS, 0xE0},
 };
 
 /* Source 001's eight types: numbers are digits, and only the caller and the
  * reason for its absence shut each other out. */
 static const struct rule old[256] = {
-    [0x01] = {"", 8, 8, SECOND_DATE, DIGIT, AS_IT_IS, 0x01},
+    [0x01] = {"", 8, 8, SECOND_DATE, CALENDAR, AS_IT_IS, 0x01},
     [0x02] = {"", 1, OLD_NUMBER_LIMIT, SECOND_TEXT, DIGIT, AS_IT_IS, 0x04},
     [0x04] = {"", 1, 1, SECOND_CODE, REASON, AS_IT_IS, 0x02},
     [0x07] = {"", 1, 20, SECOND_TEXT, IN_NAME, AS_IT_IS, OLD_NAME_RIVAL},
@@ -192,6 +237,15 @@ static int in_set(unsigned set, uint8_t octet)
     return 0;
 }
 
+static int all_in_set(unsigned set, const uint8_t *c, size_t n)
+{
+    for (size_t i = 0; i < n; i++) {
+        if (!in_set(set, c[i]))
+            return 0;
+    }
+    return 1;
+}
+
 static unsigned two_digits(const uint8_t *c)
 {
     return (c[0] - (unsigned)'0') * 10u + (c[1] - (unsigned)'0');
@@ -210,18 +264,101 @@ static unsigned last_day(unsigned month)
     }
 }
 
-static int legal_date(const uint8_t *c)
+/* Numbers of two digits, each in its field's range. */
+static int legal_pairs(const uint8_t *c, size_t pairs,
+                       const struct range *field)
 {
-    static const struct range field[4] = {{1, 12}, {1, 31}, {0, 23}, {0, 59}};
-    const uint8_t *month = c, *day = c + 2;
-
-    for (size_t i = 0; i < 4; i++, c += 2) {
-        if (!in_set(DIGIT, c[0]) || !in_set(DIGIT, c[1]))
-            return 0;
-        if (two_digits(c) < field[i].low || two_digits(c) > field[i].high)
+    for (size_t i = 0; i < pairs; i++, c += 2) {
+        if (!all_in_set(DIGIT, c, 2) || two_digits(c) < field[i].low
+            || two_digits(c) > field[i].high)
             return 0;
     }
-    return two_digits(day) <= last_day(two_digits(month));
+    return 1;
+}
+
+/* Month, day, hour and minute, and behind them perhaps seconds (004, 5.4.1 and
+ * 5.4.10); the month has the day. */
+static int legal_date(const uint8_t *c, size_t n)
+{
+    static const struct range field[5] = {{1, 12}, {1, 31}, {0, 23}, {0, 59},
+                                          {0, 59}};
+
+    return legal_pairs(c, n / 2, field)
+        && two_digits(c + 2) <= last_day(two_digits(c));
+}
+
+/* Hours, minutes and seconds (004, 5.4.21). */
+static int legal_duration(const uint8_t *c)
+{
+    static const struct range field[3] = {{0, 99}, {0, 59}, {0, 59}};
+
+    return legal_pairs(c, 3, field);
+}
+
+/* Digits; one of them, anywhere, may be a comma instead. */
+static int legal_amount(const uint8_t *c, size_t n)
+{
+    size_t commas = 0;
+
+    for (size_t i = 0; i < n; i++) {
+        if (c[i] == ',')
+            commas++;
+        else if (!in_set(DIGIT, c[i]))
+            return 0;
+    }
+    return commas <= COMMAS;
+}
+
+/* Bits 4 and 5 of a charge's flags; the others bind nothing. */
+#define NOT_AVAILABLE 0x08
+#define IN_UNITS 0x10
+
+/*
+ * Currency, flags and ten octets (004, 5.4.18 to 5.4.20). What is not available
+ * is dashes throughout, be it in units or not; a cost has a currency; units,
+ * which have no comma, have a currency and a price, or dashes for both.
+ */
+static int legal_charge(const uint8_t *c)
+{
+    const uint8_t flags = c[3], *cost = c + 4, *units = cost, *price = cost + 5;
+    int letters = all_in_set(LETTER, c, 3), dashes = all_in_set(DASH, c, 3);
+
+    if (flags & NOT_AVAILABLE)
+        return dashes && all_in_set(DASH, cost, 10);
+    if (!(flags & IN_UNITS))
+        return letters && legal_amount(cost, 10);
+    return all_in_set(DIGIT, units, 5)
+        && ((letters && legal_amount(price, 5))
+            || (dashes && all_in_set(DASH, price, 5)));
+}
+
+enum { CONNECTION = 0x01, SUBSCRIBER = 0x02, SUBADDRESS = 0x03 };
+
+/* A connection type, whose code is one octet, or a number or subaddress of 1 to
+ * 20 digits (004, 5.4.24). */
+static int legal_terminal(const uint8_t *c, size_t n)
+{
+    if (c[0] == CONNECTION)
+        return n == 2 && in_set(CONNECTION_CODE, c[1]);
+    return (c[0] == SUBSCRIBER || c[0] == SUBADDRESS)
+        && all_in_set(IN_NUMBER, c + 1, n - 1);
+}
+
+/* A country of one to three digits, spaces behind them, and seven characters
+ * (004, 5.4.27). */
+static int legal_extension(const uint8_t *c)
+{
+    return in_set(DIGIT, c[0]) && in_set(DIGIT_OR_SPACE, c[1])
+        && in_set(c[1] == ' ' ? SPACE : DIGIT_OR_SPACE, c[2])
+        && all_in_set(IN_NAME, c + 3, 7);
+}
+
+/* A moment has 8 octets or, with its seconds, 10 (004, 5.4.10). */
+static int is_length(const struct rule *rule, size_t n)
+{
+    if (rule->kind == SECOND_MOMENT && n == 9)
+        return 0;
+    return n >= rule->low && n <= rule->high;
 }
 
 static int legal_contents(uint8_t edition, uint8_t type, const uint8_t *c,
@@ -229,19 +366,28 @@ static int legal_contents(uint8_t edition, uint8_t type, const uint8_t *c,
 {
     const struct rule *rule = rule_of(edition, type);
 
-    if (n < rule->low || n > rule->high)
+    if (!is_length(rule, n))
         return 0;
-    if (rule->set == ANY)
+    switch (rule->contents) {
+    case ANY:
         return 1;
-    if (rule->kind == SECOND_DATE)
-        return legal_date(c);
-    if (rule->kind == SECOND_STATE)
-        return in_set(rule->set, c[0]);
-    for (size_t i = 0; i < n; i++) {
-        if (!in_set(rule->set, c[i]))
-            return 0;
+    case CALENDAR:
+        return legal_date(c, n);
+    case CLOCK:
+        return legal_duration(c);
+    case IDENTITY:
+        return in_set(STATE, c[0]);
+    case CHARGE:
+        return legal_charge(c);
+    case TERMINAL:
+        return legal_terminal(c, n);
+    case DISPLAY:
+        return in_set(DISPLAY_MARK, c[0]) && all_in_set(IN_NAME, c + 1, n - 1);
+    case EXTENSION:
+        return legal_extension(c);
+    default:
+        return all_in_set(rule->contents, c, n);
     }
-    return 1;
 }
 
 /* ---- Whole messages ---- */
@@ -298,9 +444,7 @@ static int can_be_filled(size_t room)
 
 static int length_allowed(uint8_t edition, uint8_t type, size_t n, size_t room)
 {
-    const struct rule *rule = rule_of(edition, type);
-
-    return n >= rule->low && n <= rule->high && 2 + n <= room
+    return is_length(rule_of(edition, type), n) && 2 + n <= room
         && can_be_filled(room - 2 - n);
 }
 
@@ -315,39 +459,62 @@ static int some_length_allowed(uint8_t edition, uint8_t type, size_t room)
     return 0;
 }
 
-/* One legal contents of the type, n octets long. */
-static void sample(uint8_t edition, uint8_t type, uint8_t *c, size_t n)
-{
-    const struct rule *rule = rule_of(edition, type);
+/*
+ * Samples of legal contents, of each length that they have: how one begins,
+ * and what fills it up. Whatever begins legal contents goes on as one of them
+ * does: the tens of a month or a day with 0 or with 1, and the rest of a date
+ * with 0; letters with letters, no flags and digits, which are as good as
+ * units with a price; dashes with units alone, or as what is not available; a
+ * number with digits, a connection with its code; a country with spaces.
+ */
+struct sample {
+    size_t octets; /* of the beginning; 0 where there is no sample */
+    char begin[10];
+    char fill;
+};
 
-    if (rule->kind == SECOND_DATE)
-        memcpy(c, "01010000", n);
-    else
-        memset(c, sets[rule->set].range[0].low, n);
+#define SAMPLES 3
+
+static const struct sample samples[][SAMPLES] = {
+    [CALENDAR] = {{4, "0101", '0'}, {4, "1010", '0'}},
+    [CLOCK] = {{1, "0", '0'}},
+    [IDENTITY] = {{1, "\x00", 0x00}},
+    [CHARGE] = {{4, "AAA\x00", '0'}, {9, "---\x10" "00000", '-'},
+                {4, "---\x08", '-'}},
+    [TERMINAL] = {{1, "\x02", '0'}, {1, "\x01", 0x00}},
+    [DISPLAY] = {{1, "\x00", ' '}},
+    [EXTENSION] = {{1, "0", ' '}},
+};
+
+/* The k-th sample of the contents, n octets long; 0 if there is none. */
+static int sample(unsigned contents, size_t k, uint8_t *c, size_t n)
+{
+    const struct sample *s = &samples[contents][k];
+
+    if (contents < CALENDAR) {
+        memset(c, sets[contents].range[0].low, n);
+        return k == 0;
+    }
+    memset(c, s->fill, n);
+    memcpy(c, s->begin, s->octets);
+    return s->octets != 0;
 }
 
-/*
- * Some legal whole contents of n octets begins with c[0..heard): a sample is
- * taken whose first octets are those heard. Only in a date does an octet hang
- * on those before it, so every digit is tried in the next place too; that is
- * enough, since every month has the sample's day 01, and every day its hour.
- */
+/* Some legal whole contents of n octets, a length of the type, begin with
+ * c[0..heard). */
 static int begins_contents(uint8_t edition, uint8_t type, const uint8_t *c,
                            size_t heard, size_t n)
 {
+    const unsigned contents = rule_of(edition, type)->contents;
     uint8_t whole[SECOND_TEXTS];
 
-    sample(edition, type, whole, n);
-    memcpy(whole, c, heard);
-    if (legal_contents(edition, type, whole, n)
-        || (SECOND_WRONG == 5 && heard == 3 && c[2] == '3'))
-        return 1;
-    for (uint8_t digit = '0'; digit <= '9'; digit++) {
-        whole[heard] = digit;
+    for (size_t k = 0; k < SAMPLES && sample(contents, k, whole, n); k++) {
+        memcpy(whole, c, heard);
         if (legal_contents(edition, type, whole, n))
             return 1;
     }
-    return 0;
+    return SECOND_WRONG == 5 && contents == CALENDAR && heard == 3
+        && c[2] == '3';
 }
 
 /* q[0..heard) is less than one parameter, in a room of its own and of all
@@ -532,10 +699,16 @@ static unsigned reference_of(const uint8_t *c)
 
 /* ---- "Drafts" ---- */
 
-static int is_text(uint8_t edition, uint8_t type)
+static int has_text(unsigned kind)
 {
-    return rule_of(edition, type)->kind == SECOND_TEXT
-        || rule_of(edition, type)->kind == SECOND_CARRIED;
+    return kind == SECOND_TEXT || kind == SECOND_CARRIED
+        || kind == SECOND_MARKED;
+}
+
+/* How many octets of the contents stand before its text. */
+static size_t before_text(unsigned kind)
+{
+    return kind == SECOND_MARKED && SECOND_WRONG != 21 ? 1 : 0;
 }
 
 static size_t texts_needed(uint8_t edition, const uint8_t *o)
@@ -544,8 +717,9 @@ static size_t texts_needed(uint8_t edition, const uint8_t *o)
     size_t place = 2, octets = 0;
 
     while (next_parameter(o, &place, &q)) {
-        if (is_text(edition, q.type))
-            octets += q.length;
+        unsigned kind = rule_of(edition, q.type)->kind;
+        if (has_text(kind))
+            octets += q.length - before_text(kind);
     }
     return octets;
 }
@@ -559,6 +733,13 @@ static void set_text(struct second_draft *draft, struct second_entry *entry,
     draft->text_octets = (uint16_t)(draft->text_octets + n);
 }
 
+static void set_pairs(struct second_entry *entry, const uint8_t *c,
+                      size_t pairs)
+{
+    for (size_t i = 0; i < pairs; i++)
+        entry->number[i] = (uint16_t)two_digits(c + 2 * i);
+}
+
 static void set_entry(uint8_t edition, struct second_draft *draft, uint8_t type,
                       const uint8_t *c, size_t n)
 {
@@ -566,15 +747,32 @@ static void set_entry(uint8_t edition, struct second_draft *draft, uint8_t type,
 
     entry->type = type;
     entry->kind = rule_of(edition, type)->kind;
-    if (is_text(edition, type)) {
-        set_text(draft, entry, c, n);
-    } else if (entry->kind == SECOND_DATE) {
-        for (size_t i = 0; i < 4; i++)
-            entry->number[i] = (uint16_t)two_digits(c + 2 * i);
-    } else {
+    switch (entry->kind) {
+    case SECOND_CODE:
+    case SECOND_MARKED:
         entry->number[0] = c[0];
-        if (entry->kind == SECOND_STATE)
-            entry->number[1] = (uint16_t)reference_of(c);
+        break;
+    case SECOND_STATE:
+        entry->number[0] = c[0];
+        entry->number[1] = (uint16_t)reference_of(c);
+        break;
+    case SECOND_DATE:
+        set_pairs(entry, c, 4);
+        break;
+    case SECOND_MOMENT:
+        set_pairs(entry, c, n / 2);
+        if (n == 10 || SECOND_WRONG == 20)
+            entry->number[4]++;
+        break;
+    case SECOND_DURATION:
+        set_pairs(entry, c, 3);
+        break;
+    default:
+        break;
+    }
+    if (has_text(entry->kind)) {
+        size_t before = before_text(entry->kind);
+        set_text(draft, entry, c + before, n - before);
     }
 }
 
@@ -721,12 +919,14 @@ static void put_hex(struct page *page, uint8_t octet)
     put(page, "0123456789ABCDEF"[octet % 16]);
 }
 
-static void put_date(struct page *page, const uint8_t *c)
+/* Pairs of digits, n octets in all, and what stands between them. */
+static void put_pairs(struct page *page, const uint8_t *c, size_t n,
+                      const char *between)
 {
-    for (size_t i = 0; i < 4; i++) {
-        put_octets(page, c + 2 * i, 2);
-        if (i < 3)
-            put(page, "- :"[i]);
+    for (size_t i = 0; i < n; i += 2) {
+        if (i > 0)
+            put(page, *between++);
+        put_octets(page, c + i, 2);
     }
 }
 
@@ -736,12 +936,37 @@ static void put_state(struct page *page, const uint8_t *c)
     put_decimal(page, reference_of(c));
 }
 
-static void put_value(struct page *page, unsigned look, const uint8_t *c,
-                      size_t n)
+static void put_charge(struct page *page, const uint8_t *c)
 {
-    switch (look) {
-    case MONTH_TO_MINUTE:
-        put_date(page, c);
+    put_octets(page, c, 3);
+    put(page, ' ');
+    put_hex(page, c[3]);
+    put(page, ' ');
+    put_octets(page, c + 4, 10);
+}
+
+static void put_function(struct page *page, const uint8_t *c, size_t n)
+{
+    if (c[0] == CONNECTION) {
+        put_words(page, "connection ");
+        put_hex(page, c[1]);
+        return;
+    }
+    put_words(page, c[0] == SUBSCRIBER ? "number " : "subaddress ");
+    put_octets(page, c + 1, n - 1);
+}
+
+static void put_value(struct page *page, const struct rule *rule,
+                      const uint8_t *c, size_t n)
+{
+    switch (rule->look) {
+    case MONTH_TO_SECOND:
+        put_pairs(page, c, n, "- ::");
+        if (SECOND_WRONG == 20 && rule->kind == SECOND_MOMENT && n == 8)
+            put_words(page, ":00");
+        break;
+    case HOUR_TO_SECOND:
+        put_pairs(page, c, n, "::");
         break;
     case OFF_OR_ON:
         put_words(page, c[0] == 0xFF ? "on" : "off");
@@ -754,6 +979,17 @@ static void put_value(struct page *page, unsigned look, const uint8_t *c,
         break;
     case DECIMAL:
         put_decimal(page, c[0]);
+        break;
+    case CURRENCY_AND_COST:
+        put_charge(page, c);
+        break;
+    case FUNCTION:
+        put_function(page, c, n);
+        break;
+    case MARK_AND_TEXT:
+        put_hex(page, c[0]);
+        put(page, ' ');
+        put_octets(page, c + 1, n - 1);
         break;
     default:
         put_octets(page, c, n);
@@ -790,7 +1026,7 @@ static void put_message(struct page *page, const uint8_t *o)
             continue;
         put_words(page, present[type].key);
         put(page, '=');
-        put_value(page, present[type].look, o + q.start, q.length);
+        put_value(page, &present[type], o + q.start, q.length);
         put(page, '\n');
     }
     put_number_line(page, "carried", carried_in(o));

@@ -3,9 +3,10 @@
  * listener, reader, desk, caption finder and showmsg against. It starts from
  * whole messages ("The message") and derives every other answer from them.
  * Every question names the edition and the way: the present edition's types
- * are 01's table, the old one's are source 001's (02, Q-5); types without a
- * row in the edition's own table are refused by the strict way, and carried by
- * the lenient one (02, Q-11). Clarity comes before speed.
+ * are 01's table and the rest of source 004's (02, Q-4), the old one's are
+ * source 001's (02, Q-5); types without a row in the edition's own table are
+ * refused by the strict way, and carried by the lenient one (02, Q-11).
+ * Clarity comes before speed.
  */
 #ifndef SECOND_H
 #define SECOND_H
@@ -64,21 +65,30 @@ struct second_verdict {
     uint8_t edition;  /* that the answer names; 0 with 16 and 17 */
 };
 
-enum { SECOND_CODE, SECOND_DATE, SECOND_STATE, SECOND_TEXT, SECOND_CARRIED };
+enum {
+    SECOND_CODE, SECOND_DATE, SECOND_STATE, SECOND_TEXT, SECOND_CARRIED,
+    SECOND_MOMENT,   /* 0FH: a date, perhaps with seconds */
+    SECOND_DURATION, /* 23H */
+    SECOND_MARKED    /* 40H and 50H: an octet, and a text behind it */
+};
 
 #define SECOND_ENTRIES 85
 #define SECOND_TEXTS 253
 
 /*
  * number[] holds: a code's octet; a date's month, day, hour and minute; a
- * state's octet and reference. start and length are a text's, in the packed
- * texts. What a kind does not use is 0, an unused entry is all zeros, and so
- * are the octets of texts[] from text_octets on.
+ * state's octet and reference; a moment's month, day, hour, minute and, where
+ * seconds were sent, one more than these; a duration's hours, minutes and
+ * seconds; a mark. start and length are a text's, in the packed texts; a
+ * marked text is what stands behind its mark, of 50H perhaps nothing, and its
+ * start is then where the next text's would be. What a kind does not use is 0,
+ * an unused entry is all zeros, and so are the octets of texts[] from
+ * text_octets on.
  */
 struct second_entry {
     uint8_t type;
     uint8_t kind;
-    uint16_t number[4];
+    uint16_t number[5];
     uint16_t start;
     uint16_t length;
 };
@@ -130,11 +140,11 @@ int second_counted(uint8_t edition, uint8_t way, const uint8_t *o, size_t n,
 
 /* ---- "What showmsg prints" ---- */
 
-#define SECOND_LISTING 512
+#define SECOND_LISTING 1024
 
 /* What showmsg prints for o[0..n), without a closing zero. out has room for
- * SECOND_LISTING octets; at most 259 octets of o are looked at. Listings are
- * of the present edition, by the lenient way. */
+ * SECOND_LISTING octets, and the longest listing has 542; at most 259 octets of
+ * o are looked at. Listings are of the present edition, by the lenient way. */
 size_t second_listing(const uint8_t *o, size_t n, char *out);
 
 /* ---- "The caption" ---- */

@@ -1,8 +1,8 @@
 /*
  * Seeded traffic to compare listeners and readers on: messages built from the
- * rules of 01's "The message", or of the old edition (02, Q-5), for either way
- * (02, Q-11), and damaged ones, with every limit on both of its sides. The
- * same seed gives the same messages.
+ * rules of 01's "The message" and source 004's parameters (02, Q-4), or of the
+ * old edition (02, Q-5), for either way (02, Q-11), and damaged ones, with
+ * every limit on both of its sides. The same seed gives the same messages.
  */
 #ifndef TRAFFIC_H
 #define TRAFFIC_H
@@ -29,6 +29,9 @@ enum traffic_sort {
     TRAFFIC_SHORT_L,        /* L below 3 */
     TRAFFIC_LATE,           /* right up to one of the last octets */
     TRAFFIC_NOISE,
+    TRAFFIC_MISMATCHED,     /* octets that might each stand where they do, but
+                             * perhaps not together; common for the present
+                             * edition */
     TRAFFIC_UNLISTED,       /* a type that the edition does not list; for the
                              * strict way only, and common there */
     TRAFFIC_SORTS
@@ -51,7 +54,8 @@ uint32_t traffic_number(struct traffic *t, uint32_t below);
 
 /* Writes the next message and gives its number of octets, 0 to 300. In the old
  * edition the types that only the present one lists are common, with any
- * contents; for the strict way only as TRAFFIC_UNLISTED. */
+ * contents, or often with those that the present one takes; for the strict way
+ * only as TRAFFIC_UNLISTED. */
 size_t traffic_next(struct traffic *t, uint8_t out[TRAFFIC_OCTETS]);
 
 /* Likewise a message about one of some 24 references (02, Q-6): mostly a
@@ -63,8 +67,10 @@ size_t traffic_about(struct traffic *t, uint8_t out[TRAFFIC_OCTETS]);
 
 /* Likewise a message with a date at a limit of its month or beside it (02,
  * Q-2), February and the months of 30 days more often than the others; now
- * and then cut inside the date, changed in it, or with a wrong sum. Both
- * editions list its types, so it is the same for all. */
+ * and then cut inside the date, changed in it, or with a wrong sum. The date is
+ * one of 01H, or now and then of 0FH, with or without seconds. The octets are
+ * the same for all, though the old edition does not list 0FH: such a message is
+ * TRAFFIC_UNLISTED there for the strict way. */
 size_t traffic_dated(struct traffic *t, uint8_t out[TRAFFIC_OCTETS]);
 
 #endif

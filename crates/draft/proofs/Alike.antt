@@ -13,14 +13,14 @@ use Rattle.rules.proofs.Tests.{both, join, le-of, of-le, eq-of, of-eq, clash}
 use Rattle.rules.proofs.Returns.{yes-le}
 use Rattle.rules.specs.Pairwise.{pairwise, sameOctets}
 use Rattle.rules.proofs.Pairwise.{octets-are, octets-self}
-use Rattle.draft.specs.Meaning.{Meaning, dateIs, codeIs, stateIs, textIs, carriedIs, formNumber}
+use Rattle.draft.specs.Meaning.{Meaning, dateIs, codeIs, stateIs, textIs, carriedIs, momentIs, durationIs, markedIs, formNumber}
 use Rattle.draft.specs.Draft.{meaningOf, inside, Said, saidOf, allSaid, allInside, Equal}
 use Rattle.draft.specs.declared.Value.{Value}
-use Rattle.draft.specs.declared.Value.the-variants.{Date, Code, State, Text, Carried}
+use Rattle.draft.specs.declared.Value.the-variants.{Date, Code, State, Text, Carried, Moment, Duration, Marked}
 use Rattle.draft.specs.declared.Entry.{Entry}
 use Rattle.draft.specs.declared.Draft.{Draft}
 use Rattle.draft.specs.declared.Flat.{Flat}
-use Rattle.draft.specs.Same.{flatOf, sameNumbers, sameText, sameFlat, sameEntry, sameEntries, sameMessage, sameDraft}
+use Rattle.draft.specs.Same.{flatOf, sameEnds, sameNumbers, sameText, sameFlat, sameEntry, sameEntries, sameMessage, sameDraft}
 
 -- ---- values: what a value says is what it is flat, with its text's octets
 record FlatMeaning : Type 0 where
@@ -29,21 +29,34 @@ record FlatMeaning : Type 0 where
   second : ℕ
   third : ℕ
   fourth : ℕ
+  fifth : ℕ
   octets : List ℕ
 
+abbrev numbers : ℕ → ℕ → ℕ → ℕ → ℕ → ℕ → FlatMeaning
+numbers form a b c d e = record { form = form; first = a; second = b; third = c; fourth = d; fifth = e; octets = [] }
+
+abbrev words : ℕ → ℕ → List ℕ → FlatMeaning
+words form x v = record { form = form; first = x; second = 0; third = 0; fourth = 0; fifth = 0; octets = v }
+
 unfoldable shown : Meaning → FlatMeaning
-shown (dateIs m d h n) = record { form = 1; first = m; second = d; third = h; fourth = n; octets = [] }
-shown (codeIs x) = record { form = 0; first = x; second = 0; third = 0; fourth = 0; octets = [] }
-shown (stateIs s r) = record { form = 2; first = s; second = r; third = 0; fourth = 0; octets = [] }
-shown (textIs v) = record { form = 3; first = 0; second = 0; third = 0; fourth = 0; octets = v }
-shown (carriedIs v) = record { form = 4; first = 0; second = 0; third = 0; fourth = 0; octets = v }
+shown (dateIs m d h n) = numbers 1 m d h n 0
+shown (codeIs x) = numbers 0 x 0 0 0 0
+shown (stateIs s r) = numbers 2 s r 0 0 0
+shown (textIs v) = words 3 0 v
+shown (carriedIs v) = words 4 0 v
+shown (momentIs m d h n s) = numbers 5 m d h n s
+shown (durationIs h m s) = numbers 6 h m s 0 0
+shown (markedIs x v) = words 7 x v
 
 unfoldable raised : ℕ → FlatMeaning → Meaning
 raised zero x = codeIs (x .first)
 raised (suc zero) x = dateIs (x .first) (x .second) (x .third) (x .fourth)
 raised (suc (suc zero)) x = stateIs (x .first) (x .second)
 raised (suc (suc (suc zero))) x = textIs (x .octets)
-raised (suc (suc (suc (suc k)))) x = carriedIs (x .octets)
+raised (suc (suc (suc (suc zero)))) x = carriedIs (x .octets)
+raised (suc (suc (suc (suc (suc zero))))) x = momentIs (x .first) (x .second) (x .third) (x .fourth) (x .fifth)
+raised (suc (suc (suc (suc (suc (suc zero)))))) x = durationIs (x .first) (x .second) (x .third)
+raised (suc (suc (suc (suc (suc (suc (suc k))))))) x = markedIs (x .first) (x .octets)
 
 raised-shown : (μ : Meaning) → raised (shown μ .form) (shown μ) ≡ μ
 unfolding shown raised
@@ -52,6 +65,9 @@ raised-shown (codeIs x) = refl
 raised-shown (stateIs s r) = refl
 raised-shown (textIs v) = refl
 raised-shown (carriedIs v) = refl
+raised-shown (momentIs m d h n s) = refl
+raised-shown (durationIs h m s) = refl
+raised-shown (markedIs x v) = refl
 
 unfoldable shownIn : List ℕ → Flat → FlatMeaning
 shownIn s x =
@@ -61,6 +77,7 @@ shownIn s x =
       second = x .second;
       third = x .third;
       fourth = x .fourth;
+      fifth = x .fifth;
       octets = take (x .length) (drop (x .start) s);
     }
 
@@ -71,6 +88,9 @@ shown-flat s (Code x) = refl
 shown-flat s (State x r) = refl
 shown-flat s (Text a n) = refl
 shown-flat s (Carried a n) = refl
+shown-flat s (Moment m d h n x) = refl
+shown-flat s (Duration h m x) = refl
+shown-flat s (Marked x a n) = refl
 
 pub inside-flat : (s : List ℕ) (v : Value) → inside s v ≡ (flatOf v .start + flatOf v .length ≤? length s)
 unfolding inside flatOf _≤?_ formNumber
@@ -79,6 +99,9 @@ inside-flat s (Code x) = sym (yes-le 0 (length s) (omega arith))
 inside-flat s (State x r) = sym (yes-le 0 (length s) (omega arith))
 inside-flat s (Text a n) = refl
 inside-flat s (Carried a n) = refl
+inside-flat s (Moment m d h n x) = sym (yes-le 0 (length s) (omega arith))
+inside-flat s (Duration h m x) = sym (yes-le 0 (length s) (omega arith))
+inside-flat s (Marked x a n) = refl
 
 -- both texts lie inside and the values say the same
 record Alike (s : List ℕ) (v : Value) (t : List ℕ) (w : Value) : Type 0 where
@@ -88,24 +111,26 @@ record Alike (s : List ℕ) (v : Value) (t : List ℕ) (w : Value) : Type 0 wher
 
 module _ (s : List ℕ) (v : Value) (t : List ℕ) (w : Value) where
   value-alike : T (sameFlat s (flatOf v) t (flatOf w)) → Alike s v t w
-  unfolding sameFlat sameNumbers sameText shownIn
+  unfolding sameFlat sameNumbers sameEnds sameText shownIn
   value-alike q =
       let a = both _ _ q in
       let b = both _ _ (a .1) in
       let n = both _ _ (b .0) in
       let n2 = both _ _ (n .1) in
       let n3 = both _ _ (n2 .1) in
+      let n4 = both _ _ (n3 .1) in
       let x = both _ _ (b .1) in
       let y = both _ _ (x .1) in
       let f = eq-of _ _ (a .0) in
       let i = eq-of _ _ (n .0) in
       let j = eq-of _ _ (n2 .0) in
       let k = eq-of _ _ (n3 .0) in
-      let l = eq-of _ _ (n3 .1) in
+      let l = eq-of _ _ (n4 .0) in
+      let m = eq-of _ _ (n4 .1) in
       let o = octets-are _ _ (y .1) in
       let e : shown (meaningOf s v) ≡ shown (meaningOf t w) =
       shown-flat s v
-      ∙ (λ z. record { form = f z; first = i z; second = j z; third = k z; fourth = l z; octets = o z })
+      ∙ (λ z. record { form = f z; first = i z; second = j z; third = k z; fourth = l z; fifth = m z; octets = o z })
       ∙ sym (shown-flat t w) in
       record {
         says =
@@ -116,7 +141,7 @@ module _ (s : List ℕ) (v : Value) (t : List ℕ) (w : Value) where
       }
 
   alike-value : Alike s v t w → T (sameFlat s (flatOf v) t (flatOf w))
-  unfolding sameFlat sameNumbers sameText shownIn
+  unfolding sameFlat sameNumbers sameEnds sameText shownIn
   alike-value q =
       let e : shownIn s (flatOf v) ≡ shownIn t (flatOf w) =
       sym (shown-flat s v) ∙ ap shown (q .says) ∙ shown-flat t w in
@@ -125,7 +150,8 @@ module _ (s : List ℕ) (v : Value) (t : List ℕ) (w : Value) where
       (join _ _ (of-eq _ _ (ap (λ (x : FlatMeaning). x .first) e))
       (join _ _ (of-eq _ _ (ap (λ (x : FlatMeaning). x .second) e))
       (join _ _ (of-eq _ _ (ap (λ (x : FlatMeaning). x .third) e))
-      (of-eq _ _ (ap (λ (x : FlatMeaning). x .fourth) e)))))
+      (join _ _ (of-eq _ _ (ap (λ (x : FlatMeaning). x .fourth) e))
+      (of-eq _ _ (ap (λ (x : FlatMeaning). x .fifth) e))))))
       (join _ _ (rw (inside-flat s v) at (q .left))
       (join _ _ (rw (inside-flat t w) at (q .right))
       (subst (λ (o : List ℕ). T (sameOctets (take (flatOf v .length) (drop (flatOf v .start) s)) o))

@@ -14,7 +14,7 @@ use Rattle.rules.specs.Table.{Rules, classOf}
 use Rattle.rules.proofs.ClassLaw.{fit-octets}
 use Rattle.rules.proofs.ContentLaw.{lawful}
 use Rattle.rules.specs.Message.{Parameter, Message, LegalParameter, AllLegal, LegalMessage, most}
-use Rattle.draft.specs.Meaning.{kindOf, Meaning, dateIs, codeIs, stateIs, textIs, carriedIs, spelled, textIn}
+use Rattle.draft.specs.Meaning.{kindOf, Meaning, dateIs, codeIs, stateIs, textIs, carriedIs, momentIs, durationIs, markedIs, spelled, textIn}
 use Rattle.draft.proofs.Meaning.{drawn}
 use Rattle.draft.specs.Draft.{noEntry, meaningOf, inside, parameterOf, parametersOf, Said, saidOf, allSaid, allInside, used, messageOf, Equal}
 use Rattle.draft.specs.declared.Entry.{Entry}
@@ -38,6 +38,10 @@ module _ (texts : List ℕ) (at : ℕ) (rest : List ℕ) (l : at ≤ length text
   unpack (textIs v) e = record { says = ap textIs (rw e (take-append-seam v rest)); lies = of-le _ _ (fitting v e) }
   unpack (carriedIs v) e =
       record { says = ap carriedIs (rw e (take-append-seam v rest)); lies = of-le _ _ (fitting v e) }
+  unpack (momentIs m d h n s) e = record { says = refl; lies = tt }
+  unpack (durationIs h m s) e = record { says = refl; lies = tt }
+  unpack (markedIs x v) e =
+      record { says = ap (markedIs x) (rw e (take-append-seam v rest)); lies = of-le _ _ (fitting v e) }
 
   next : (v w : List ℕ) → drop at texts ≡ (v ++ w) ++ rest → drop (at + length v) texts ≡ w ++ rest
   next v w e =

@@ -9,9 +9,9 @@ use lib.Dec.{T}
 use Rattle.rules.specs.Tests.{_≤?_, every}
 use Rattle.rules.specs.Editions as editions
 use Rattle.rules.specs.Message.{Parameter, Message, most}
-use Rattle.draft.specs.Meaning.{Meaning, dateIs, codeIs, stateIs, textIs, carriedIs, spelled}
+use Rattle.draft.specs.Meaning.{Meaning, dateIs, codeIs, stateIs, textIs, carriedIs, momentIs, durationIs, markedIs, spelled}
 use Rattle.draft.specs.declared.Value.{Value}
-use Rattle.draft.specs.declared.Value.the-variants.{Date, Code, State, Text, Carried}
+use Rattle.draft.specs.declared.Value.the-variants.{Date, Code, State, Text, Carried, Moment, Duration, Marked}
 use Rattle.draft.specs.declared.Entry.{Entry}
 use Rattle.draft.specs.declared.Draft.{Draft}
 
@@ -27,6 +27,9 @@ meaningOf texts (Code x) = codeIs x
 meaningOf texts (State s r) = stateIs s r
 meaningOf texts (Text s n) = textIs (take n (drop s texts))
 meaningOf texts (Carried s n) = carriedIs (take n (drop s texts))
+meaningOf texts (Moment m d h n s) = momentIs m d h n s
+meaningOf texts (Duration h m s) = durationIs h m s
+meaningOf texts (Marked x s n) = markedIs x (take n (drop s texts))
 
 -- its text, if it has one, lies inside the area
 unfoldable pub inside : List ℕ → Value → Bool
@@ -35,6 +38,9 @@ inside texts (Code x) = true
 inside texts (State s r) = true
 inside texts (Text s n) = s + n ≤? length texts
 inside texts (Carried s n) = s + n ≤? length texts
+inside texts (Moment m d h n s) = true
+inside texts (Duration h m s) = true
+inside texts (Marked x s n) = s + n ≤? length texts
 
 -- the parameter that an entry stands for
 unfoldable pub parameterOf : List ℕ → Entry → Parameter

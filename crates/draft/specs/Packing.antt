@@ -6,10 +6,10 @@ use mathlib.Core.List.{List, [], _∷_, _++_}
 use lib.ListN.{length, replicate}
 use Rattle.rules.specs.Table.{Rules}
 use Rattle.rules.specs.Message.{Parameter, Message, most}
-use Rattle.draft.specs.Meaning.{Meaning, dateIs, codeIs, stateIs, textIs, carriedIs, meant, textIn, kindOf}
+use Rattle.draft.specs.Meaning.{Meaning, dateIs, codeIs, stateIs, textIs, carriedIs, momentIs, durationIs, markedIs, meant, textIn, kindOf}
 use Rattle.draft.specs.Draft.{noEntry}
 use Rattle.draft.specs.declared.Value.{Value}
-use Rattle.draft.specs.declared.Value.the-variants.{Date, Code, State, Text, Carried}
+use Rattle.draft.specs.declared.Value.the-variants.{Date, Code, State, Text, Carried, Moment, Duration, Marked}
 use Rattle.draft.specs.declared.Entry.{Entry}
 use Rattle.draft.specs.declared.Draft.{Draft}
 
@@ -21,6 +21,9 @@ valueAt at (codeIs x) = Code x
 valueAt at (stateIs s r) = State s r
 valueAt at (textIs v) = Text at (length v)
 valueAt at (carriedIs v) = Carried at (length v)
+valueAt at (momentIs m d h n s) = Moment m d h n s
+valueAt at (durationIs h m s) = Duration h m s
+valueAt at (markedIs x v) = Marked x at (length v)
 
 unfoldable pub meaningIn : Rules → Parameter → Meaning
 meaningIn R p = meant (kindOf R (p .kind)) (p .contents)

@@ -11,34 +11,44 @@ use Rattle.rules.specs.Editions.{edition}
 use Rattle.rules.specs.Pairwise.{pairwise, sameOctets}
 use Rattle.draft.specs.Draft.{used}
 use Rattle.draft.specs.declared.Value.{Value}
-use Rattle.draft.specs.declared.Value.the-variants.{Date, Code, State, Text, Carried}
+use Rattle.draft.specs.declared.Value.the-variants.{Date, Code, State, Text, Carried, Moment, Duration, Marked}
 use Rattle.draft.specs.declared.Entry.{Entry}
 use Rattle.draft.specs.declared.Draft.{Draft}
 use Rattle.draft.specs.declared.Flat.{Flat}
 use Rattle.draft.specs.Meaning.{formNumber}
-use Rattle.rules.specs.declared.Form.the-variants.{CodeValue, DateValue, StateValue, TextValue, CarriedValue}
+use Rattle.rules.specs.declared.Form.the-variants.{CodeValue, DateValue, StateValue, TextValue, CarriedValue, MomentValue, DurationValue, MarkedValue}
 
 -- ---- a value laid flat
--- a text: no numbers
-abbrev pub flatText : ℕ → ℕ → ℕ → Flat
-flatText form start n = record { form = form; first = 0; second = 0; third = 0; fourth = 0; start = start; length = n }
+-- numbers: no text
+abbrev pub flatNumbers : ℕ → ℕ → ℕ → ℕ → ℕ → ℕ → Flat
+flatNumbers form a b c d e =
+    record { form = form; first = a; second = b; third = c; fourth = d; fifth = e; start = 0; length = 0 }
+
+-- a text: no number but its mark, 0 where it has none
+abbrev pub flatText : ℕ → ℕ → ℕ → ℕ → Flat
+flatText form mark start n =
+    record { form = form; first = mark; second = 0; third = 0; fourth = 0; fifth = 0; start = start; length = n }
 
 -- the number of its kind (`formNumber`), its numbers, the place and the length of its text; 0 where it has none
 unfoldable pub flatOf : Value → Flat
-flatOf (Date m d h n) =
-    record { form = formNumber DateValue; first = m; second = d; third = h; fourth = n; start = 0; length = 0 }
-flatOf (Code x) =
-    record { form = formNumber CodeValue; first = x; second = 0; third = 0; fourth = 0; start = 0; length = 0 }
-flatOf (State s r) =
-    record { form = formNumber StateValue; first = s; second = r; third = 0; fourth = 0; start = 0; length = 0 }
-flatOf (Text s n) = flatText 3 s n
-flatOf (Carried s n) = flatText 4 s n
+flatOf (Date m d h n) = flatNumbers (formNumber DateValue) m d h n 0
+flatOf (Code x) = flatNumbers (formNumber CodeValue) x 0 0 0 0
+flatOf (State s r) = flatNumbers (formNumber StateValue) s r 0 0 0
+flatOf (Text s n) = flatText (formNumber TextValue) 0 s n
+flatOf (Carried s n) = flatText (formNumber CarriedValue) 0 s n
+flatOf (Moment m d h n s) = flatNumbers (formNumber MomentValue) m d h n s
+flatOf (Duration h m s) = flatNumbers (formNumber DurationValue) h m s 0 0
+flatOf (Marked x s n) = flatText (formNumber MarkedValue) x s n
 
 -- ---- the test
--- number by number
+-- number by number: the last two
+unfoldable pub sameEnds : Flat → Flat → Bool
+sameEnds x y = x .fourth =? y .fourth and x .fifth =? y .fifth
+
+-- and all five
 unfoldable pub sameNumbers : Flat → Flat → Bool
 sameNumbers x y =
-    x .first =? y .first and (x .second =? y .second and (x .third =? y .third and x .fourth =? y .fourth))
+    x .first =? y .first and (x .second =? y .second and (x .third =? y .third and sameEnds x y))
 
 -- both texts lie inside their areas, and their octets agree
 unfoldable pub sameText : List ℕ → Flat → List ℕ → Flat → Bool

@@ -10,9 +10,10 @@ ghost use Rattle.rules.specs.Tests.{_≤?_};
 ghost use Rattle.rules.specs.Pairwise.{sameOctets};
 ghost use Rattle.rules.specs.Table.{formOf};
 ghost use Rattle.rules.specs.Message.{most};
-ghost use Rattle.draft.specs.Meaning.{formNumber};
+ghost use Rattle.draft.specs.Meaning.{formNumber, hasText};
+ghost use Rattle.draft.specs.declared.Value.the-variants as value;
 ghost use Rattle.draft.specs.Draft.{noEntry, emptyOf};
-ghost use Rattle.draft.specs.Same.{flatOf, flatText, sameText, sameNumbers, sameFlat, sameEntry, sameEntries, sameMessage, sameDraft};
+ghost use Rattle.draft.specs.Same.{flatOf, flatNumbers, flatText, sameText, sameEnds, sameNumbers, sameFlat, sameEntry, sameEntries, sameMessage, sameDraft};
 
 pub enum Value {
     Date {
@@ -31,6 +32,25 @@ pub enum Value {
         length: usize,
     },
     Carried {
+        start: usize,
+        length: usize,
+    },
+    // A date whose seconds may have been sent (document 02, Q-4): `second` is the seconds + 1, or 0 where none were.
+    Moment {
+        month: u8,
+        day: u8,
+        hour: u8,
+        minute: u8,
+        second: u8,
+    },
+    Duration {
+        hours: u8,
+        minutes: u8,
+        seconds: u8,
+    },
+    // A first octet, and the text of the octets behind it.
+    Marked {
+        mark: u8,
         start: usize,
         length: usize,
     },
@@ -73,7 +93,7 @@ pub fn empty(edition: u8, kind: u8) -> Draft
     }
 }
 
-// The numbers of the kinds of value. From TEXT_FORM on they have a text.
+// The numbers of the kinds of value.
 pub const CODE_FORM: u8 = 0;
 
 pub const DATE_FORM: u8 = 1;
@@ -84,6 +104,25 @@ pub const TEXT_FORM: u8 = 3;
 
 pub const CARRIED_FORM: u8 = 4;
 
+pub const MOMENT_FORM: u8 = 5;
+
+pub const DURATION_FORM: u8 = 6;
+
+pub const MARKED_FORM: u8 = 7;
+
+// Do values of the kind with this number have a text?
+pub fn has_text(form: u8) -> bool
+    ensures { λ r. ⌜ r ≡ hasText form ⌝ }
+{
+    if form == TEXT_FORM {
+        true
+    } else if form == CARRIED_FORM {
+        true
+    } else {
+        form == MARKED_FORM
+    }
+}
+
 fn form_number(form: Form) -> u8
     ensures { λ r. ⌜ r ≡ formNumber form ⌝ }
 {
@@ -93,6 +132,9 @@ fn form_number(form: Form) -> u8
         Form::StateValue => STATE_FORM,
         Form::TextValue => TEXT_FORM,
         Form::CarriedValue => CARRIED_FORM,
+        Form::MomentValue => MOMENT_FORM,
+        Form::DurationValue => DURATION_FORM,
+        Form::MarkedValue => MARKED_FORM,
     }
 }
 
@@ -103,16 +145,62 @@ pub fn form_of(class: Class) -> u8
     form_number(rules::form_of(class))
 }
 
-// A value laid flat: the number of its kind, its numbers (0 where it has fewer than four), and where its text lies (0
-// and 0 where it has none).
+// A value laid flat: the number of its kind, its numbers (0 where it has fewer than five; the mark of a marked text is
+// its first), and where its text lies (0 and 0 where it has none).
 pub struct Flat {
     pub form: u8,
     pub first: u16,
     pub second: u16,
     pub third: u16,
     pub fourth: u16,
+    pub fifth: u16,
     pub start: usize,
     pub length: usize,
+}
+
+fn numbers(form: u8, first: u8, second: u8, third: u8, fourth: u8, fifth: u8) -> Flat
+    ensures { λ r. ⌜ r ≡ flatNumbers form first second third fourth fifth ⌝ }
+{
+    Flat {
+        form,
+        first: first as u16,
+        second: second as u16,
+        third: third as u16,
+        fourth: fourth as u16,
+        fifth: fifth as u16,
+        start: 0,
+        length: 0,
+    }
+}
+
+fn state_with(state: u8, reference: u16) -> Flat
+    ensures { λ r. ⌜ r ≡ flatOf (value.State state reference) ⌝ }
+{
+    Flat {
+        form: STATE_FORM,
+        first: state as u16,
+        second: reference,
+        third: 0,
+        fourth: 0,
+        fifth: 0,
+        start: 0,
+        length: 0,
+    }
+}
+
+fn text_at(form: u8, mark: u8, start: usize, length: usize) -> Flat
+    ensures { λ r. ⌜ r ≡ flatText form mark start length ⌝ }
+{
+    Flat {
+        form,
+        first: mark as u16,
+        second: 0,
+        third: 0,
+        fourth: 0,
+        fifth: 0,
+        start,
+        length,
+    }
 }
 
 pub fn flatten(v: Value) -> Flat
@@ -124,49 +212,28 @@ pub fn flatten(v: Value) -> Flat
             day,
             hour,
             minute,
-        } => Flat {
-            form: DATE_FORM,
-            first: month as u16,
-            second: day as u16,
-            third: hour as u16,
-            fourth: minute as u16,
-            start: 0,
-            length: 0,
-        },
-        Value::Code(x) => Flat {
-            form: CODE_FORM,
-            first: x as u16,
-            second: 0,
-            third: 0,
-            fourth: 0,
-            start: 0,
-            length: 0,
-        },
-        Value::State { state, reference } => Flat {
-            form: STATE_FORM,
-            first: state as u16,
-            second: reference,
-            third: 0,
-            fourth: 0,
-            start: 0,
-            length: 0,
-        },
-        Value::Text { start, length } => text_at(TEXT_FORM, start, length),
-        Value::Carried { start, length } => text_at(CARRIED_FORM, start, length),
-    }
-}
-
-fn text_at(form: u8, start: usize, length: usize) -> Flat
-    ensures { λ r. ⌜ r ≡ flatText form start length ⌝ }
-{
-    Flat {
-        form,
-        first: 0,
-        second: 0,
-        third: 0,
-        fourth: 0,
-        start,
-        length,
+        } => numbers(DATE_FORM, month, day, hour, minute, 0),
+        Value::Code(x) => numbers(CODE_FORM, x, 0, 0, 0, 0),
+        Value::State { state, reference } => state_with(state, reference),
+        Value::Text { start, length } => text_at(TEXT_FORM, 0, start, length),
+        Value::Carried { start, length } => text_at(CARRIED_FORM, 0, start, length),
+        Value::Moment {
+            month,
+            day,
+            hour,
+            minute,
+            second,
+        } => numbers(MOMENT_FORM, month, day, hour, minute, second),
+        Value::Duration {
+            hours,
+            minutes,
+            seconds,
+        } => numbers(DURATION_FORM, hours, minutes, seconds, 0, 0),
+        Value::Marked {
+            mark,
+            start,
+            length,
+        } => text_at(MARKED_FORM, mark, start, length),
     }
 }
 
@@ -206,13 +273,23 @@ fn same_text(s: &[u8], x: Flat, t: &[u8], y: Flat) -> bool
     }
 }
 
+fn same_ends(x: Flat, y: Flat) -> bool
+    ensures { λ r. ⌜ r ≡ sameEnds x y ⌝ }
+{
+    if x.fourth == y.fourth {
+        x.fifth == y.fifth
+    } else {
+        false
+    }
+}
+
 fn same_numbers(x: Flat, y: Flat) -> bool
     ensures { λ r. ⌜ r ≡ sameNumbers x y ⌝ }
 {
     if x.first == y.first {
         if x.second == y.second {
             if x.third == y.third {
-                x.fourth == y.fourth
+                same_ends(x, y)
             } else {
                 false
             }

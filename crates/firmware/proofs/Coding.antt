@@ -120,33 +120,37 @@ known-good e y ok s l h z =
     subst (Good e y) x (record { edition = refl; way = refl; coded = h }))
     (λ _ d. absurd (unknown-not l d))
 
-set-small : (k : ℕ) → T (inSet oldCodes k) → k ≤ 14
+set-small : (k : ℕ) → T (inSet oldCodes k) → k ≤ 21
 unfolding inSet within
 set-small k t = go (either _ _ t)
   where
-    last : T (11 ≤? k and k ≤? 14) ⊎ T false → k ≤ 14
+    last : T (19 ≤? k and k ≤? 21) ⊎ T false → k ≤ 21
     last (inl u) = le-of _ _ (both _ _ u .1)
     last (inr u) = absurd u
 
-    third : T (5 ≤? k and k ≤? 5) ⊎ T (inSet ((11, 14) ∷ []) k) → k ≤ 14
-    third (inl u) = let h = le-of _ _ (both _ _ u .1) in omega arith
-    third (inr u) = last (either _ _ u)
+    fourth : T (11 ≤? k and k ≤? 11) ⊎ T (inSet ((19, 21) ∷ []) k) → k ≤ 21
+    fourth (inl u) = let h = le-of _ _ (both _ _ u .1) in omega arith
+    fourth (inr u) = last (either _ _ u)
 
-    second : T (3 ≤? k and k ≤? 3) ⊎ T (inSet ((5, 5) ∷ (11, 14) ∷ []) k) → k ≤ 14
+    third : T (5 ≤? k and k ≤? 5) ⊎ T (inSet ((11, 11) ∷ (19, 21) ∷ []) k) → k ≤ 21
+    third (inl u) = let h = le-of _ _ (both _ _ u .1) in omega arith
+    third (inr u) = fourth (either _ _ u)
+
+    second : T (3 ≤? k and k ≤? 3) ⊎ T (inSet ((5, 5) ∷ (11, 11) ∷ (19, 21) ∷ []) k) → k ≤ 21
     second (inl u) = let h = le-of _ _ (both _ _ u .1) in omega arith
     second (inr u) = third (either _ _ u)
 
-    go : T (1 ≤? k and k ≤? 1) ⊎ T (inSet ((3, 3) ∷ (5, 5) ∷ (11, 14) ∷ []) k) → k ≤ 14
+    go : T (1 ≤? k and k ≤? 1) ⊎ T (inSet ((3, 3) ∷ (5, 5) ∷ (11, 11) ∷ (19, 21) ∷ []) k) → k ≤ 21
     go (inl u) = let h = le-of _ _ (both _ _ u .1) in omega arith
     go (inr u) = second (either _ _ u)
 
-pub code-small : (e y k : ℕ) → T (codeIn e y k) → k ≤ 14
+pub code-small : (e y k : ℕ) → T (codeIn e y k) → k ≤ 21
 unfolding codeIn
 code-small e y k t =
-    picked-by (k ≤ 14) (k =? 0) _ _ (codeIn e y k) refl (λ u _. let h = eq-of _ _ u in omega arith)
-    (λ _ x. picked-by (k ≤ 14) (e =? 0) _ _ (codeIn e y k) x
+    picked-by (k ≤ 21) (k =? 0) _ _ (codeIn e y k) refl (λ u _. let h = eq-of _ _ u in omega arith)
+    (λ _ x. picked-by (k ≤ 21) (e =? 0) _ _ (codeIn e y k) x
     (λ _ z. let h = le-of _ _ (subst T (sym z) t) in omega arith)
-    (λ _ z. picked-by (k ≤ 14) (e =? 1) _ _ (codeIn e y k) z
+    (λ _ z. picked-by (k ≤ 21) (e =? 1) _ _ (codeIn e y k) z
     (λ _ u. set-small k (subst T (sym u) t)) (λ _ u. le-of _ _ (subst T (sym u) t))))
 
 state-good : (e y : ℕ) (f : Fields) (l : Listener) → stateOf e y f ≡ Known l → Good e y l

@@ -13,9 +13,9 @@ use lib.Dec.{T}
 use Rattle.rules.specs.Message.{Message, most}
 use Rattle.rules.specs.Tests.{_=?_, pick, every}
 use Rattle.rules.proofs.Tests.{le-of, both}
-use Rattle.rules.specs.Table.{Rules, rulesOf}
+use Rattle.rules.specs.Table.{Rules}
 use Rattle.draft.specs.declared.Value.{Value}
-use Rattle.draft.specs.declared.Value.the-variants.{Date, Code, State, Text, Carried}
+use Rattle.draft.specs.declared.Value.the-variants.{Date, Code, State, Text, Carried, Moment, Duration, Marked}
 use Rattle.draft.specs.declared.Entry.{Entry}
 use Rattle.draft.specs.declared.Draft.{Draft}
 use Rattle.draft.specs.Meaning.{formNumber}
@@ -26,7 +26,7 @@ use Rattle.message.specs.Parameters.{messageIn, parametersIn}
 use Rattle.message.proofs.Parameters.{parameters-few}
 use Rattle.rules.specs.Laying.{laid, laidAt}
 use Rattle.reader.proofs.Laying.{TakenEntries, filled-first, filled-more, filled-end, untaken, LaidTexts, laid-first, laid-room, laid-more, laid-end, sized-end}
-use Rattle.reader.proofs.Turns.{entry-text}
+use Rattle.reader.proofs.Turns.{entry-here, entry-text}
 use Rattle.reader.specs.Read.{textSize, takenAt}
 use Rattle.reader.specs.declared.Taken.the-variants as taken
 use Rattle.firmware.specs.DraftRecord.{textNumbers, numbersOf, entryCells, entriesCells, draftRecord, valueOf, cellIn, entryIn}
@@ -125,13 +125,19 @@ module _ (R : Rules) (o old : List ℕ) where
           )
 
       module _ (h : count < most) (e : Entry) (n place : ℕ) (t : taken.Next e n place ≡ takenAt R o at used) where
-        pub recorded-room : (at + 2 + n ≤ length o) × (used + n ≤ length texts)
+        pub recorded-room : (place - n + n ≤ length o) × (used + n ≤ length texts)
         recorded-room =
-            laid-room R o old room count at used texts (w .laid-down) h (at + 2) n place
+            laid-room R o old room count at used texts (w .laid-down) h (place - n) n place
             (entry-text R o (most - count) at (omega arith) used e n place t)
 
+        -- the text lies behind the parameter's header, before its end
+        pub recorded-inside : (n ≤ place) × (place ≤ length o)
+        recorded-inside =
+            let here = entry-here R o (most - count) at (omega arith) used e n place t in
+            (omega (arith, here .behind), here .lies)
+
         pub recorded-more : (next after : List ℕ) → next ≡ laidAt (entryCells e) (8 + 8 * count) cells →
-            after ≡ laidAt (take n (drop (at + 2) o)) used texts → Recorded (count + 1) place (used + n) next after
+            after ≡ laidAt (take n (drop (place - n) o)) used texts → Recorded (count + 1) place (used + n) next after
         recorded-more next after p q = record {
           entries = set (w .entries) count e;
           filled = filled-more R o count at used (w .entries) (w .filled) h e n place t;
@@ -139,7 +145,7 @@ module _ (R : Rules) (o old : List ℕ) where
               p ∙ ap (laidAt (entryCells e) (8 + 8 * count)) (w .cells-are)
               ∙ put-entry (w .entries) count e (omega (arith, w .filled .long));
           laid-down =
-              laid-more R o old room count at used texts (w .laid-down) h (at + 2) n place
+              laid-more R o old room count at used texts (w .laid-down) h (place - n) n place
               (entry-text R o (most - count) at (omega arith) used e n place t) after q;
         }
 
@@ -222,6 +228,11 @@ value-back texts (Text s n) l t =
 value-back texts (Carried s n) l t =
     let z = le-of _ _ t in
     ap₂ Carried (two-octets s (omega arith)) (two-octets n (omega arith))
+value-back texts (Moment m y h n s) l t = refl
+value-back texts (Duration h m s) l t = refl
+value-back texts (Marked x s n) l t =
+    let z = le-of _ _ t in
+    ap₂ (Marked x) (two-octets s (omega arith)) (two-octets n (omega arith))
 
 -- an octet of the first of some entries
 first-cells : (e : Entry) (r : List ℕ) (k : ℕ) → k < 8 → getD (entryCells e ++ r) k 0 ≡ getD (entryCells e) k 0
@@ -272,6 +283,8 @@ entry-back d i texts l t =
       b = at 3 (omega arith) j;
       c = at 4 (omega arith) j;
       d = at 5 (omega arith) j;
+      e = at 6 (omega arith) j;
+      f = at 7 (omega arith) j;
     })) ∙ value-back texts (e .value) l t in
     λ j. record { kind = at 0 (omega arith) j; value = v j }
 

@@ -49,7 +49,7 @@ no-1 : (e : ℕ) → (T (edition e) → ⊥) → T (e =? 1) → ⊥
 unfolding edition
 no-1 e n t = let h = eq-of _ _ t in n (of-le _ _ (omega arith))
 
-any-row : (e y k : ℕ) → (T (edition e) → ⊥) → (T (k =? 0) → ⊥) → codeIn e y k ≡ (k ≤? 14)
+any-row : (e y k : ℕ) → (T (edition e) → ⊥) → (T (k =? 0) → ⊥) → codeIn e y k ≡ (k ≤? 21)
 unfolding codeIn
 any-row e y k n m =
     pick-not (k =? 0) _ _ m ∙ pick-not (e =? 0) _ _ (no-0 e n) ∙ pick-not (e =? 1) _ _ (no-1 e n)
@@ -67,18 +67,18 @@ unknown-way e y k n = go (decide (k =? 0))
 -- by an unknown edition they are those of the two that there are
 pub either-code : (e y k : ℕ) → (T (edition e) → ⊥) → T (codeIn e y k) → T (codeIn 0 y k) ⊎ T (codeIn 1 y k)
 unfolding codeIn inSet within
-either-code e y k n t = go (decide (k =? 0)) (decide (k ≤? 10))
+either-code e y k n t = go (decide (k =? 0)) (decide (k ≤? 18))
   where
-    present : (T (k =? 0) → ⊥) → codeIn 0 y k ≡ (k ≤? 10)
+    present : (T (k =? 0) → ⊥) → codeIn 0 y k ≡ (k ≤? 18)
     present m = pick-not (k =? 0) _ _ m ∙ pick-yes (0 =? 0) _ _ (of-eq 0 0 refl)
 
-    old : (T (k =? 0) → ⊥) → 11 ≤ k → k ≤ 14 → T (codeIn 1 y k)
+    old : (T (k =? 0) → ⊥) → 19 ≤ k → k ≤ 21 → T (codeIn 1 y k)
     old m l h =
         subst T (sym (pick-not (k =? 0) _ _ m ∙ pick-not (1 =? 0) _ _ (λ z. omega (arith, eq-of 1 0 z))
         ∙ pick-yes (1 =? 1) _ _ (of-eq 1 1 refl)))
-        (right _ _ (right _ _ (right _ _ (left _ _ (join _ _ (of-le _ _ l) (of-le _ _ h))))))
+        (right _ _ (right _ _ (right _ _ (right _ _ (left _ _ (join _ _ (of-le _ _ l) (of-le _ _ h)))))))
 
-    go : T (k =? 0) ⊎ (T (k =? 0) → ⊥) → T (k ≤? 10) ⊎ (T (k ≤? 10) → ⊥) → T (codeIn 0 y k) ⊎ T (codeIn 1 y k)
+    go : T (k =? 0) ⊎ (T (k =? 0) → ⊥) → T (k ≤? 18) ⊎ (T (k ≤? 18) → ⊥) → T (codeIn 0 y k) ⊎ T (codeIn 1 y k)
     go (inl z) u = inl (subst T (carried e y k z ∙ sym (carried 0 y k z)) t)
     go (inr m) (inl u) = inl (subst T (sym (present m)) u)
     go (inr m) (inr u) = inr (old m (not-le _ _ u) (code-small e y k t))

@@ -1,7 +1,7 @@
 -- The codes that a record of an edition and a way may hold are exactly those of the classes of its book that some type
 -- has and that can stand: all of the lenient way, and those of the rows by the strict one.
 -- Assumes nothing.
-use Prim.Native.Nat.{ℕ, zero, suc, _≤_, _<_}
+use Prim.Native.Nat.{ℕ, zero, suc, _≤_}
 use mathlib.Core.Path.{_≡_, refl, subst}
 use mathlib.Core.Bool.{Bool, true, false}
 use mathlib.Core.Logic.{_↔_}
@@ -25,9 +25,11 @@ use Rattle.firmware.proofs.Coding.{code-small}
 -- has not, any type that has another code
 abbrev types : ℕ → List ℕ
 types zero =
-    0x05 ∷ 0x01 ∷ 0x02 ∷ 0x04 ∷ 0x07 ∷ 0x0B ∷ 0x0D ∷ 0x11 ∷ 0x13 ∷ 0x15 ∷ 0x16 ∷ 0x05 ∷ 0x05 ∷ 0x05 ∷ 0x05 ∷ []
+    0x05 ∷ 0x01 ∷ 0x02 ∷ 0x04 ∷ 0x07 ∷ 0x0B ∷ 0x0D ∷ 0x11 ∷ 0x13 ∷ 0x15 ∷ 0x16 ∷
+    0x30 ∷ 0x0F ∷ 0x20 ∷ 0x23 ∷ 0x40 ∷ 0x50 ∷ 0x55 ∷ 0xE0 ∷ 0x05 ∷ 0x05 ∷ 0x05 ∷ []
 types (suc e) =
-    0x05 ∷ 0x01 ∷ 0x05 ∷ 0x04 ∷ 0x05 ∷ 0x0B ∷ 0x05 ∷ 0x05 ∷ 0x05 ∷ 0x05 ∷ 0x05 ∷ 0x02 ∷ 0x07 ∷ 0x15 ∷ 0x16 ∷ []
+    0x05 ∷ 0x01 ∷ 0x05 ∷ 0x04 ∷ 0x05 ∷ 0x0B ∷ 0x05 ∷ 0x05 ∷ 0x05 ∷ 0x05 ∷ 0x05 ∷
+    0x07 ∷ 0x05 ∷ 0x05 ∷ 0x05 ∷ 0x05 ∷ 0x05 ∷ 0x05 ∷ 0x05 ∷ 0x02 ∷ 0x15 ∷ 0x16 ∷ []
 
 abbrev one : Bool → ℕ
 one b = pick b 1 0
@@ -40,7 +42,7 @@ has-type e y k =
     one (classCode (classOf (R e y) (getD (types e) k 0)) =? k
     and classFault (classOf (R e y) (getD (types e) k 0)) =? 3)
 
-agree : (e y : ℕ) → T (known e y) → tabled (has e y) 0 15 ≡ tabled (has-type e y) 0 15
+agree : (e y : ℕ) → T (known e y) → tabled (has e y) 0 22 ≡ tabled (has-type e y) 0 22
 unfolding tabled classOf rowOf rowIn rulesOf bookOf classFault someLength whole classCode codeIn inSet within _≤?_ _=?_
     _and_ _or_ pick
 agree zero zero k = refl
@@ -62,7 +64,7 @@ pub codes-of : (e y k : ℕ) → T (known e y) →
     T (codeIn e y k) ↔ ((t : ℕ) × (classFault (classOf (R e y) t) ≡ 3) × (classCode (classOf (R e y) t) ≡ k))
 codes-of e y k v = (
   λ t.
-      let u = one-of _ _ (same-table (has e y) (has-type e y) 15 k (agree e y v)
+      let u = one-of _ _ (same-table (has e y) (has-type e y) 22 k (agree e y v)
       (let h = code-small e y k t in omega arith)) t in
       (getD (types e) k 0, eq-of _ _ (both _ _ u .1), eq-of _ _ (both _ _ u .0)),
   λ x. subst (λ (j : ℕ). T (codeIn e y j)) (x .2) (table-code e y v (x .0) (x .1)),

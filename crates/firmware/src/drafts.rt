@@ -11,6 +11,7 @@ ghost use lib.ListN.{length, replicate};
 ghost use Rattle.rules.specs.Table.{rulesOf};
 ghost use Rattle.rules.specs.Laying.{laid};
 ghost use Rattle.draft.specs.Packing.{draftOf, textsOf};
+ghost use Rattle.draft.specs.declared.Value.the-variants as value;
 ghost use Rattle.message.specs.Parameters.{parametersIn, messageIn};
 ghost use Rattle.reader.specs.Read.{textSize};
 ghost use Rattle.firmware.specs.DraftRecord as record-of;
@@ -23,6 +24,8 @@ struct Numbers {
     b: u8,
     c: u8,
     d: u8,
+    e: u8,
+    f: u8,
 }
 
 fn numbers_text(form: u8, start: usize, length: usize) -> Numbers
@@ -34,6 +37,36 @@ fn numbers_text(form: u8, start: usize, length: usize) -> Numbers
         b: (start / 256 % 256) as u8,
         c: (length % 256) as u8,
         d: (length / 256 % 256) as u8,
+        e: 0,
+        f: 0,
+    }
+}
+
+fn numbers_marked(mark: u8, start: usize, length: usize) -> Numbers
+    ensures { λ r. ⌜ r ≡ record-of.numbersOf (value.Marked mark start length) ⌝ }
+{
+    Numbers {
+        form: draft::MARKED_FORM,
+        a: mark,
+        b: 0,
+        c: (start % 256) as u8,
+        d: (start / 256 % 256) as u8,
+        e: (length % 256) as u8,
+        f: (length / 256 % 256) as u8,
+    }
+}
+
+fn numbers_plain(form: u8, a: u8, b: u8, c: u8, d: u8, e: u8) -> Numbers
+    ensures { λ r. ⌜ r ≡ record-of.plainNumbers form a b c d e ⌝ }
+{
+    Numbers {
+        form,
+        a,
+        b,
+        c,
+        d,
+        e,
+        f: 0,
     }
 }
 
@@ -46,29 +79,32 @@ fn numbers_of(v: Value) -> Numbers
             day,
             hour,
             minute,
-        } => Numbers {
-            form: draft::DATE_FORM,
-            a: month,
-            b: day,
-            c: hour,
-            d: minute,
-        },
-        Value::Code(x) => Numbers {
-            form: draft::CODE_FORM,
-            a: x,
-            b: 0,
-            c: 0,
-            d: 0,
-        },
-        Value::State { state, reference } => Numbers {
-            form: draft::STATE_FORM,
-            a: state,
-            b: 0,
-            c: (reference % 256) as u8,
-            d: (reference / 256) as u8,
-        },
+        } => numbers_plain(draft::DATE_FORM, month, day, hour, minute, 0),
+        Value::Code(x) => numbers_plain(draft::CODE_FORM, x, 0, 0, 0, 0),
+        Value::State { state, reference } => {
+            let low = (reference % 256) as u8;
+            let high = (reference / 256) as u8;
+            numbers_plain(draft::STATE_FORM, state, 0, low, high, 0)
+        }
         Value::Text { start, length } => numbers_text(draft::TEXT_FORM, start, length),
         Value::Carried { start, length } => numbers_text(draft::CARRIED_FORM, start, length),
+        Value::Moment {
+            month,
+            day,
+            hour,
+            minute,
+            second,
+        } => numbers_plain(draft::MOMENT_FORM, month, day, hour, minute, second),
+        Value::Duration {
+            hours,
+            minutes,
+            seconds,
+        } => numbers_plain(draft::DURATION_FORM, hours, minutes, seconds, 0, 0),
+        Value::Marked {
+            mark,
+            start,
+            length,
+        } => numbers_marked(mark, start, length),
     }
 }
 
@@ -85,8 +121,8 @@ fn lay_entry(cells: &mut [u8], e: Entry)
     cells[3] = f.b;
     cells[4] = f.c;
     cells[5] = f.d;
-    cells[6] = 0;
-    cells[7] = 0;
+    cells[6] = f.e;
+    cells[7] = f.f;
 }
 
 fn clear(cells: &mut [u8])
@@ -121,7 +157,7 @@ fn lay_entries(book: Book, octets: &[u8], cells: &mut [u8], texts: &mut [u8]) ->
         match taken {
             Taken::Next { entry, text, place } => {
                 lay_entry(&mut cells[8 + 8 * count..], entry);
-                let start = at + 2;
+                let start = place - text;
                 let end = start + text;
                 bytes::copy(&octets[start..end], &mut texts[used..]);
                 used += text;

@@ -17,19 +17,25 @@ use Rattle.listing.specs.Put.{part}
 use Rattle.listing.specs.Listing.{rowAt, rowCount}
 
 unfoldable pub kinds : List ℕ
-kinds = 0x01 ∷ 0x02 ∷ 0x03 ∷ 0x04 ∷ 0x07 ∷ 0x08 ∷ 0x0B ∷ 0x0D ∷ 0x0E ∷ 0x11 ∷ 0x12 ∷ 0x13 ∷ 0x15 ∷ 0x16 ∷ []
+kinds =
+    0x01 ∷ 0x02 ∷ 0x03 ∷ 0x04 ∷ 0x07 ∷ 0x08 ∷ 0x0B ∷ 0x0D ∷ 0x0E ∷ 0x0F ∷ 0x10 ∷ 0x11 ∷ 0x12 ∷ 0x13 ∷
+    0x15 ∷ 0x16 ∷ 0x1A ∷ 0x20 ∷ 0x21 ∷ 0x22 ∷ 0x23 ∷ 0x30 ∷ 0x31 ∷ 0x40 ∷ 0x50 ∷ 0x55 ∷ 0xE0 ∷
+    []
 
 unfoldable pub starts : List ℕ
-starts = 0 ∷ 5 ∷ 12 ∷ 19 ∷ 33 ∷ 38 ∷ 50 ∷ 55 ∷ 63 ∷ 73 ∷ 83 ∷ 96 ∷ 104 ∷ 114 ∷ 119 ∷ []
+starts =
+    0 ∷ 5 ∷ 12 ∷ 19 ∷ 33 ∷ 38 ∷ 50 ∷ 55 ∷ 63 ∷ 73 ∷ 83 ∷ 98 ∷ 108 ∷ 121 ∷
+    129 ∷ 139 ∷ 144 ∷ 156 ∷ 163 ∷ 181 ∷ 194 ∷ 203 ∷ 212 ∷ 220 ∷ 229 ∷ 237 ∷ 245 ∷ 255 ∷
+    []
 
 unfoldable pub keys : List ℕ
 keys =
-    ascii "time=caller=called=caller-absent=name=name-absent=lamp=message=depositor=call-type=first-called=waiting=forwarded=user="
+    ascii "time=caller=called=caller-absent=name=name-absent=lamp=message=depositor=left-time=network-caller=call-type=first-called=waiting=forwarded=user=redirecting=charge=additional-charge=extra-charge=duration=provider=carrier=terminal=display=service=extension="
 
 abbrev test : ℕ → Bool
 test i =
     (getD kinds i 0 =? rowAt i .kind) and (getD starts i 0 ≤? getD starts (i + 1) 0) and (getD starts (i + 1) 0 ≤?
-    119) and sameOctets (part keys (getD starts i 0) (getD starts (i + 1) 0)) (rowAt i .key ++ ascii "=")
+    255) and sameOctets (part keys (getD starts i 0) (getD starts (i + 1) 0)) (rowAt i .key ++ ascii "=")
 
 tested : T (below test rowCount)
 unfolding below pairwise rowAt rulesOf ascii kinds starts keys _=?_ _≤?_ _and_
@@ -38,7 +44,7 @@ tested = tt
 pub record Key (i : ℕ) : Type 0 where
   pub kind : getD kinds i 0 ≡ rowAt i .kind
   pub order : getD starts i 0 ≤ getD starts (i + 1) 0
-  pub ends : getD starts (i + 1) 0 ≤ 119
+  pub ends : getD starts (i + 1) 0 ≤ 255
   pub key : part keys (getD starts i 0) (getD starts (i + 1) 0) ≡ rowAt i .key ++ ascii "="
 
 pub key-at : (i : ℕ) → i < rowCount → Key i

@@ -8,6 +8,7 @@ pub mod Promised
 pub mod One
 pub mod Tabled
 pub mod Lines
+pub mod Characters
 pub mod Values
 pub mod Longest
 pub mod First

@@ -1,28 +1,33 @@
--- No listing is longer than its buffer of 292 octets: each value has its widest text, and of a pair only one counts.
+-- No listing is longer than its buffer of 553 octets. The line of a type that counts is its key, `=`, the value and a
+-- line end; the value is longer than the contents by the surplus of its style at most (Values), and `=` and the line
+-- end are as many octets as type and length took in the message. No parameter counts for two rows, and all parameters
+-- have 255 octets: so the lines of the rows have 255 at most, and their keys (228) and surpluses (47). `kind=notice`
+-- has 12 and `carried=` with two digits 11.
 -- Assumes nothing.
 use Prim.Native.Nat.{ℕ, suc, _+_, _-_, _≤_, _<_}
 use mathlib.Core.Path.{_≡_, refl, sym, _∙_, ap}
+use mathlib.Core.Bool.{Bool, true}
+use mathlib.Core.Logic.{_⊎_, inl, inr}
 use mathlib.Core.List.{List, [], _∷_, _++_}
 use mathlib.Core.Option.{Option, none, some}
 use native.Mathlib.Omega.{arith}
 use lib.ListN.{length, length-append, replicate}
 use lib.Dec.{T}
-use Rattle.rules.specs.Tests.{_=?_, pick}
-use Rattle.rules.proofs.Tests.{pick-case}
-use Rattle.rules.specs.Table.{Row, rulesOf, rowOf, rowIn, listed, classOf, rivalOf, ascii, contentsFit}
+use Rattle.rules.specs.Tests.{_≤?_, _=?_, _and_, pick}
+use Rattle.rules.proofs.Tests.{pick-yes, pick-case, both, le-of, eq-of, decide}
+use Rattle.rules.specs.Table.{Rules, Row, rulesOf, rowOf, rowIn, listed, classOf, rivalOf, styleOf, ascii, contentsFit}
 use Rattle.rules.specs.declared.Book.the-variants.{PresentLenient}
 use Rattle.rules.proofs.ContentLaw.{sound-rules}
-use Rattle.rules.specs.Message as message
-use Rattle.rules.specs.Message.{Message, LegalMessage}
-use Rattle.rules.specs.Counting.{counted, carriedIn}
-use Rattle.rules.proofs.Counting.{counted-iff, legal-counts, one-of-pair}
+use Rattle.rules.specs.Message.{Parameter, Message, LegalMessage, body}
+use Rattle.rules.specs.Counting.{firstOf, counted, carriedIn}
+use Rattle.rules.proofs.Counting.{counted-iff, legal-counts}
 use Rattle.rules.specs.declared.Fault.{Fault}
 use Rattle.rules.proofs.Sizes.{few}
 use Rattle.listing.specs.declared.ListingText.{ListingText}
 use Rattle.listing.specs.Numerals.{decimal}
 use Rattle.listing.proofs.Numerals.{two-digits, three-digits}
-use Rattle.listing.proofs.Values.{widest, value}
-use Rattle.listing.specs.Listing.{Line, lineText, written, lineOf, linesFor, rowLines, rowAt, kindLine, carriedLine, messageLines, refusalLines, bufferOf, written-one, written-append, bufferSize}
+use Rattle.listing.proofs.Values.{surplus, value}
+use Rattle.listing.specs.Listing.{Line, lineText, written, lineOf, linesFor, rowLines, kindLine, carriedLine, messageLines, refusalLines, bufferOf, written-one, written-append, bufferSize}
 
 -- ---- lines
 line-long : (l : Line) → length (lineText l) ≡ length (l .key) + length (l .value) + 2
@@ -48,126 +53,170 @@ kind-wide x =
     pick-case (λ (v : List ℕ). length v ≤ 6) (x =? 0x80) (ascii "call") (ascii "notice") (λ _. omega arith)
     (λ _. omega arith)
 
-module _ (m : Message) (legal : LegalMessage (rulesOf PresentLenient) m) where
+-- ---- the octets of a message that count
+-- type, length and contents of a parameter
+unfoldable takes : Option (List ℕ) → ℕ
+takes none = 0
+takes (some v) = length v + 2
+
+-- types in their order, from n on
+unfoldable rising : ℕ → List Row → Bool
+rising n [] = true
+rising n (r ∷ rs) = n ≤? r .kind and rising (suc (r .kind)) rs
+
+module _ (R : Rules) where
+  -- of each row the first parameter, if no rival stands before it
+  unfoldable firsts : List Parameter → List Row → ℕ
+  firsts ps [] = 0
+  firsts ps (r ∷ rs) = takes (firstOf (r .kind) (rivalOf R (r .kind)) ps) + firsts ps rs
+
+  nothing-first : (rs : List Row) → firsts [] rs ≡ 0
+  unfolding firsts firstOf takes
+  nothing-first [] = refl
+  nothing-first (r ∷ rs) = omega (arith, nothing-first rs)
+
+  module _ (p : Parameter) (ps : List Parameter) where
+    -- a parameter of a row's type is the first
+    first-is : (t u : ℕ) → T (p .kind =? t) → firstOf t u (p ∷ ps) ≡ some (p .contents)
+    unfolding firstOf
+    first-is t u e = pick-yes _ _ _ e
+
+    -- one of another type adds nothing to a row
+    other : (t u : ℕ) → (T (p .kind =? t) → ⊥) → takes (firstOf t u (p ∷ ps)) ≤ takes (firstOf t u ps)
+    unfolding firstOf takes
+    other t u n =
+        pick-case Less (p .kind =? t) _ _ (λ e. absurd (n e))
+        (λ _. pick-case Less (p .kind =? u) none (firstOf t u ps) (λ _. omega arith) (λ _. omega arith))
+      where
+        Less : Option (List ℕ) → Type 0
+        Less x = takes x ≤ takes (firstOf t u ps)
+
+    -- nor to rows that are all later
+    others : (n : ℕ) (rs : List Row) → T (rising n rs) → p .kind < n → firsts (p ∷ ps) rs ≤ firsts ps rs
+    unfolding firsts rising
+    others n [] t h = omega arith
+    others n (r ∷ rs) t h =
+        let d = both _ _ t in
+        let l = le-of _ _ (d .0) in
+        omega (
+          arith,
+          other (r .kind) (rivalOf R (r .kind)) (λ e. omega (arith, eq-of _ _ e)),
+          others (suc (r .kind)) rs (d .1) (omega arith),
+        )
+
+    -- so it adds its own octets at most
+    one-more : (n : ℕ) (rs : List Row) → T (rising n rs) →
+        firsts (p ∷ ps) rs ≤ length (p .contents) + 2 + firsts ps rs
+    unfolding firsts rising takes
+    one-more n [] t = omega arith
+    one-more n (r ∷ rs) t =
+        go (both _ _ t .1) (decide (p .kind =? r .kind)) (one-more (suc (r .kind)) rs (both _ _ t .1))
+      where
+        its : T (p .kind =? r .kind) →
+            takes (firstOf (r .kind) (rivalOf R (r .kind)) (p ∷ ps)) ≡ length (p .contents) + 2
+        its e = ap takes (first-is (r .kind) (rivalOf R (r .kind)) e)
+
+        go : T (rising (suc (r .kind)) rs) → T (p .kind =? r .kind) ⊎ (T (p .kind =? r .kind) → ⊥) →
+            firsts (p ∷ ps) rs ≤ length (p .contents) + 2 + firsts ps rs →
+            takes (firstOf (r .kind) (rivalOf R (r .kind)) (p ∷ ps)) + firsts (p ∷ ps) rs ≤ length (p .contents) + 2
+            + (takes (firstOf (r .kind) (rivalOf R (r .kind)) ps) + firsts ps rs)
+        go l (inl e) i = omega (arith, its e, others (suc (r .kind)) rs l (omega (arith, eq-of _ _ e)))
+        go l (inr n) i = omega (arith, other (r .kind) (rivalOf R (r .kind)) n)
+
+  firsts-inside : (rs : List Row) → T (rising 0 rs) → (ps : List Parameter) → firsts ps rs ≤ length (body ps)
+  unfolding body
+  firsts-inside rs t [] = omega (arith, nothing-first rs)
+  firsts-inside rs t (p ∷ ps) =
+      omega (arith, one-more p ps 0 rs t, firsts-inside rs t ps, length-append (p .contents) (body ps))
+
+-- ---- the table's sums
+module _ (R : Rules) where
+  -- the octets of all keys
+  unfoldable keyOctets : List Row → ℕ
+  keyOctets [] = 0
+  keyOctets (r ∷ rs) = length (r .key) + keyOctets rs
+
+  -- the surpluses of all rows
+  unfoldable surpluses : List Row → ℕ
+  surpluses [] = 0
+  surpluses (r ∷ rs) = surplus (styleOf (classOf R (r .kind))) + surpluses rs
+
+abbrev R : Rules
+R = rulesOf PresentLenient
+
+record Sums : Type 0 where
+  keys : keyOctets R (R .rows) ≡ 228
+  values : surpluses R (R .rows) ≡ 47
+  order : T (rising 0 (R .rows))
+
+sums : Sums
+unfolding keyOctets surpluses surplus rising rulesOf styleOf rowOf rowIn classOf ascii pick _=?_ _≤?_ _and_
+sums = record { keys = refl; values = refl; order = tt }
+
+-- ---- the lines of a legal message
+module _ (m : Message) (legal : LegalMessage R m) where
   -- contents that count are legal
-  pub counted-fits : (t : ℕ) (v : List ℕ) → counted (rulesOf PresentLenient) m t ≡ some v →
-      T (contentsFit (classOf (rulesOf PresentLenient) t) v)
-  counted-fits t v e =
-      legal-counts (rulesOf PresentLenient) m legal t v (counted-iff (rulesOf PresentLenient) m t v .0 e)
+  pub counted-fits : (t : ℕ) (v : List ℕ) → counted R m t ≡ some v → T (contentsFit (classOf R t) v)
+  counted-fits t v e = legal-counts R m legal t v (counted-iff R m t v .0 e)
 
-  -- how long the lines of a row are
-  unfoldable size : Row → ℕ
-  size r = length (written (linesFor (rulesOf PresentLenient) r (counted (rulesOf PresentLenient) m (r .kind))))
+  counted-first : (t : ℕ) → takes (counted R m t) ≤ takes (firstOf t (rivalOf R t) (m .parameters))
+  unfolding counted takes
+  counted-first t =
+      pick-case (λ (x : Option (List ℕ)). takes x ≤ takes (firstOf t (rivalOf R t) (m .parameters))) (listed R t) _ _
+      (λ _. omega arith) (λ _. omega arith)
 
-  no-size : (r : Row) → counted (rulesOf PresentLenient) m (r .kind) ≡ none →
-      length (written (linesFor (rulesOf PresentLenient) r (counted (rulesOf PresentLenient) m (r .kind)))) ≡ 0
-  unfolding linesFor written
-  no-size r e = ap (λ (x : Option (List ℕ)). length (written (linesFor (rulesOf PresentLenient) r x))) e
-
-  row-wide : (r : Row) →
-      length (written (linesFor (rulesOf PresentLenient) r (counted (rulesOf PresentLenient) m (r .kind)))) ≤ length
-      (r .key) + widest (classOf (rulesOf PresentLenient) (r .kind)) + 2
-  unfolding linesFor written lineOf
-  row-wide r = go (counted (rulesOf PresentLenient) m (r .kind)) refl
+  row-long : (r : Row) → length (written (linesFor R r (counted R m (r .kind)))) ≤ length (r .key) + surplus
+      (styleOf (classOf R (r .kind))) + takes (counted R m (r .kind))
+  unfolding linesFor written lineOf takes
+  row-long r = go (counted R m (r .kind)) refl
     where
-      go : (x : Option (List ℕ)) → x ≡ counted (rulesOf PresentLenient) m (r .kind) →
-          length (written (linesFor (rulesOf PresentLenient) r x)) ≤ length (r .key) + widest
-          (classOf (rulesOf PresentLenient) (r .kind)) + 2
+      go : (x : Option (List ℕ)) → x ≡ counted R m (r .kind) → length (written (linesFor R r x)) ≤ length
+          (r .key) + surplus (styleOf (classOf R (r .kind))) + takes x
       go none e = omega arith
       go (some v) e =
           omega (
             arith,
-            one-line (lineOf (rulesOf PresentLenient) r v),
-            value
-                (classOf (rulesOf PresentLenient) (r .kind)) .wide v (counted-fits (r .kind) v (sym e)),
+            one-line (lineOf R r v),
+            value (classOf R (r .kind)) .wide v (counted-fits (r .kind) v (sym e)),
           )
 
-  -- of two rows that shut each other out one has no line
-  pair-wide : (r u : Row) (w : ℕ) → rivalOf (rulesOf PresentLenient) (r .kind) ≡ u .kind →
-      rivalOf (rulesOf PresentLenient) (u .kind) ≡ r .kind → (r .kind ≡ u .kind → ⊥) → size r ≤ w → size u ≤ w →
-      size r + size u ≤ w
-  unfolding size
-  pair-wide r u w a b d p q = go (counted (rulesOf PresentLenient) m (r .kind)) refl
-    where
-      go : (x : Option (List ℕ)) → counted (rulesOf PresentLenient) m (r .kind) ≡ x →
-          length (written
-          (linesFor (rulesOf PresentLenient) r (counted (rulesOf PresentLenient) m (r .kind)))) + length
-          (written (linesFor (rulesOf PresentLenient) u (counted (rulesOf PresentLenient) m (u .kind)))) ≤ w
-      go none e = omega (arith, no-size r e)
-      go (some v) e =
-          let n = one-of-pair (rulesOf PresentLenient) m (r .kind) v (λ z. d (z ∙ a))
-          (ap (rivalOf (rulesOf PresentLenient)) a ∙ b) e in
-          omega (arith, no-size u (ap (counted (rulesOf PresentLenient) m) (sym a) ∙ n))
-
-  -- the lines of all rows
-  unfoldable sizes : List Row → ℕ
-  sizes [] = 0
-  sizes (r ∷ rs) = size r + sizes rs
-
-  sizes-are : (rs : List Row) → length (written (rowLines (rulesOf PresentLenient) m rs)) ≡ sizes rs
-  unfolding rowLines written sizes size
-  sizes-are [] = refl
-  sizes-are (r ∷ rs) =
-      append-long (linesFor (rulesOf PresentLenient) r (counted (rulesOf PresentLenient) m (r .kind)))
-      (rowLines (rulesOf PresentLenient) m rs) ∙ omega (arith, sizes-are rs)
-
-  width : (r : Row) (w : ℕ) → length (r .key) + widest (classOf (rulesOf PresentLenient) (r .kind)) + 2 ≡ w → size r ≤ w
-  unfolding size
-  width r w e = omega (arith, row-wide r)
-
-  pub rows-wide : length (written (rowLines (rulesOf PresentLenient) m ((rulesOf PresentLenient) .rows))) ≤ 269
-  unfolding rulesOf rowOf rowIn classOf rivalOf widest ascii pick _=?_ rowAt sizes
-  rows-wide =
+  rows-long : (rs : List Row) →
+      length (written (rowLines R m rs)) ≤ keyOctets R rs + surpluses R rs + firsts R (m .parameters) rs
+  unfolding rowLines written keyOctets surpluses firsts
+  rows-long [] = omega arith
+  rows-long (r ∷ rs) =
       omega (
         arith,
-        sizes-are ((rulesOf PresentLenient) .rows),
-        width (rowAt 0) 17 refl,
-        pair-wide (rowAt 1) (rowAt 3) 28
-            refl refl (λ z. omega arith) (width (rowAt 1) 28 refl) (omega (arith, width (rowAt 3) 16 refl)),
-        width
-            (rowAt 2) 28 refl,
-        pair-wide (rowAt 4) (rowAt 5) 56 refl refl (λ z. omega arith) (width (rowAt 4) 56 refl)
-            (omega (arith, width (rowAt 5) 14 refl)),
-        width (rowAt 6) 9 refl,
-        width (rowAt 7) 20 refl,
-        width (rowAt 8) 31
-            refl,
-        width (rowAt 9) 13 refl,
-        width (rowAt 10) 34 refl,
-        width (rowAt 11) 12 refl,
-        width (rowAt 12) 13 refl,
-        width (rowAt 13) 8 refl,
+        append-long (linesFor R r (counted R m (r .kind))) (rowLines R m rs),
+        row-long r,
+        counted-first (r .kind),
+        rows-long rs,
       )
 
-  carried-few : (ps : List message.Parameter) → carriedIn (rulesOf PresentLenient) ps ≤ length ps
+  carried-few : (ps : List Parameter) → carriedIn R ps ≤ length ps
   unfolding carriedIn
   carried-few [] = omega arith
   carried-few (p ∷ ps) =
-      pick-case (λ (n : ℕ). n ≤ suc (length ps)) (listed (rulesOf PresentLenient) (p .kind)) _ _
-      (λ _. omega (arith, carried-few ps)) (λ _. omega (arith, carried-few ps))
+      pick-case (λ (n : ℕ). n ≤ suc (length ps)) (listed R (p .kind)) _ _ (λ _. omega (arith, carried-few ps))
+      (λ _. omega (arith, carried-few ps))
 
-  pub longest : length (written (messageLines (rulesOf PresentLenient) m)) ≤ bufferSize
+  pub longest : length (written (messageLines R m)) ≤ bufferSize
   unfolding messageLines written kindLine carriedLine ascii
   longest =
-      let n = carriedIn (rulesOf PresentLenient) (m .parameters) in
+      let n = carriedIn R (m .parameters) in
       omega (
         arith,
-        rows-wide,
-        length-append (lineText (kindLine (m .kind)))
-            (written (rowLines (rulesOf PresentLenient) m ((rulesOf PresentLenient) .rows) ++ carriedLine n ∷ [])),
+        sums .keys,
+        sums .values,
+        rows-long (R .rows),
+        firsts-inside R (R .rows) (sums .order) (m .parameters),
+        legal .short,
+        length-append (lineText (kindLine (m .kind))) (written (rowLines R m (R .rows) ++ carriedLine n ∷ [])),
         line-long (kindLine (m .kind)),
         kind-wide (m .kind),
-        append-long
-            (rowLines (rulesOf PresentLenient) m ((rulesOf PresentLenient) .rows)) (carriedLine n ∷ []),
-        one-line
-            (carriedLine n),
-        two-digits n
-            (omega (
-              arith,
-              carried-few (m .parameters),
-              few (rulesOf PresentLenient)
-                  (sound-rules PresentLenient) m legal,
-            )),
+        append-long (rowLines R m (R .rows)) (carriedLine n ∷ []),
+        one-line (carriedLine n),
+        two-digits n (omega (arith, carried-few (m .parameters), few R (sound-rules PresentLenient) m legal)),
       )
 
 -- nor is that of a refusal

@@ -1,20 +1,21 @@
 -- What each function that puts octets owes its callers: words from their tests, texts from copies and single stores.
 -- Assumes nothing.
-use Prim.Native.Nat.{ℕ, _+_, _-_}
+use Prim.Native.Nat.{ℕ, _+_, _-_, _≤_}
 use mathlib.Core.Path.{_≡_, refl, sym, _∙_, ap}
-use mathlib.Core.List.{List, [], _∷_, _++_}
+use mathlib.Core.List.{List, [], _∷_, _++_, append-nil}
 use native.Mathlib.Numerals.{add-one}
 use native.Mathlib.Omega.{arith}
-use lib.ListN.{length, take, drop, set}
-use lib.Seq.{set-split}
+use lib.ListN.{length, getD, take, drop, set, length-drop, drop-of-length-le}
+use lib.Seq.{set-split, take-all}
 use borrow.Rule.Slice.PartMut.{putMid}
-use Rattle.rules.specs.Tests.{_=?_}
+use Rattle.rules.specs.Tests.{_=?_, pick}
 use Rattle.rules.proofs.Tests.{pick-yes, pick-not, of-eq, eq-of}
 use Rattle.rules.specs.Table.{ascii}
 use Rattle.rules.specs.Laying.{laidAt}
 use Rattle.rules.proofs.Laying.{laid-front, laid-behind, laid-length, rest-copied}
 use Rattle.listing.specs.Put.{Room, Put}
-use Rattle.listing.specs.Listing.{lampWord, stateWord, kindLine, lineText}
+use Rattle.listing.specs.Numerals.{hex}
+use Rattle.listing.specs.Listing.{seconds, lampWord, stateWord, currency, selectorWord, selected, clock, moment, kindLine, lineText}
 
 -- the text laid over the area from its place on
 put-whole : (v : List ℕ) (at : ℕ) (old new : List ℕ) → Room v at old → new ≡ laidAt v at old →
@@ -72,3 +73,52 @@ is-call x e = ap kindText (sym (pick-yes (x =? 0x80) (ascii "call") (ascii "noti
 pub is-notice : (x : ℕ) → (x ≡ 0x80 → ⊥) → ascii "kind=notice\n" ≡ lineText (kindLine x)
 unfolding lineText kindLine ascii
 is-notice x e = ap kindText (sym (pick-not (x =? 0x80) (ascii "call") (ascii "notice") (λ t. e (eq-of x 0x80 t))))
+
+pub is-connection : (x : ℕ) → x ≡ 1 → ascii "connection " ≡ selectorWord x
+unfolding selectorWord
+is-connection x e = sym (pick-yes (x =? 1) (ascii "connection ") _ (of-eq x 1 e))
+
+module _ (x : ℕ) (n : x ≡ 1 → ⊥) where
+  later-word : pick (x =? 2) (ascii "number ") (ascii "subaddress ") ≡ selectorWord x
+  unfolding selectorWord
+  later-word = sym (pick-not (x =? 1) (ascii "connection ") _ (λ t. n (eq-of x 1 t)))
+
+  pub is-number : x ≡ 2 → ascii "number " ≡ selectorWord x
+  is-number e = sym (pick-yes (x =? 2) (ascii "number ") (ascii "subaddress ") (of-eq x 2 e)) ∙ later-word
+
+  pub is-subaddress : (x ≡ 2 → ⊥) → ascii "subaddress " ≡ selectorWord x
+  is-subaddress e =
+      sym (pick-not (x =? 2) (ascii "number ") (ascii "subaddress ") (λ t. e (eq-of x 2 t))) ∙ later-word
+
+-- ---- parts of contents
+module _ (v : List ℕ) where
+  pub rest-is : (k : ℕ) → take (length v - k) (drop k v) ≡ drop k v
+  rest-is k = take-all (length v - k) (drop k v) (omega (arith, length-drop k v))
+
+  pub rest-empty : (k : ℕ) → length v ≤ k → [] ≡ drop k v
+  rest-empty k h = sym (drop-of-length-le v {i = k} h)
+
+  pub with-seconds : length v ≡ 10 → clock v ++ seconds v 8 ≡ moment v
+  unfolding moment
+  with-seconds e =
+      ap (λ (w : List ℕ). clock v ++ w) (sym (pick-yes (length v =? 10) (seconds v 8) [] (of-eq (length v) 10 e)))
+
+  pub no-seconds : (length v ≡ 10 → ⊥) → clock v ≡ moment v
+  unfolding moment
+  no-seconds n =
+      sym (append-nil (clock v))
+      ∙ ap (λ (w : List ℕ). clock v ++ w)
+      (sym (pick-not (length v =? 10) (seconds v 8) [] (λ t. n (eq-of (length v) 10 t))))
+
+  pub currency-is : (a b c : ℕ) → a ≡ getD v 0 0 → b ≡ getD v 1 0 → c ≡ getD v 2 0 →
+      (a ∷ b ∷ c ∷ 0x20 ∷ []) ≡ currency v
+  unfolding currency
+  currency-is a b c d e f i = d i ∷ e i ∷ f i ∷ 0x20 ∷ []
+
+  pub is-code : getD v 0 0 ≡ 1 → hex (getD v 1 0) ≡ selected v
+  unfolding selected
+  is-code e = sym (pick-yes (getD v 0 0 =? 1) (hex (getD v 1 0)) (drop 1 v) (of-eq (getD v 0 0) 1 e))
+
+  pub is-digits : (getD v 0 0 ≡ 1 → ⊥) → drop 1 v ≡ selected v
+  unfolding selected
+  is-digits n = sym (pick-not (getD v 0 0 =? 1) (hex (getD v 1 0)) (drop 1 v) (λ t. n (eq-of (getD v 0 0) 1 t)))

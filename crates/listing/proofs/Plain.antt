@@ -13,7 +13,8 @@ use Rattle.rules.specs.declared.Book.the-variants.{PresentLenient}
 use Rattle.rules.specs.Message.{Message, LegalMessage}
 use Rattle.rules.specs.Counting.{counted, carriedIn}
 use Rattle.listing.specs.Numerals.{decimal}
-use Rattle.listing.proofs.Values.{plain, plain-append, plain-decimal, value}
+use Rattle.listing.proofs.Characters.{plain, plain-append, plain-decimal}
+use Rattle.listing.proofs.Values.{value}
 use Rattle.listing.proofs.Longest.{counted-fits}
 use Rattle.listing.specs.Listing.{printed, Line, lineText, written, lineOf, linesFor, rowLines, kindLine, carriedLine, messageLines}
 

@@ -4,9 +4,9 @@ use Prim.Native.Nat.{ℕ, _+_, _-_}
 use mathlib.Core.Path.{_≡_, refl, sym, _∙_, ap}
 use mathlib.Core.List.{List, [], _∷_, _++_, append-assoc, append-nil}
 use mathlib.Core.Option.{Option, none, some}
-use lib.ListN.{length, getD, replicate}
+use lib.ListN.{length, getD, drop, replicate}
 use Rattle.rules.specs.Tests.{_=?_, pick}
-use Rattle.rules.specs.Table.{Rules, Row, Style, clock as clockStyle, verbatim, switch, reference as referenceStyle, decimal as decimalStyle, hex as hexStyle, numbered, styleOf, classOf, ascii, rulesOf}
+use Rattle.rules.specs.Table.{Rules, Row, Style, clock as clockStyle, verbatim, switch, reference as referenceStyle, decimal as decimalStyle, hex as hexStyle, numbered, moment as momentStyle, duration as durationStyle, charge as chargeStyle, terminal as terminalStyle, display as displayStyle, styleOf, classOf, ascii, rulesOf}
 use Rattle.rules.specs.declared.Book.the-variants.{PresentLenient}
 use Rattle.rules.specs.Message.{Message}
 use Rattle.rules.specs.Counting.{counted, carriedIn}
@@ -21,15 +21,19 @@ use Rattle.listing.specs.declared.ListingText.{ListingText}
 use Rattle.listing.specs.Numerals.{decimal, hex}
 use Rattle.rules.specs.Octets.{referenceOf}
 
--- ---- values
+-- ---- pieces of values
 
 -- two numbers of two digits, from the octet i on, with a mark between them
 unfoldable pub half : List ℕ → ℕ → ℕ → List ℕ
 half v i mark = getD v i 0 ∷ getD v (i + 1) 0 ∷ mark ∷ getD v (i + 2) 0 ∷ getD v (i + 3) 0 ∷ []
 
--- MM-DD HH:MM
-unfoldable pub clock : List ℕ → List ℕ
-clock v = half v 0 0x2D ++ ascii " " ++ half v 4 0x3A
+-- a colon and a number of two digits, from the octet i on
+unfoldable pub seconds : List ℕ → ℕ → List ℕ
+seconds v i = 0x3A ∷ getD v i 0 ∷ getD v (i + 1) 0 ∷ []
+
+-- the octet i in hex, a space, and what stands behind it as it is
+unfoldable pub coded : List ℕ → ℕ → List ℕ
+coded v i = hex (getD v i 0) ++ ascii " " ++ drop (i + 1) v
 
 -- 00H is off, FFH is on
 unfoldable pub lampWord : ℕ → List ℕ
@@ -43,15 +47,62 @@ stateWord x = pick (x =? 0x55) (ascii "unset") (lampWord x)
 unfoldable pub reference : List ℕ → ℕ
 reference v = referenceOf (getD v 1 0) (getD v 2 0)
 
+-- three octets as they are, and a space
+unfoldable pub currency : List ℕ → List ℕ
+currency v = getD v 0 0 ∷ getD v 1 0 ∷ getD v 2 0 ∷ 0x20 ∷ []
+
+-- what a terminal's function is selected by: 01H, 02H, 03H (source 004, 5.4.24)
+unfoldable pub selectorWord : ℕ → List ℕ
+selectorWord x = pick (x =? 1) (ascii "connection ") (pick (x =? 2) (ascii "number ") (ascii "subaddress "))
+
+-- a connection type's code in hex, or digits as they are
+unfoldable pub selected : List ℕ → List ℕ
+selected v = pick (getD v 0 0 =? 1) (hex (getD v 1 0)) (drop 1 v)
+
+-- ---- values, a text for each style that is no piece of its own; since document 02, Q-4, from `moment` on
+
+-- MM-DD HH:MM
+unfoldable pub clock : List ℕ → List ℕ
+clock v = half v 0 0x2D ++ ascii " " ++ half v 4 0x3A
+
+-- a state and its reference
+unfoldable pub identity : List ℕ → List ℕ
+identity v = stateWord (getD v 0 0) ++ ascii " " ++ decimal (reference v)
+
+-- MM-DD HH:MM, and :SS where ten octets were sent
+unfoldable pub moment : List ℕ → List ℕ
+moment v = clock v ++ pick (length v =? 10) (seconds v 8) []
+
+-- HH:MM:SS
+unfoldable pub duration : List ℕ → List ℕ
+duration v = half v 0 0x3A ++ seconds v 4
+
+-- currency, flags and ten octets
+unfoldable pub charge : List ℕ → List ℕ
+charge v = currency v ++ coded v 3
+
+-- a word, and a code or digits
+unfoldable pub terminal : List ℕ → List ℕ
+terminal v = selectorWord (getD v 0 0) ++ selected v
+
+-- what the text is, and the text
+unfoldable pub display : List ℕ → List ℕ
+display v = coded v 0
+
 -- what a style makes of contents
 unfoldable pub printed : Style → List ℕ → List ℕ
 printed clockStyle v = clock v
 printed verbatim v = v
 printed switch v = lampWord (getD v 0 0)
-printed referenceStyle v = stateWord (getD v 0 0) ++ ascii " " ++ decimal (reference v)
+printed referenceStyle v = identity v
 printed decimalStyle v = decimal (getD v 0 0)
 printed hexStyle v = hex (getD v 0 0)
 printed numbered v = []
+printed momentStyle v = moment v
+printed durationStyle v = duration v
+printed chargeStyle v = charge v
+printed terminalStyle v = terminal v
+printed displayStyle v = display v
 
 -- ---- lines
 
@@ -114,7 +165,7 @@ listingOf R o = written (verdictLines R o (verdictOf R o))
 
 -- no listing is longer (Longest)
 abbrev pub bufferSize : ℕ
-bufferSize = 292
+bufferSize = 553
 
 -- a listing in its buffer, zeros behind it
 unfoldable pub bufferOf : List ℕ → ListingText
@@ -130,7 +181,7 @@ unfoldable pub rowAt : ℕ → Row
 rowAt i = getD ((rulesOf PresentLenient) .rows) i noRow
 
 abbrev pub rowCount : ℕ
-rowCount = 14
+rowCount = 27
 
 pub row-count : length ((rulesOf PresentLenient) .rows) ≡ rowCount
 unfolding rulesOf

@@ -10,7 +10,7 @@ use rules::Fault;
 ghost use mathlib.Core.Path.{_≡_};
 ghost use mathlib.Core.List.{[], _∷_, _++_};
 ghost use Prim.Native.Nat.{_<_, _≤_};
-ghost use lib.ListN.{length, getD};
+ghost use lib.ListN.{length, drop};
 ghost use Rattle.rules.specs.Tests.{pick};
 ghost use Rattle.rules.specs.Table.{rulesOf, listed, styleOf, ascii};
 ghost use Rattle.rules.specs.declared.Book.the-variants as book;
@@ -18,10 +18,10 @@ ghost use Rattle.rules.specs.Counting.{carriedIn};
 ghost use Rattle.message.specs.Parameters.{parametersIn};
 ghost use Rattle.listing.specs.Numerals.{hexDigit, hex, decimal};
 ghost use Rattle.listing.specs.Put.{Room, Put, part};
-ghost use Rattle.listing.specs.Listing.{half, clock, lampWord, stateWord, reference, printed, kindLine, numberLine, lineText, lineOf, rowAt, rowCount, partLines, rowsAt, linesAt, written, refusalLines, listingOf, bufferOf};
+ghost use Rattle.listing.specs.Listing.{half, seconds, coded, clock, lampWord, stateWord, reference, identity, moment, duration, charge, selectorWord, selected, terminal, printed, kindLine, numberLine, lineText, lineOf, rowAt, rowCount, partLines, rowsAt, linesAt, written, refusalLines, listingOf, bufferOf};
 
 // No listing is longer.
-const LONGEST: usize = 292;
+const LONGEST: usize = 553;
 
 // A listing: its first `length` octets; those behind them are 0.
 pub struct ListingText {
@@ -30,8 +30,8 @@ pub struct ListingText {
 }
 
 // The rows of the listing: their types in its order, and where the key of each begins in the row of keys; behind the
-// last, where they end.
-const ROWS: usize = 14;
+// last, where they end: 255, the most that an octet holds.
+const ROWS: usize = 27;
 
 const TYPES: [u8; ROWS] = [
     0x01,
@@ -43,14 +43,56 @@ const TYPES: [u8; ROWS] = [
     0x0B,
     0x0D,
     0x0E,
+    0x0F,
+    0x10,
     0x11,
     0x12,
     0x13,
     0x15,
     0x16,
+    0x1A,
+    0x20,
+    0x21,
+    0x22,
+    0x23,
+    0x30,
+    0x31,
+    0x40,
+    0x50,
+    0x55,
+    0xE0,
 ];
 
-const STARTS: [u8; ROWS + 1] = [0, 5, 12, 19, 33, 38, 50, 55, 63, 73, 83, 96, 104, 114, 119];
+const STARTS: [u8; ROWS + 1] = [
+    0,
+    5,
+    12,
+    19,
+    33,
+    38,
+    50,
+    55,
+    63,
+    73,
+    83,
+    98,
+    108,
+    121,
+    129,
+    139,
+    144,
+    156,
+    163,
+    181,
+    194,
+    203,
+    212,
+    220,
+    229,
+    237,
+    245,
+    255,
+];
 
 // ---- octets put behind those that stand there
 
@@ -124,6 +166,41 @@ fn put_half(contents: &[u8], i: usize, mark: u8, out: &mut [u8], at: usize) -> u
     put(&text, out, at)
 }
 
+// A colon and a number of two digits.
+fn put_seconds(contents: &[u8], i: usize, out: &mut [u8], at: usize) -> usize
+    requires { ⌜ (i ≤ 8) × Room (seconds (now contents) i) at (now out) ⌝ }
+    ensures { λ r. ⌜ Put (seconds (now (contents .entry)) i) at (now (out .entry)) r (now (out .exit)) ⌝ }
+{
+    let text = [
+        b':',
+        message::octet(contents, i),
+        message::octet(contents, i + 1),
+    ];
+    put(&text, out, at)
+}
+
+// What stands behind the first k octets.
+fn put_rest(contents: &[u8], k: usize, out: &mut [u8], at: usize) -> usize
+    requires { ⌜ Room (drop k (now contents)) at (now out) ⌝ }
+    ensures { λ r. ⌜ Put (drop k (now (contents .entry))) at (now (out .entry)) r (now (out .exit)) ⌝ }
+{
+    if k < contents.len() {
+        put(&contents[k..], out, at)
+    } else {
+        at
+    }
+}
+
+// An octet in hex, a space, and what stands behind it.
+fn put_coded(contents: &[u8], i: usize, out: &mut [u8], at: usize) -> usize
+    requires { ⌜ (i ≤ 3) × Room (coded (now contents) i) at (now out) ⌝ }
+    ensures { λ r. ⌜ Put (coded (now (contents .entry)) i) at (now (out .entry)) r (now (out .exit)) ⌝ }
+{
+    let code = put_hex(message::octet(contents, i), out, at);
+    let gap = put_octet(b' ', out, code);
+    put_rest(contents, i + 1, out, gap)
+}
+
 fn put_clock(contents: &[u8], out: &mut [u8], at: usize) -> usize
     requires { ⌜ Room (clock (now contents)) at (now out) ⌝ }
     ensures { λ r. ⌜ Put (clock (now (contents .entry))) at (now (out .entry)) r (now (out .exit)) ⌝ }
@@ -164,12 +241,79 @@ fn reference_in(contents: &[u8]) -> u16
 }
 
 fn put_identity(contents: &[u8], out: &mut [u8], at: usize) -> usize
-    requires { ⌜ Room (stateWord (getD (now contents) 0 0) ++ ascii " " ++ decimal (reference (now contents))) at (now out) ⌝ }
-    ensures { λ r. ⌜ Put (stateWord (getD (now (contents .entry)) 0 0) ++ ascii " " ++ decimal (reference (now (contents .entry)))) at (now (out .entry)) r (now (out .exit)) ⌝ }
+    requires { ⌜ Room (identity (now contents)) at (now out) ⌝ }
+    ensures { λ r. ⌜ Put (identity (now (contents .entry))) at (now (out .entry)) r (now (out .exit)) ⌝ }
 {
     let state = put_state(message::octet(contents, 0), out, at);
     let gap = put_octet(b' ', out, state);
     put_decimal(reference_in(contents), out, gap)
+}
+
+// A date and time, with its seconds where they were sent (document 02, Q-4).
+fn put_moment(contents: &[u8], out: &mut [u8], at: usize) -> usize
+    requires { ⌜ Room (moment (now contents)) at (now out) ⌝ }
+    ensures { λ r. ⌜ Put (moment (now (contents .entry))) at (now (out .entry)) r (now (out .exit)) ⌝ }
+{
+    let clock = put_clock(contents, out, at);
+    if contents.len() == 10 {
+        put_seconds(contents, 8, out, clock)
+    } else {
+        clock
+    }
+}
+
+fn put_duration(contents: &[u8], out: &mut [u8], at: usize) -> usize
+    requires { ⌜ Room (duration (now contents)) at (now out) ⌝ }
+    ensures { λ r. ⌜ Put (duration (now (contents .entry))) at (now (out .entry)) r (now (out .exit)) ⌝ }
+{
+    let minutes = put_half(contents, 0, b':', out, at);
+    put_seconds(contents, 4, out, minutes)
+}
+
+fn put_charge(contents: &[u8], out: &mut [u8], at: usize) -> usize
+    requires { ⌜ Room (charge (now contents)) at (now out) ⌝ }
+    ensures { λ r. ⌜ Put (charge (now (contents .entry))) at (now (out .entry)) r (now (out .exit)) ⌝ }
+{
+    let currency = [
+        message::octet(contents, 0),
+        message::octet(contents, 1),
+        message::octet(contents, 2),
+        b' ',
+    ];
+    let flags = put(&currency, out, at);
+    put_coded(contents, 3, out, flags)
+}
+
+fn put_selector(x: u8, out: &mut [u8], at: usize) -> usize
+    requires { ⌜ Room (selectorWord x) at (now out) ⌝ }
+    ensures { λ r. ⌜ Put (selectorWord x) at (now (out .entry)) r (now (out .exit)) ⌝ }
+{
+    if x == 1 {
+        put(b"connection ", out, at)
+    } else if x == 2 {
+        put(b"number ", out, at)
+    } else {
+        put(b"subaddress ", out, at)
+    }
+}
+
+fn put_selected(contents: &[u8], out: &mut [u8], at: usize) -> usize
+    requires { ⌜ Room (selected (now contents)) at (now out) ⌝ }
+    ensures { λ r. ⌜ Put (selected (now (contents .entry))) at (now (out .entry)) r (now (out .exit)) ⌝ }
+{
+    if message::octet(contents, 0) == 1 {
+        put_hex(message::octet(contents, 1), out, at)
+    } else {
+        put_rest(contents, 1, out, at)
+    }
+}
+
+fn put_terminal(contents: &[u8], out: &mut [u8], at: usize) -> usize
+    requires { ⌜ Room (terminal (now contents)) at (now out) ⌝ }
+    ensures { λ r. ⌜ Put (terminal (now (contents .entry))) at (now (out .entry)) r (now (out .exit)) ⌝ }
+{
+    let word = put_selector(message::octet(contents, 0), out, at);
+    put_selected(contents, out, word)
 }
 
 // The value that contents say, in the style of their class.
@@ -178,6 +322,7 @@ fn put_value(class: Class, contents: &[u8], out: &mut [u8], at: usize) -> usize
     ensures { λ r. ⌜ Put (printed (styleOf class) (now (contents .entry))) at (now (out .entry)) r (now (out .exit)) ⌝ }
 {
     match class {
+        Class::Carried => at,
         Class::Date => put_clock(contents, out, at),
         Class::Number => put(contents, out, at),
         Class::Absent => put(contents, out, at),
@@ -188,9 +333,15 @@ fn put_value(class: Class, contents: &[u8], out: &mut [u8], at: usize) -> usize
         Class::Waiting => put_decimal(message::octet(contents, 0) as u16, out, at),
         Class::Forwarded => put_hex(message::octet(contents, 0), out, at),
         Class::User => put_hex(message::octet(contents, 0), out, at),
-        Class::Carried => at,
-        Class::OldNumber => put(contents, out, at),
         Class::ShortText => put(contents, out, at),
+        Class::Moment => put_moment(contents, out, at),
+        Class::Charge => put_charge(contents, out, at),
+        Class::Duration => put_duration(contents, out, at),
+        Class::Terminal => put_terminal(contents, out, at),
+        Class::Display => put_coded(contents, 0, out, at),
+        Class::Service => put_hex(message::octet(contents, 0), out, at),
+        Class::Extension => put(contents, out, at),
+        Class::OldNumber => put(contents, out, at),
         Class::OldForwarded => put_hex(message::octet(contents, 0), out, at),
         Class::OldUser => put_hex(message::octet(contents, 0), out, at),
         Class::Unlisted => at,
@@ -207,7 +358,7 @@ fn put_key(i: usize, out: &mut [u8], at: usize) -> usize
     let start = STARTS[i] as usize;
     let end = STARTS[i + 1] as usize;
     put_part(
-        b"time=caller=called=caller-absent=name=name-absent=lamp=message=depositor=call-type=first-called=waiting=forwarded=user=",
+        b"time=caller=called=caller-absent=name=name-absent=lamp=message=depositor=left-time=network-caller=call-type=first-called=waiting=forwarded=user=redirecting=charge=additional-charge=extra-charge=duration=provider=carrier=terminal=display=service=extension=",
         start,
         end,
         out,

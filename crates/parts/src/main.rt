@@ -92,25 +92,38 @@ fn say_text(texts: &[u8], start: usize, size: usize) {
     }
 }
 
+// Four numbers, 0 where the value has fewer; of a moment five (document 02, Q-4).
 fn say_numbers(value: Flat) {
     say_number(b"", value.first as u64);
     say_number(b" ", value.second as u64);
     say_number(b" ", value.third as u64);
     say_number(b" ", value.fourth as u64);
+    if value.form == draft::MOMENT_FORM {
+        say_number(b" ", value.fifth as u64);
+    }
     say(b"\n");
 }
 
-// Type, kind of value, and the value: four numbers, 0 where it has fewer; or a text in hex.
+// The first octet of the contents stands ahead of a marked text (document 02, Q-4).
+fn say_mark(value: Flat) {
+    if value.form == draft::MARKED_FORM {
+        say_number(b"", value.first as u64);
+        say(b" ");
+    }
+}
+
+// Type, kind of value, and the value: its numbers, or a text in hex, behind its mark if it has one.
 fn say_entry(entry: Entry, texts: &[u8]) {
     let value = entry.value;
     let flat = draft::flatten(value);
     say_octet(entry.kind);
     say_number(b" ", flat.form as u64);
     say(b" ");
-    if flat.form < draft::TEXT_FORM {
-        say_numbers(flat);
-    } else {
+    if draft::has_text(flat.form) {
+        say_mark(flat);
         say_text(texts, flat.start, flat.length);
+    } else {
+        say_numbers(flat);
     }
 }
 
@@ -235,6 +248,18 @@ fn further(entry: Entry) -> Entry {
         Value::Carried { start, length } => Entry {
             kind,
             value: Value::Carried {
+                start: std::num::wrapping_add_usize(start, 1),
+                length,
+            },
+        },
+        Value::Marked {
+            mark,
+            start,
+            length,
+        } => Entry {
+            kind,
+            value: Value::Marked {
+                mark,
                 start: std::num::wrapping_add_usize(start, 1),
                 length,
             },

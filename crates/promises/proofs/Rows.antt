@@ -1,20 +1,24 @@
--- Document 01's rows marked P (Octets on each side of the line) and those of document 02, Q-2, Q-3, Q-5 and Q-11, one
--- list under one claim over the promises of `reset_way` and `reset`, `listen`, `read_way` and `read`, `write`, `settle`
+-- Document 01's rows marked P (Octets on each side of the line) and those of document 02, Q-2, Q-3, Q-4, Q-5 and Q-11,
+-- one list under one claim over the promises of `reset_way` and `reset`, `listen`, `read_way` and `read`, `write`, `settle`
 -- and `counted`, whatever outcomes they allow.
 -- Assumes nothing.
 use Prim.Native.Nat.{ℕ}
 use mathlib.Core.Path.{_≡_, refl, _∙_, ap}
-use mathlib.Core.List.{List, [], _∷_}
+use mathlib.Core.List.{List, [], _∷_, _++_}
 use mathlib.Core.Option.{Option, none, some}
 use lib.ListN.{length, replicate}
 use lib.Dec.{T}
 use Rattle.rules.specs.Tests.{_≤?_, _=?_, _and_, _or_, pick}
 use Rattle.rules.specs.Octets.{total, checksum}
-use Rattle.rules.specs.Contents.{within, inSet, digit, pairFits, pairsFit, someLength, shortMonth, days, monthOf}
+use Rattle.rules.specs.Contents.{within, inSet, digit, pairFits, pairsFit, allIn, headFits, someLength, shortMonth, days, monthOf}
 use Rattle.rules.specs.Table.{rulesOf, classFault, rowIn, rowOf, listedIn, listed, classOf, rivalOf, typeFault, formOf, whole}
 use Rattle.rules.specs.Editions.{strict, lenient, edition, known, bookOf, namedBy}
 use Rattle.rules.specs.Message.{body, octets, messageKind}
-use Rattle.rules.specs.ContentJudge.{opens, tensFit, onesFit, pairAt, dayFits, calendarAt, calendarKeep, columnAt, judgeOf}
+use Rattle.rules.specs.Charge.{dash, comma, missing, amountBy, amountKeep, currencyBy, flagsAt, flagsKeep, chargeBy, chargeKeep}
+use Rattle.rules.specs.Charge.{units as inUnits}
+use Rattle.rules.specs.Terminal.{terminalBy, terminalKeep}
+use Rattle.rules.specs.Extension.{blank, extensionBy, extensionKeep}
+use Rattle.rules.specs.ContentJudge.{opens, tensFit, onesFit, pairAt, dayFits, calendarAt, calendarKeep, columnAt, headBy, judgeOf}
 use Rattle.rules.specs.Refusals.{notedIn}
 use Rattle.rules.specs.Machine.{step, run}
 use Rattle.rules.specs.Judge.{roomFits, rangePossible, somePossible, possible, final, fits, contents, after, fault, standsIn, machine, placeFits, countFits, inRange}
@@ -33,9 +37,9 @@ use Rattle.reader.specs.declared.Packed.the-variants as packed
 use Rattle.reader.specs.declared.Reading.{Reading}
 use Rattle.reader.proofs.Promised as reader
 use Rattle.reader.specs.Read.{packFrom, packOf, readOf}
-use Rattle.draft.specs.Meaning.{formNumber, kindOf, formIs, tens, ones, spelled}
+use Rattle.draft.specs.Meaning.{formNumber, kindOf, formIs, tens, ones, secondsSaid, spelled}
 use Rattle.draft.specs.Draft.{meaningOf, inside, parameterOf, parametersOf, messageOf}
-use Rattle.draft.specs.declared.Value.the-variants.{Date}
+use Rattle.draft.specs.declared.Value.the-variants.{Date, Moment, Marked}
 use Rattle.draft.specs.declared.Draft.{Draft}
 use Rattle.writer.specs.declared.Writing.{Writing}
 use Rattle.writer.specs.Told.{Told, told, success, refusal}
@@ -162,6 +166,30 @@ february-30 = 0x80 ∷ 0x0A ∷ 0x01 ∷ 0x08 ∷ 0x30 ∷ 0x32 ∷ 0x33 ∷ 0x3
 abbrev february-29 : List ℕ
 february-29 = 0x80 ∷ 0x0A ∷ 0x01 ∷ 0x08 ∷ 0x30 ∷ 0x32 ∷ 0x32 ∷ 0x39 ∷ 0x30 ∷ 0x30 ∷ 0x30 ∷ 0x30 ∷ 0xE0 ∷ []
 
+-- document 02, Q-4: source 004, annex D, a cost, units alone (by its title), units and their price; table 33, a display
+-- without characters; moments without seconds and at second 0
+abbrev cost : List ℕ
+cost = 0x46 ∷ 0x52 ∷ 0x46 ∷ 0x00 ∷ 0x30 ∷ 0x30 ∷ 0x30 ∷ 0x30 ∷ 0x30 ∷ 0x32 ∷ 0x33 ∷ 0x2C ∷ 0x34 ∷ 0x35 ∷ []
+
+abbrev units : List ℕ
+units = 0x2D ∷ 0x2D ∷ 0x2D ∷ 0x10 ∷ 0x30 ∷ 0x30 ∷ 0x30 ∷ 0x32 ∷ 0x33 ∷ 0x2D ∷ 0x2D ∷ 0x2D ∷ 0x2D ∷ 0x2D ∷ []
+
+abbrev priced : List ℕ
+priced = 0x44 ∷ 0x45 ∷ 0x4D ∷ 0x10 ∷ 0x30 ∷ 0x30 ∷ 0x30 ∷ 0x37 ∷ 0x38 ∷ 0x30 ∷ 0x30 ∷ 0x2C ∷ 0x31 ∷ 0x32 ∷ []
+
+abbrev charged : List ℕ → ℕ → List ℕ
+charged v sum = 0x80 ∷ 0x10 ∷ 0x20 ∷ 0x0E ∷ v ++ sum ∷ []
+
+abbrev no-characters : List ℕ
+no-characters = 0x80 ∷ 0x03 ∷ 0x50 ∷ 0x01 ∷ 0xF0 ∷ 0x3C ∷ []
+
+abbrev no-seconds : List ℕ
+no-seconds = 0x80 ∷ 0x0A ∷ 0x0F ∷ 0x08 ∷ 0x30 ∷ 0x36 ∷ 0x31 ∷ 0x35 ∷ 0x31 ∷ 0x34 ∷ 0x33 ∷ 0x30 ∷ 0xCB ∷ []
+
+abbrev second-0 : List ℕ
+second-0 =
+    0x80 ∷ 0x0C ∷ 0x0F ∷ 0x0A ∷ 0x30 ∷ 0x36 ∷ 0x31 ∷ 0x35 ∷ 0x31 ∷ 0x34 ∷ 0x33 ∷ 0x30 ∷ 0x30 ∷ 0x30 ∷ 0x67 ∷ []
+
 abbrev two-wait : Desk
 two-wait = record { waiting = waiting.Number 2; lamp = lamp.Unknown; places = replicate 16 0 }
 
@@ -225,6 +253,33 @@ documents =
     strictly (0x82 ∷ 0x03 ∷ 0x13 ∷ []) (heard answer.Waits) ∷
     old-strictly (0x82 ∷ 0x03 ∷ 0x13 ∷ []) (refused 10 2 1) ∷
     old-strictly (0x82 ∷ 0x03 ∷ 0x0B ∷ []) (heard answer.Waits) ∷
+    says (0x80 ∷ 0x0A ∷ 0x0F ∷ []) (heard answer.Waits) ∷
+    says (0x80 ∷ 0x0B ∷ 0x0F ∷ []) (refused 3 2 1) ∷
+    says (0x80 ∷ 0x0C ∷ 0x0F ∷ []) (heard answer.Waits) ∷
+    says (0x80 ∷ 0x0D ∷ 0x0F ∷ []) (heard answer.Waits) ∷
+    says (0x80 ∷ 0x0D ∷ 0x0F ∷ 0x09 ∷ []) (refused 4 3 1) ∷
+    says (0x80 ∷ 0x03 ∷ 0x40 ∷ []) (refused 3 2 1) ∷
+    says (0x80 ∷ 0x04 ∷ 0x40 ∷ []) (heard answer.Waits) ∷
+    says (0x80 ∷ 0x10 ∷ 0x20 ∷ 0x0E ∷ 0x46 ∷ 0x52 ∷ 0x46 ∷ 0x08 ∷ []) (refused 5 7 1) ∷
+    says (0x80 ∷ 0x10 ∷ 0x20 ∷ 0x0E ∷ 0x2D ∷ 0x2D ∷ 0x2D ∷ 0x00 ∷ []) (refused 5 7 1) ∷
+    says (0x80 ∷ 0x10 ∷ 0x20 ∷ 0x0E ∷ 0x46 ∷ 0x52 ∷ 0x46 ∷ 0x00 ∷ 0x2C ∷ 0x2C ∷ []) (refused 5 9 1) ∷
+    says (0x80 ∷ 0x10 ∷ 0x20 ∷ 0x0E ∷ 0x46 ∷ 0x52 ∷ 0x46 ∷ 0x10 ∷ 0x2C ∷ []) (refused 5 8 1) ∷
+    says (0x80 ∷ 0x04 ∷ 0x40 ∷ 0x02 ∷ 0x01 ∷ []) (heard answer.Waits) ∷
+    says (0x80 ∷ 0x05 ∷ 0x40 ∷ 0x03 ∷ 0x01 ∷ []) (refused 5 4 1) ∷
+    says (0x80 ∷ 0x0C ∷ 0xE0 ∷ 0x0A ∷ 0x33 ∷ 0x20 ∷ 0x33 ∷ []) (refused 5 6 1) ∷
+    says (0x80 ∷ 0x04 ∷ 0x50 ∷ 0x02 ∷ 0x02 ∷ []) (refused 5 4 1) ∷
+    says (charged cost 0x7A) (heard (answer.Message 19)) ∷
+    says (charged cost 0x7A) (counts 0x20 (some cost)) ∷
+    says (charged units 0xD5) (heard (answer.Message 19)) ∷
+    says (charged units 0xD5) (counts 0x20 (some units)) ∷
+    says (charged priced 0x6E) (heard (answer.Message 19)) ∷
+    says (charged priced 0x6E) (counts 0x20 (some priced)) ∷
+    says no-characters (heard (answer.Message 6)) ∷
+    says no-characters (writes (one 0x50 (Marked 0xF0 0 0)) (success 6)) ∷
+    says no-seconds (writes (one 0x0F (Moment 6 15 14 30 0)) (success 13)) ∷
+    says second-0 (writes (one 0x0F (Moment 6 15 14 30 1)) (success 15)) ∷
+    old (0x80 ∷ 0x0B ∷ 0x0F ∷ 0x09 ∷ []) (heard answer.Waits) ∷
+    old-strictly (0x80 ∷ 0x0B ∷ 0x0F ∷ []) (refused 10 2 1) ∷
     no-way [] (refused 16 0 0) ∷
     []
 
@@ -269,7 +324,7 @@ abbrev _also_ : {A B : Type 0} → A → B → A × B
 a also b = (a, b)
 
 pub rows : All documents
-unfolding edition known bookOf namedBy writeIn settleIn desk-told.told _≤?_ _=?_ _and_ _or_ pick total checksum body octets within inSet whole digit pairFits pairsFit monthOf formOf rowIn rowOf listedIn listed classOf rivalOf typeFault classFault someLength rulesOf messageKind opens tensFit onesFit pairAt shortMonth days dayFits calendarAt calendarKeep columnAt judgeOf step run roomFits rangePossible somePossible possible final fits contents after fault standsIn machine placeFits countFits inRange newListener heardIn answerOf taken stopped judged verdictOf parameterAt matched searchFrom countedAt partOf waitingAfter lampAfter changeIn changeOf noticed countedIn settledNotice settledMessage settledUnder refusedWith settleOf placeWith absent mayStand placesFit changeBy isFull placesAfter told writeOf measuredOf sized legalBefore legalEntry messageOf parametersOf parameterOf spelled meaningOf inside formIs formNumber kindOf tens ones
+unfolding edition known bookOf namedBy writeIn settleIn desk-told.told _≤?_ _=?_ _and_ _or_ pick total checksum body octets within inSet whole digit pairFits pairsFit allIn headFits monthOf formOf rowIn rowOf listedIn listed classOf rivalOf typeFault classFault someLength rulesOf messageKind opens tensFit onesFit pairAt shortMonth days dayFits calendarAt calendarKeep columnAt headBy dash comma missing inUnits amountBy amountKeep currencyBy flagsAt flagsKeep chargeBy chargeKeep terminalBy terminalKeep blank extensionBy extensionKeep judgeOf step run roomFits rangePossible somePossible possible final fits contents after fault standsIn machine placeFits countFits inRange newListener heardIn answerOf taken stopped judged verdictOf parameterAt matched searchFrom countedAt partOf waitingAfter lampAfter changeIn changeOf noticed countedIn settledNotice settledMessage settledUnder refusedWith settleOf placeWith absent mayStand placesFit changeBy isFull placesAfter told writeOf measuredOf sized legalBefore legalEntry messageOf parametersOf parameterOf secondsSaid spelled meaningOf inside formIs formNumber kindOf tens ones
 rows =
     (hears 0 0 _ _ refl also hears 0 1 _ _ refl) also
     (reads 0 0 _ _ _ _ tt refl also reads 0 1 _ _ _ _ tt refl) also
@@ -328,5 +383,32 @@ rows =
     hears 0 0 _ _ refl also
     (hears 1 0 _ _ refl, reads 1 0 _ _ _ _ tt refl) also
     hears 1 0 _ _ refl also
+    (hears 0 0 _ _ refl also hears 0 1 _ _ refl) also
+    ((hears 0 0 _ _ refl, reads 0 0 _ _ _ _ tt refl) also (hears 0 1 _ _ refl, reads 0 1 _ _ _ _ tt refl)) also
+    (hears 0 0 _ _ refl also hears 0 1 _ _ refl) also
+    (hears 0 0 _ _ refl also hears 0 1 _ _ refl) also
+    ((hears 0 0 _ _ refl, reads 0 0 _ _ _ _ tt refl) also (hears 0 1 _ _ refl, reads 0 1 _ _ _ _ tt refl)) also
+    ((hears 0 0 _ _ refl, reads 0 0 _ _ _ _ tt refl) also (hears 0 1 _ _ refl, reads 0 1 _ _ _ _ tt refl)) also
+    (hears 0 0 _ _ refl also hears 0 1 _ _ refl) also
+    ((hears 0 0 _ _ refl, reads 0 0 _ _ _ _ tt refl) also (hears 0 1 _ _ refl, reads 0 1 _ _ _ _ tt refl)) also
+    ((hears 0 0 _ _ refl, reads 0 0 _ _ _ _ tt refl) also (hears 0 1 _ _ refl, reads 0 1 _ _ _ _ tt refl)) also
+    ((hears 0 0 _ _ refl, reads 0 0 _ _ _ _ tt refl) also (hears 0 1 _ _ refl, reads 0 1 _ _ _ _ tt refl)) also
+    ((hears 0 0 _ _ refl, reads 0 0 _ _ _ _ tt refl) also (hears 0 1 _ _ refl, reads 0 1 _ _ _ _ tt refl)) also
+    (hears 0 0 _ _ refl also hears 0 1 _ _ refl) also
+    ((hears 0 0 _ _ refl, reads 0 0 _ _ _ _ tt refl) also (hears 0 1 _ _ refl, reads 0 1 _ _ _ _ tt refl)) also
+    ((hears 0 0 _ _ refl, reads 0 0 _ _ _ _ tt refl) also (hears 0 1 _ _ refl, reads 0 1 _ _ _ _ tt refl)) also
+    ((hears 0 0 _ _ refl, reads 0 0 _ _ _ _ tt refl) also (hears 0 1 _ _ refl, reads 0 1 _ _ _ _ tt refl)) also
+    (hears 0 0 _ _ refl also hears 0 1 _ _ refl) also
+    (finds 0 0 _ _ _ refl also finds 0 1 _ _ _ refl) also
+    (hears 0 0 _ _ refl also hears 0 1 _ _ refl) also
+    (finds 0 0 _ _ _ refl also finds 0 1 _ _ _ refl) also
+    (hears 0 0 _ _ refl also hears 0 1 _ _ refl) also
+    (finds 0 0 _ _ _ refl also finds 0 1 _ _ _ refl) also
+    (hears 0 0 _ _ refl also hears 0 1 _ _ refl) also
+    (written 0 0 _ _ _ refl refl refl also written 0 1 _ _ _ refl refl refl) also
+    (written 0 0 _ _ _ refl refl refl also written 0 1 _ _ _ refl refl refl) also
+    (written 0 0 _ _ _ refl refl refl also written 0 1 _ _ _ refl refl refl) also
+    hears 1 1 _ _ refl also
+    (hears 1 0 _ _ refl, reads 1 0 _ _ _ _ tt refl) also
     (hears 0 2 _ _ refl, unreadable-by 0 2 _ (λ t. t)) also
     tt

@@ -5,13 +5,12 @@ use mathlib.Core.Path.{_≡_, refl, sym, _∙_, ap, ap₂}
 use mathlib.Core.List.{List, [], _∷_, _++_}
 use native.Mathlib.Omega.{arith}
 use lib.ListN.{length, length-append, length-drop, take, drop}
-use lib.Seq.{length-take-le, take-length, take-take}
+use lib.Seq.{length-take-le, take-nil, drop-drop, drop-length}
 use Rattle.rules.proofs.Laying.{part-is}
-use Rattle.rules.specs.Tests.{pick}
 use Rattle.rules.proofs.Tests.{clash}
 use Rattle.rules.specs.Table.{Rules}
 use Rattle.rules.specs.declared.Form.{Form}
-use Rattle.rules.specs.declared.Form.the-variants.{DateValue, CodeValue, StateValue, TextValue, CarriedValue}
+use Rattle.rules.specs.declared.Form.the-variants.{DateValue, CodeValue, StateValue, TextValue, CarriedValue, MomentValue, DurationValue, MarkedValue}
 use Rattle.rules.specs.Message.{Parameter, body, most}
 use Rattle.message.specs.Parts.{parameterAt}
 use Rattle.message.specs.Parameters as message
@@ -22,20 +21,23 @@ use Rattle.message.specs.declared.Found.{Found}
 use Rattle.message.specs.declared.Found.the-variants as found
 use Rattle.draft.specs.declared.Value.{Value}
 use Rattle.draft.specs.declared.Entry.{Entry}
-use Rattle.draft.specs.Meaning.{Meaning, dateIs, codeIs, stateIs, textIs, carriedIs, kindOf, meant, textIn}
+use Rattle.draft.specs.Meaning.{Meaning, dateIs, codeIs, stateIs, textIs, carriedIs, momentIs, durationIs, markedIs, kindOf, meant, textIn}
 use Rattle.draft.specs.Packing.{valueAt, meaningIn, entryOf, textOf, entriesOf, textsOf}
 use Rattle.reader.specs.declared.Taken.the-variants as taken
 use Rattle.reader.specs.declared.Text.the-variants as text
-use Rattle.reader.specs.Read.{standing, hasText, textLong, takenFrom, takenAt, textFrom, textAt, textSize}
+use Rattle.reader.specs.Read.{standing, textPart, textLong, takenFrom, takenAt, textFrom, textAt, textSize}
 
--- the text is the contents, or nothing
-text-or-none : (f : Form) (v : List ℕ) → length (textIn (meant f v)) ≡ pick (hasText f) (length v) 0
-unfolding textIn meant hasText pick
-text-or-none DateValue v = refl
-text-or-none CodeValue v = refl
-text-or-none StateValue v = refl
-text-or-none TextValue v = refl
-text-or-none CarriedValue v = refl
+-- the text is the contents, what stands behind their first octet, or nothing
+text-part : (f : Form) (v : List ℕ) → length (textIn (meant f v)) ≡ textPart f (length v)
+unfolding textIn meant textPart
+text-part DateValue v = refl
+text-part CodeValue v = refl
+text-part StateValue v = refl
+text-part TextValue v = refl
+text-part CarriedValue v = refl
+text-part MomentValue v = refl
+text-part DurationValue v = refl
+text-part MarkedValue v = length-drop 1 v
 
 short : (f : Form) (v : List ℕ) → length (textIn (meant f v)) ≤ length v
 unfolding textIn meant
@@ -44,32 +46,64 @@ short CodeValue v = omega arith
 short StateValue v = omega arith
 short TextValue v = omega arith
 short CarriedValue v = omega arith
+short MomentValue v = omega arith
+short DurationValue v = omega arith
+short MarkedValue v = omega (arith, length-drop 1 v)
 
-text-taken : (f : Form) (v : List ℕ) → take (length (textIn (meant f v))) v ≡ textIn (meant f v)
+behind-all : (v : List ℕ) → drop (length v - 0) v ≡ []
+behind-all v = let z : length v - 0 ≡ length v = omega arith in ap (λ (n : ℕ). drop n v) z ∙ drop-length v
+
+-- it ends where they end
+text-last : (f : Form) (v : List ℕ) → drop (length v - length (textIn (meant f v))) v ≡ textIn (meant f v)
 unfolding textIn meant
-text-taken DateValue v = refl
-text-taken CodeValue v = refl
-text-taken StateValue v = refl
-text-taken TextValue v = take-length v
-text-taken CarriedValue v = take-length v
+text-last DateValue v = behind-all v
+text-last CodeValue v = behind-all v
+text-last StateValue v = behind-all v
+text-last TextValue v = let z : length v - length v ≡ 0 = omega arith in ap (λ (n : ℕ). drop n v) z
+text-last CarriedValue v = let z : length v - length v ≡ 0 = omega arith in ap (λ (n : ℕ). drop n v) z
+text-last MomentValue v = behind-all v
+text-last DurationValue v = behind-all v
+text-last MarkedValue [] = refl
+text-last MarkedValue (x ∷ v) =
+    let z : suc (length v) - length v ≡ 1 = omega arith in ap (λ (n : ℕ). drop n (x ∷ v)) z
+
+-- the octets behind m of the first n
+drop-take : (m n : ℕ) (l : List ℕ) → m ≤ n → drop m (take n l) ≡ take (n - m) (drop m l)
+drop-take zero n l h = let z : n ≡ n - 0 = omega arith in ap (λ (k : ℕ). take k l) z
+drop-take (suc m) zero l h = absurd (omega arith)
+drop-take (suc m) (suc n) [] h = sym (take-nil (suc n - suc m))
+drop-take (suc m) (suc n) (x ∷ l) h =
+    let z : n - m ≡ suc n - suc m = omega arith in
+    drop-take m n l (omega arith) ∙ ap (λ (k : ℕ). take k (drop m l)) z
 
 module _ (R : Rules) (o : List ℕ) (k start n : ℕ) (h : start + n ≤ length o) where
   part-length : length (take n (drop start o)) ≡ n
   part-length = length-take-le n (drop start o) (omega (arith, length-drop start o))
 
-  pub text-length : length (textOf R (standing o k start n)) ≡ pick (hasText (kindOf R k)) n 0
+  pub text-length : length (textOf R (standing o k start n)) ≡ textPart (kindOf R k) n
   unfolding textOf meaningIn
   text-length =
-      text-or-none (kindOf R k) (take n (drop start o)) ∙ ap (λ (x : ℕ). pick (hasText (kindOf R k)) x 0) part-length
+      text-part (kindOf R k) (take n (drop start o)) ∙ ap (λ (x : ℕ). textPart (kindOf R k) x) part-length
 
   -- where a text stands, and that it lies within the contents
   pub text-short : length (textOf R (standing o k start n)) ≤ n
   unfolding textOf meaningIn
   text-short = omega (arith, short (kindOf R k) (take n (drop start o)), part-length)
 
-  pub text-stands : take (length (textOf R (standing o k start n))) (drop start o) ≡ textOf R (standing o k start n)
+  pub text-stands : take (length (textOf R (standing o k start n)))
+      (drop (start + n - length (textOf R (standing o k start n))) o) ≡
+      textOf R (standing o k start n)
   unfolding textOf meaningIn
-  text-stands = sym (take-take _ n (drop start o) text-short) ∙ text-taken (kindOf R k) (take n (drop start o))
+  text-stands =
+      let l = length (textOf R (standing o k start n)) in
+      let a : start + n - l ≡ start + (n - l) = omega (arith, text-short) in
+      let b : l ≡ n - (n - l) = omega (arith, text-short) in
+      let c : n - l ≡ length (take n (drop start o)) - l = omega (arith, part-length) in
+      ap₂ (λ (x y : ℕ). take x (drop y o)) b a
+      ∙ ap (take (n - (n - l))) (sym (drop-drop (n - l) start o))
+      ∙ sym (drop-take (n - l) n (drop start o) (omega arith))
+      ∙ ap (λ (x : ℕ). drop x (take n (drop start o))) c
+      ∙ text-last (kindOf R k) (take n (drop start o))
 
 -- ---- the next turn of a loop
 module _ (R : Rules) (o : List ℕ) (turns at : ℕ) (h : 0 < turns) where
@@ -86,7 +120,7 @@ module _ (R : Rules) (o : List ℕ) (turns at : ℕ) (h : 0 < turns) where
       go : (f : Found) → f ≡ parameterAt o at → text.At start n place ≡ textFrom R o f → TextHere start n place
       go (found.Parameter k s l) q e =
           let i = found-inside o at (found.Parameter k s l) k s l q refl in
-          let a : start ≡ s = cc in
+          let a : start ≡ s + l - length (textOf R (standing o k s l)) = cc in
           let b : n ≡ length (textOf R (standing o k s l)) = cc in
           let d : place ≡ s + l = cc in
           record {
@@ -135,18 +169,18 @@ module _ (R : Rules) (o : List ℕ) (turns at : ℕ) (h : 0 < turns) where
             }
         go found.Nothing q t = clash cc
 
-    -- its text is the one that stands two octets behind the parameter's place
+    -- its text ends where the parameter ends
     pub entry-text : (e : Entry) (n place : ℕ) → taken.Next e n place ≡ takenAt R o at used →
-        text.At (at + 2) n place ≡ textAt R o at
+        text.At (place - n) n place ≡ textAt R o at
     unfolding takenAt takenFrom textAt textFrom
     entry-text e n place t = go (parameterAt o at) refl t
       where
         go : (f : Found) → f ≡ parameterAt o at → taken.Next e n place ≡ takenFrom R o used f →
-            text.At (at + 2) n place ≡ textFrom R o f
+            text.At (place - n) n place ≡ textFrom R o f
         go (found.Parameter k s l) q t =
             let b : n ≡ length (textOf R (standing o k s l)) = cc in
             let d : place ≡ s + l = cc in
-            λ i. text.At (found-behind o at k s l q i) (b i) (d i)
+            λ i. text.At (d i - b i) (b i) (d i)
         go found.Nothing q t = clash cc
 
     pub entry-none : taken.End ≡ takenAt R o at used → parametersFrom turns o at ≡ []
@@ -204,16 +238,24 @@ value-text used (codeIs x) = refl
 value-text used (stateIs s r) = refl
 value-text used (textIs v) = refl
 value-text used (carriedIs v) = refl
+value-text used (momentIs a b c d e) = refl
+value-text used (durationIs a b c) = refl
+value-text used (markedIs x v) = refl
 
 -- ---- what was found, from its parts
 module _ (R : Rules) (o : List ℕ) (at : ℕ) (f : Found) (e : f ≡ parameterAt o at) where
-  module _ (k start l n : ℕ) (p : f ≡ found.Parameter k start l) (q : n ≡ pick (hasText (kindOf R k)) l 0) where
+  module _ (k start l n : ℕ) (p : f ≡ found.Parameter k start l) (g : Form) (m : g ≡ kindOf R k) (q : n ≡ textPart g l) where
     size : n ≡ length (textOf R (standing o k start l))
-    size = q ∙ sym (text-length R o k start l (omega (arith, found-inside o at f k start l e p)))
+    size =
+        q ∙ ap (λ (x : Form). textPart x l) m
+        ∙ sym (text-length R o k start l (omega (arith, found-inside o at f k start l e p)))
 
-    pub text-found : text.At start n (start + l) ≡ textAt R o at
+    pub text-within : n ≤ l
+    text-within = omega (arith, size, text-short R o k start l (omega (arith, found-inside o at f k start l e p)))
+
+    pub text-found : text.At (start + l - n) n (start + l) ≡ textAt R o at
     unfolding textAt textFrom
-    text-found = ap (λ (x : ℕ). text.At start x (start + l)) size ∙ ap (textFrom R o) (sym p ∙ e)
+    text-found = ap (λ (x : ℕ). text.At (start + l - x) x (start + l)) size ∙ ap (textFrom R o) (sym p ∙ e)
 
   pub entry-found : (k start l : ℕ) → f ≡ found.Parameter k start l → (n used : ℕ) (v : Value) (g : Form) →
       n ≡ textLong v → g ≡ kindOf R k → v ≡ valueAt used (meant g (take (start + l - start) (drop start o))) →

@@ -1,8 +1,7 @@
 -- What a read answers, and what the text area then holds (document 01, Drafts; Numbers: 1 to 6, then 8, then 7, then
 -- 9; document 02, Q-11: 10).
 -- Assumes nothing.
-use Prim.Native.Nat.{ℕ, _+_}
-use mathlib.Core.Bool.{Bool, true, false}
+use Prim.Native.Nat.{ℕ, _+_, _-_}
 use mathlib.Core.List.{List}
 use lib.ListN.{length, take, drop}
 use Rattle.rules.specs.Tests.{_≤?_, pick}
@@ -10,7 +9,7 @@ use Rattle.rules.specs.Table.{Rules, rulesOf}
 use Rattle.rules.specs.Editions.{known, bookOf}
 use Rattle.rules.specs.Message.{Parameter}
 use Rattle.rules.specs.declared.Form.{Form}
-use Rattle.rules.specs.declared.Form.the-variants.{DateValue, CodeValue, StateValue, TextValue, CarriedValue}
+use Rattle.rules.specs.declared.Form.the-variants.{DateValue, CodeValue, StateValue, TextValue, CarriedValue, MomentValue, DurationValue, MarkedValue}
 use Rattle.message.specs.Verdict.{verdictOf}
 use Rattle.message.specs.Parts.{parameterAt}
 use Rattle.message.specs.Parameters.{parametersIn, messageIn}
@@ -102,9 +101,10 @@ takenFrom R o used found.Nothing = taken.End
 unfoldable pub takenAt : Rules → List ℕ → ℕ → ℕ → Taken
 takenAt R o at used = takenFrom R o used (parameterAt o at)
 
--- where the text of the parameter at a place stands, and the place behind the parameter
+-- where the text of the parameter at a place stands, and the place behind the parameter, where the text ends
 unfoldable pub textFrom : Rules → List ℕ → Found → Text
-textFrom R o (found.Parameter k start n) = text.At start (length (textOf R (standing o k start n))) (start + n)
+textFrom R o (found.Parameter k start n) =
+    text.At (start + n - length (textOf R (standing o k start n))) (length (textOf R (standing o k start n))) (start + n)
 textFrom R o found.Nothing = text.End
 
 unfoldable pub textAt : Rules → List ℕ → ℕ → Text
@@ -117,11 +117,18 @@ textLong (value.Code x) = 0
 textLong (value.State s r) = 0
 textLong (value.Text start n) = n
 textLong (value.Carried start n) = n
+textLong (value.Moment m d h n s) = 0
+textLong (value.Duration h m s) = 0
+textLong (value.Marked x start n) = n
 
--- values of this kind have a text
-unfoldable pub hasText : Form → Bool
-hasText DateValue = false
-hasText CodeValue = false
-hasText StateValue = false
-hasText TextValue = true
-hasText CarriedValue = true
+-- how long the text of a value of this kind is that n octets of contents say: it is all of them, those behind the first
+-- (document 02, Q-4), or there is none
+unfoldable pub textPart : Form → ℕ → ℕ
+textPart DateValue n = 0
+textPart CodeValue n = 0
+textPart StateValue n = 0
+textPart TextValue n = n
+textPart CarriedValue n = n
+textPart MomentValue n = 0
+textPart DurationValue n = 0
+textPart MarkedValue n = n - 1

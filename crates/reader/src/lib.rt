@@ -10,18 +10,17 @@ use rules::Fault;
 use rules::Form;
 use rules::MOST;
 ghost use mathlib.Core.Path.{_≡_};
-ghost use Prim.Native.Nat.{_+_, _≤_};
+ghost use Prim.Native.Nat.{_+_, _-_, _≤_};
 ghost use lib.ListN.{length, take, drop};
 ghost use lib.ListN.{length as long};
-ghost use Rattle.rules.specs.Tests.{pick};
 ghost use Rattle.rules.specs.Table.{rulesOf};
 ghost use Rattle.rules.specs.Editions.{strict};
 ghost use Rattle.rules.specs.declared.Form.the-variants as form;
 ghost use Rattle.message.specs.Parameters.{parametersIn, messageIn};
-ghost use Rattle.draft.specs.Meaning.{kindOf, numberOf, digitsAt, meant};
+ghost use Rattle.draft.specs.Meaning.{kindOf, numberOf, digitsAt, secondsOf, meant};
 ghost use Rattle.rules.specs.Laying.{laid, laidAt};
 ghost use Rattle.draft.specs.Packing.{valueAt, draftOf, textsOf};
-ghost use Rattle.reader.specs.Read.{hasText, textLong, textSize, textAt, takenAt, roomFor, fittingOf, packOf, areaAfter, readOf, readIn, areaIn};
+ghost use Rattle.reader.specs.Read.{textPart, textLong, textSize, textAt, takenAt, roomFor, fittingOf, packOf, areaAfter, readOf, readIn, areaIn};
 
 // What becomes of the octets: how many text octets were laid down; or a number from 1 to 10 with its place.
 pub enum Packed {
@@ -70,7 +69,7 @@ fn number_of(a: u8, b: u8) -> u8
 }
 
 fn pair_at(contents: &[u8], i: usize) -> u8
-    requires { ⌜ i ≤ 6 ⌝ }
+    requires { ⌜ i ≤ 8 ⌝ }
     ensures { λ r. ⌜ r ≡ digitsAt (now (contents .entry)) i ⌝ }
 {
     number_of(message::octet(contents, i), message::octet(contents, i + 1))
@@ -103,6 +102,66 @@ fn state_of(contents: &[u8]) -> Value
     }
 }
 
+// The seconds behind a date, and one more; 0 where none were sent (document 02, Q-4).
+fn seconds_of(contents: &[u8]) -> u8
+    ensures { λ r. ⌜ r ≡ secondsOf (now (contents .entry)) ⌝ }
+{
+    if contents.len() <= 8 {
+        0
+    } else {
+        1 + pair_at(contents, 8)
+    }
+}
+
+fn moment_of(contents: &[u8]) -> Value
+    ensures { λ r. ⌜ r ≡ valueAt 0 (meant form.MomentValue (now (contents .entry))) ⌝ }
+{
+    let month = pair_at(contents, 0);
+    let day = pair_at(contents, 2);
+    let hour = pair_at(contents, 4);
+    let minute = pair_at(contents, 6);
+    let second = seconds_of(contents);
+    Value::Moment {
+        month,
+        day,
+        hour,
+        minute,
+        second,
+    }
+}
+
+fn duration_of(contents: &[u8]) -> Value
+    ensures { λ r. ⌜ r ≡ valueAt 0 (meant form.DurationValue (now (contents .entry))) ⌝ }
+{
+    let hours = pair_at(contents, 0);
+    let minutes = pair_at(contents, 2);
+    let seconds = pair_at(contents, 4);
+    Value::Duration {
+        hours,
+        minutes,
+        seconds,
+    }
+}
+
+// How many octets stand behind the first of so many.
+fn behind_first(length: usize) -> usize
+    ensures { λ r. ⌜ r ≡ length - 1 ⌝ }
+{
+    if length == 0 { 0 } else { length - 1 }
+}
+
+fn marked_of(contents: &[u8], at: usize) -> Value
+    ensures { λ r. ⌜ r ≡ valueAt at (meant form.MarkedValue (now (contents .entry))) ⌝ }
+{
+    let mark = message::octet(contents, 0);
+    let length = behind_first(contents.len());
+    Value::Marked {
+        mark,
+        start: at,
+        length,
+    }
+}
+
 // The value that contents say, its text to be packed at a place.
 fn value_of(kind: Form, contents: &[u8], at: usize) -> Value
     ensures { λ r. ⌜ r ≡ valueAt at (meant kind (now (contents .entry))) ⌝ }
@@ -119,18 +178,26 @@ fn value_of(kind: Form, contents: &[u8], at: usize) -> Value
             start: at,
             length: contents.len(),
         },
+        Form::MomentValue => moment_of(contents),
+        Form::DurationValue => duration_of(contents),
+        Form::MarkedValue => marked_of(contents, at),
     }
 }
 
-fn has_text(kind: Form) -> bool
-    ensures { λ r. ⌜ r ≡ hasText kind ⌝ }
+// How long the text of a value is that so many octets of contents say: it is all of them, those behind the first, or
+// there is none.
+fn text_part(kind: Form, length: usize) -> usize
+    ensures { λ r. ⌜ r ≡ textPart kind length ⌝ }
 {
     match kind {
-        Form::DateValue => false,
-        Form::CodeValue => false,
-        Form::StateValue => false,
-        Form::TextValue => true,
-        Form::CarriedValue => true,
+        Form::DateValue => 0,
+        Form::CodeValue => 0,
+        Form::StateValue => 0,
+        Form::TextValue => length,
+        Form::CarriedValue => length,
+        Form::MomentValue => 0,
+        Form::DurationValue => 0,
+        Form::MarkedValue => behind_first(length),
     }
 }
 
@@ -141,17 +208,7 @@ fn form_at(book: Book, kind: u8) -> Form
     rules::form_of(rules::class_of(book, kind))
 }
 
-// How long the text of a parameter is: its contents, or nothing.
-fn text_length(book: Book, kind: u8, length: u8) -> usize
-    ensures { λ r. ⌜ r ≡ pick (hasText (kindOf (rulesOf book) kind)) length 0 ⌝ }
-{
-    if has_text(form_at(book, kind)) {
-        length as usize
-    } else {
-        0
-    }
-}
-
+// A parameter's text ends where its contents end.
 fn text_at(book: Book, octets: &[u8], at: usize) -> Text
     ensures { λ r. ⌜ r ≡ textAt (rulesOf book) (now (octets .entry)) at ⌝ }
 {
@@ -161,11 +218,15 @@ fn text_at(book: Book, octets: &[u8], at: usize) -> Text
             kind,
             start,
             length,
-        } => Text::At {
-            start,
-            length: text_length(book, kind, length),
-            place: start + length as usize,
-        },
+        } => {
+            let place = start + length as usize;
+            let text = text_part(form_at(book, kind), length as usize);
+            Text::At {
+                start: place - text,
+                length: text,
+                place,
+            }
+        }
         Found::Nothing => Text::End,
     }
 }
@@ -304,6 +365,23 @@ fn text_long(v: Value) -> usize
         } => 0,
         Value::Text { start: _, length } => length,
         Value::Carried { start: _, length } => length,
+        Value::Moment {
+            month: _,
+            day: _,
+            hour: _,
+            minute: _,
+            second: _,
+        } => 0,
+        Value::Duration {
+            hours: _,
+            minutes: _,
+            seconds: _,
+        } => 0,
+        Value::Marked {
+            mark: _,
+            start: _,
+            length,
+        } => length,
     }
 }
 

@@ -1,10 +1,10 @@
 -- Contents at an index, as the code judges them: columns of which only the first is narrow, digits pair by pair; past
 -- the last octet any may stand.
 -- Assumes nothing.
-use mathlib.Core.Path.{_≡_, refl, sym, _∙_}
+use mathlib.Core.Path.{_≡_, refl, sym}
 use mathlib.Core.Bool.{Bool, true}
 use Prim.Native.Nat.{ℕ, zero, suc, _+_, _*_, _-_, _≤_, _<_}
-use mathlib.Core.List.{List, [], _∷_}
+use mathlib.Core.List.{List, [], _∷_, _++_}
 use lib.ListN.{length, drop}
 use native.Mathlib.Omega.{arith}
 use Rattle.rules.specs.Tests.{_=?_, pick}
@@ -60,7 +60,7 @@ module _ (d : Bool) where
   unfolding calendarBy
   at-day-ones rs i m x e = rw e
 
-  pair-late-by : (rs : List Range) (i m x : ℕ) → 2 * length rs ≤ i → x < 256 → true ≡ pairBy d rs i m x
+  pub pair-late-by : (rs : List Range) (i m x : ℕ) → 2 * length rs ≤ i → x < 256 → true ≡ pairBy d rs i m x
   unfolding pairBy
   pair-late-by [] i m x h l = sym (yes-le x 255 (omega arith))
   pair-late-by (r ∷ rs) zero m x h l = absurd (omega arith)
@@ -68,7 +68,7 @@ module _ (d : Bool) where
   pair-late-by (r ∷ rs) (suc (suc i)) m x h l = pair-late-by rs i m x (omega arith) l
 
   -- digit j of pair k
-  pair-within : (rs : List Range) (k i j m x : ℕ) (r : Range) (rest : List Range) → drop k rs ≡ r ∷ rest →
+  pub pair-within : (rs : List Range) (k i j m x : ℕ) (r : Range) (rest : List Range) → drop k rs ≡ r ∷ rest →
       2 * k + j ≡ i → j < 2 → pick (j =? 0) (tensBy d r x) (onesBy d r m x) ≡ pairBy d rs i m x
   unfolding pairBy pick _=?_
   pair-within [] zero i j m x r rest e l h = clash cc
@@ -99,8 +99,25 @@ module _ (d : Bool) where
   past-date rs (suc (suc (suc zero))) m x h l = absurd (omega arith)
   past-date rs (suc (suc (suc (suc i)))) m x h l = pair-late-by rs i m x (omega arith) l
 
+  -- ranges behind have no part in the pairs before them
+  pair-front : (rs q : List Range) (i m x : ℕ) → i < 2 * length rs → pairBy d rs i m x ≡ pairBy d (rs ++ q) i m x
+  unfolding pairBy
+  pair-front [] q i m x h = absurd (omega arith)
+  pair-front (r ∷ rs) q zero m x h = refl
+  pair-front (r ∷ rs) q (suc zero) m x h = refl
+  pair-front (r ∷ rs) q (suc (suc i)) m x h = pair-front rs q i m x (omega arith)
+
+  pub date-front : (rs q : List Range) (i m x : ℕ) → i < 4 + 2 * length rs →
+      calendarBy d rs i m x ≡ calendarBy d (rs ++ q) i m x
+  unfolding calendarBy
+  date-front rs q zero m x h = refl
+  date-front rs q (suc zero) m x h = refl
+  date-front rs q (suc (suc zero)) m x h = refl
+  date-front rs q (suc (suc (suc zero))) m x h = refl
+  date-front rs q (suc (suc (suc (suc i)))) m x h = pair-front rs q i m x (omega arith)
+
 -- judged by whether it is a digit, an octet of a date is judged by the calendar
-pair-by : (rs : List Range) (i m x : ℕ) → pairBy (digit x) rs i m x ≡ pairAt rs i m x
+pub pair-by : (rs : List Range) (i m x : ℕ) → pairBy (digit x) rs i m x ≡ pairAt rs i m x
 unfolding pairBy pairAt tensFit onesFit
 pair-by [] i m x = refl
 pair-by (r ∷ rs) zero m x = refl

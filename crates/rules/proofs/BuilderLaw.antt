@@ -1,4 +1,4 @@
--- Three of the builders of classes (pairs, columns, text) make lawful classes; and what other classes need of sets,
+-- Four of the builders of classes (pairs, columns, text, headed) make lawful classes; and what other classes need of sets,
 -- lengths and pairs.
 -- Assumes nothing.
 use Prim.Native.Nat.{ℕ, zero, suc, _+_, _*_, _-_, _/_, _≤_, _<_}
@@ -11,8 +11,8 @@ use lib.ListN.{length}
 use lib.Dec.{T}
 use Rattle.rules.specs.Tests.{_≤?_, _and_, every}
 use Rattle.rules.proofs.Tests.{both, join, either, left, le-of, of-le, every-head, every-tail}
-use Rattle.rules.specs.Contents.{Range, within, inSet, pairs, columns, text, only, digit, pairFits, pairsFit, columnsFit, allIn}
-use Rattle.rules.specs.ContentJudge.{passes, opens, tensFit, onesFit, pairAt, pairsJudge, columnAt, columnsJudge, textJudge}
+use Rattle.rules.specs.Contents.{Range, within, inSet, pairs, columns, text, headed, only, digit, pairFits, pairsFit, columnsFit, allIn, headFits}
+use Rattle.rules.specs.ContentJudge.{passes, opens, tensFit, onesFit, pairAt, pairsJudge, columnAt, columnsJudge, textJudge, headBy, headedJudge}
 use Rattle.rules.proofs.ClassLaw.{Lawful}
 
 -- ---- what the proofs ask of a table, computed: a set has a member and octets only, a range a number of two digits,
@@ -51,7 +51,7 @@ most-253 (l ∷ ls) n s t = go (most-253 ls n (both _ _ s .1)) (either _ _ t)
     go f (inl e) = omega (arith, le-of _ _ (both _ _ (both _ _ s .0) .1), le-of _ _ (both _ _ e .1))
     go f (inr e) = f e
 
-only-is : (k n : ℕ) → T (inSet (only k) n) → n ≡ k
+pub only-is : (k n : ℕ) → T (inSet (only k) n) → n ≡ k
 unfolding inSet within
 only-is k n t = go (either _ _ t)
   where
@@ -59,7 +59,7 @@ only-is k n t = go (either _ _ t)
     go (inl e) = let a = le-of _ _ (both _ _ e .0) in let b = le-of _ _ (both _ _ e .1) in omega arith
     go (inr e) = absurd e
 
-is-only : (k n : ℕ) → n ≡ k → T (inSet (only k) n)
+pub is-only : (k n : ℕ) → n ≡ k → T (inSet (only k) n)
 unfolding inSet within
 is-only k n e = left _ _ (join _ _ (of-le _ _ (omega arith)) (of-le _ _ (omega arith)))
 
@@ -289,4 +289,43 @@ text-lawful ls s k =
       fit-length = λ v t. both _ _ t .0;
       fit-from = λ v t. rw text-from (both _ _ t .1);
       from-fit = λ v l t. join _ _ l (rw text-from at t);
+    }
+
+-- ---- one octet, and a text behind it
+head-text : (h s : List Range) (n i : ℕ) (v : List ℕ) → passes (headedJudge h s) n (suc i) 0 v ≡ allIn s v
+unfolding passes allIn headBy
+head-text h s n i [] = refl
+head-text h s n i (x ∷ v) = ap (λ (q : Bool). inSet s x and q) (head-text h s n (suc i) v)
+
+head-from : (h s : List Range) (n : ℕ) (v : List ℕ) → 1 ≤ length v → passes (headedJudge h s) n 0 0 v ≡ headFits h s v
+unfolding passes headBy headFits
+head-from h s n [] l = absurd (omega arith)
+head-from h s n (x ∷ v) l = ap (λ (q : Bool). inSet h x and q) (head-text h s n 0 v)
+
+head-next : (h s : List Range) (i : ℕ) → T (soundSet h) → T (soundSet s) → (x : ℕ) × T (headBy (inSet s x) h i x)
+unfolding headBy
+head-next h s zero a b = set-next h a
+head-next h s (suc i) a b = set-next s b
+
+head-octet : (h s : List Range) (i x : ℕ) → T (soundSet h) → T (soundSet s) → T (headBy (inSet s x) h i x) → x < 256
+unfolding headBy
+head-octet h s zero x a b t = set-octet h x (both _ _ a .1) t
+head-octet h s (suc i) x a b t = set-octet s x (both _ _ b .1) t
+
+pub headed-lawful : (ls h s : List Range) → T (soundLengths ls and (soundSet h and soundSet s)) →
+    Lawful (headed ls h s) (headedJudge h s)
+headed-lawful ls h s k =
+    let d = both _ _ k in
+    let e = both _ _ (d .1) in
+    record {
+      Mem = λ n i m. Unit {0};
+      start = λ n. tt;
+      push = λ n i m x t. tt;
+      next = λ n i m o. head-next h s i (e .0) (e .1);
+      octet = λ n i m x t. head-octet h s i x (e .0) (e .1) t;
+      least = λ n t. least ls n (d .0) t;
+      most = λ n t. most-253 ls n (d .0) t;
+      fit-length = λ v t. both _ _ t .0;
+      fit-from = λ v t. let f = both _ _ t in rw (head-from h s (length v) v (least ls (length v) (d .0) (f .0))) (f .1);
+      from-fit = λ v l t. join _ _ l (rw (head-from h s (length v) v (least ls (length v) (d .0) l)) at t);
     }

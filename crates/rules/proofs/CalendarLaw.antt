@@ -1,22 +1,24 @@
 -- Dates by the calendar make a lawful class (document 02, Q-2). A month has 29 to 31 days, so what is left of them
 -- from the tens on tells which ones may follow. So the octets of a date pass exactly as those of pairs do whose second
--- range is the days of the month that the first two name, and the law of pairs gives that of dates.
+-- range is the days of the month that the first two name, and the law of pairs gives that of dates. One more pair may
+-- stand behind a date, as the seconds do (document 02, Q-4).
 -- Assumes nothing.
 use Prim.Native.Nat.{ℕ, zero, suc, _+_, _*_, _-_, _≤_, _<_}
 use mathlib.Core.Path.{_≡_, refl, sym, _∙_, ap, ap₂}
 use mathlib.Core.Bool.{Bool, true, false}
 use mathlib.Core.Logic.{_⊎_, inl, inr}
-use mathlib.Core.List.{List, [], _∷_}
+use mathlib.Core.List.{List, [], _∷_, _++_}
 use native.Mathlib.Omega.{arith}
-use lib.ListN.{length}
+use lib.ListN.{length, length-append}
 use lib.Dec.{T}
 use Rattle.rules.specs.Tests.{_≤?_, _=?_, _and_, _or_, pick, every}
 use Rattle.rules.proofs.Tests.{both, join, either, left, right, le-of, of-le, not-le, decide, pick-case}
 use Rattle.rules.proofs.Returns.{same-truth}
-use Rattle.rules.specs.Contents.{Range, within, digit, only, pairs, shortMonth, days, monthOf, dated, calendar}
+use Rattle.rules.specs.Contents.{Range, within, inSet, digit, only, pairs, shortMonth, days, monthOf, dated, calendar, calendarOr}
 use Rattle.rules.specs.ContentJudge.{passes, passing, opens, tensFit, onesFit, dayFits, pairAt, pairsJudge, calendarAt, calendarKeep, calendarJudge}
 use Rattle.rules.proofs.ClassLaw.{Lawful}
-use Rattle.rules.proofs.BuilderLaw.{least, most-253, soundRange, soundLengths, PairMem, pair-start, pair-push, pair-next, pair-octet, digit-octet, range-tens, range-ones, pairs-lawful}
+use Rattle.rules.proofs.BuilderLaw.{least, most-253, only-is, is-only, soundRange, soundLengths, PairMem, pair-start, pair-push, pair-next, pair-octet, digit-octet, range-tens, range-ones, pairs-lawful}
+use Rattle.rules.proofs.AtIndex.{date-front, date-by}
 use Rattle.rules.proofs.Standing.{passing-all}
 
 abbrev Bounds : ℕ → Type 0
@@ -189,3 +191,93 @@ calendar-lawful rs s =
   where
     paired : (v : List ℕ) → Lawful (pairs (dated (monthOf v) rs)) (pairsJudge (dated (monthOf v) rs))
     paired v = pairs-lawful (dated (monthOf v) rs) (dated-sound rs (monthOf v) s)
+
+-- ---- one more pair behind a date
+calendar-front : (rs q : List Range) (i m x : ℕ) → i < 4 + 2 * length rs →
+    calendarAt rs i m x ≡ calendarAt (rs ++ q) i m x
+calendar-front rs q i m x h =
+    sym (date-by rs i m x) ∙ date-front (digit x) rs q i m x h ∙ date-by (rs ++ q) i m x
+
+front-passes : (rs q : List Range) (n i m : ℕ) (v : List ℕ) → i + length v ≤ 4 + 2 * length rs →
+    passes (calendarJudge rs) n i m v ≡ passes (calendarJudge (rs ++ q)) n i m v
+unfolding passes
+front-passes rs q n i m [] h = refl
+front-passes rs q n i m (x ∷ v) h =
+    ap₂ (λ (a b : Bool). a and b) (calendar-front rs q i m x (omega arith))
+    (front-passes rs q n (suc i) (calendarKeep i m x) v (omega arith))
+
+module _ (a b n : ℕ) where
+  one-of : T (inSet (only a ++ only b) n) → (n ≡ a) ⊎ (n ≡ b)
+  unfolding inSet
+  one-of t = go (either _ _ t)
+    where
+      go : T (within (a, a) n) ⊎ T (inSet (only b) n) → (n ≡ a) ⊎ (n ≡ b)
+      go (inl e) = inl (only-is a n (left _ _ e))
+      go (inr e) = inr (only-is b n e)
+
+  is-first : n ≡ a → T (inSet (only a ++ only b) n)
+  unfolding inSet
+  is-first e = left _ _ (within-only (is-only a n e))
+    where
+      within-only : T (inSet (only a) n) → T (within (a, a) n)
+      within-only t = go (either _ _ t)
+        where
+          go : T (within (a, a) n) ⊎ T false → T (within (a, a) n)
+          go (inl e) = e
+          go (inr e) = absurd e
+
+  is-second : n ≡ b → T (inSet (only a ++ only b) n)
+  unfolding inSet
+  is-second e = right _ _ (is-only b n e)
+
+module _ (rs : List Range) (r : Range) where
+  abbrev more : List Range
+  more = rs ++ r ∷ []
+
+  pub calendar-or-lawful : T (soundLengths (only (2 * suc (suc (length rs)))) and every soundRange rs) →
+      T (soundLengths (only (2 * suc (suc (length more)))) and every soundRange more) →
+      Lawful (calendarOr rs r) (calendarJudge more)
+  calendar-or-lawful s t =
+      let A = calendar-lawful rs s in
+      let B = calendar-lawful more t in
+      record {
+        Mem = B .Mem;
+        start = B .start;
+        push = B .push;
+        next = B .next;
+        octet = B .octet;
+        least = λ n l. limits A B n (one-of (2 * suc (suc (length rs))) (2 * suc (suc (suc (length rs)))) n l) .0;
+        most = λ n l. limits A B n (one-of (2 * suc (suc (length rs))) (2 * suc (suc (suc (length rs)))) n l) .1;
+        fit-length = λ v f. long A B v (either _ _ f);
+        fit-from = λ v f. from A B v (either _ _ f);
+        from-fit = λ v l p. fit A B v (one-of (2 * suc (suc (length rs))) (2 * suc (suc (suc (length rs)))) (length v) l) p;
+      }
+    where
+      longer : length more ≡ suc (length rs)
+      longer = omega (arith, length-append rs (r ∷ []))
+
+      limits : Lawful (calendar rs) (calendarJudge rs) → Lawful (calendar more) (calendarJudge more) → (n : ℕ) →
+          (n ≡ 2 * suc (suc (length rs))) ⊎ (n ≡ 2 * suc (suc (suc (length rs)))) → (1 ≤ n) × (n ≤ 253)
+      limits A B n (inl e) = let l = is-only _ n e in (A .least n l, A .most n l)
+      limits A B n (inr e) = let l = is-only (2 * suc (suc (length more))) n (omega (arith, e, longer)) in (B .least n l, B .most n l)
+
+      long : Lawful (calendar rs) (calendarJudge rs) → Lawful (calendar more) (calendarJudge more) → (v : List ℕ) →
+          T (calendar rs .fits v) ⊎ T (calendar more .fits v) → T (inSet (calendarOr rs r .lengths) (length v))
+      long A B v (inl f) = is-first (2 * suc (suc (length rs))) (2 * suc (suc (suc (length rs)))) (length v) (only-is (2 * suc (suc (length rs))) (length v) (A .fit-length v f))
+      long A B v (inr f) =
+          is-second (2 * suc (suc (length rs))) (2 * suc (suc (suc (length rs)))) (length v) (omega (arith, only-is (2 * suc (suc (length more))) (length v) (B .fit-length v f), longer))
+
+      from : Lawful (calendar rs) (calendarJudge rs) → Lawful (calendar more) (calendarJudge more) → (v : List ℕ) →
+          T (calendar rs .fits v) ⊎ T (calendar more .fits v) → T (passes (calendarJudge more) (length v) 0 0 v)
+      from A B v (inl f) =
+          rw (← front-passes rs (r ∷ []) (length v) 0 0 v (omega (arith, only-is _ _ (A .fit-length v f))))
+          (A .fit-from v f)
+      from A B v (inr f) = B .fit-from v f
+
+      fit : Lawful (calendar rs) (calendarJudge rs) → Lawful (calendar more) (calendarJudge more) → (v : List ℕ) →
+          (length v ≡ 2 * suc (suc (length rs))) ⊎ (length v ≡ 2 * suc (suc (suc (length rs)))) →
+          T (passes (calendarJudge more) (length v) 0 0 v) → T (calendarOr rs r .fits v)
+      fit A B v (inl e) p =
+          left _ _ (A .from-fit v (is-only _ _ e)
+          (rw (front-passes rs (r ∷ []) (length v) 0 0 v (omega (arith, e))) p))
+      fit A B v (inr e) p = right _ _ (B .from-fit v (is-only (2 * suc (suc (length more))) (length v) (omega (arith, e, longer))) p)

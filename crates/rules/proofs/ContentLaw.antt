@@ -17,9 +17,12 @@ use Rattle.rules.specs.declared.Book.the-variants.{PresentStrict, Presen
 use Rattle.rules.specs.ContentJudge.{judgeOf}
 use Rattle.rules.proofs.ClassLaw.{Lawful}
 use Rattle.rules.specs.declared.Class.{Class}
-use Rattle.rules.specs.declared.Class.the-variants.{Date, Number, Absent, Name, Lamp, Identity, CallType, Waiting, Forwarded, User, Carried, OldNumber, ShortText, OldForwarded, OldUser, Unlisted}
-use Rattle.rules.proofs.BuilderLaw.{anyIn, columns-lawful, text-lawful}
-use Rattle.rules.proofs.CalendarLaw.{calendar-lawful}
+use Rattle.rules.specs.declared.Class.the-variants.{Carried, Date, Number, Absent, Name, Lamp, Identity, CallType, Waiting, Forwarded, User, ShortText, Moment, Charge, Duration, Terminal, Display, Service, Extension, OldNumber, OldForwarded, OldUser, Unlisted}
+use Rattle.rules.proofs.BuilderLaw.{anyIn, pairs-lawful, columns-lawful, text-lawful, headed-lawful}
+use Rattle.rules.proofs.CalendarLaw.{calendar-lawful, calendar-or-lawful}
+use Rattle.rules.proofs.ChargeLaw.{charge-lawful}
+use Rattle.rules.proofs.TerminalLaw.{terminal-lawful}
+use Rattle.rules.proofs.ExtensionLaw.{extension-lawful}
 
 -- ---- each class is lawful
 pub lawful : (c : Class) → Lawful (whole c) (judgeOf c)
@@ -34,12 +37,19 @@ lawful CallType = columns-lawful _ tt
 lawful Waiting = columns-lawful _ tt
 lawful Forwarded = columns-lawful _ tt
 lawful User = columns-lawful _ tt
-lawful Carried = text-lawful _ _ tt
-lawful OldNumber = text-lawful _ _ tt
 lawful ShortText = text-lawful _ _ tt
+lawful Moment = calendar-or-lawful _ _ tt tt
+lawful Charge = charge-lawful
+lawful Duration = pairs-lawful _ tt
+lawful Terminal = terminal-lawful _ tt
+lawful Display = headed-lawful _ _ _ tt
+lawful Service = columns-lawful _ tt
+lawful Extension = extension-lawful _ tt
+lawful OldNumber = text-lawful _ _ tt
 lawful OldForwarded = columns-lawful _ tt
 lawful OldUser = columns-lawful _ tt
 lawful Unlisted = text-lawful _ _ tt
+lawful Carried = text-lawful _ _ tt
 
 -- ---- what the proofs ask of a set of rules
 -- 02H takes the lengths 1, 2 and 3, of which every ending is made

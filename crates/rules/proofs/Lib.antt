@@ -12,6 +12,9 @@ pub mod Endings
 pub mod ClassLaw
 pub mod BuilderLaw
 pub mod CalendarLaw
+pub mod ChargeLaw
+pub mod TerminalLaw
+pub mod ExtensionLaw
 pub mod ContentLaw
 pub mod Sizes
 pub mod Remaining
@@ -27,8 +30,10 @@ pub mod Table
 pub mod OctetRows
 pub mod Rivals
 pub mod AtIndex
+pub mod Linked
 pub mod Standing
 pub mod Asked
+pub mod Marked
 pub mod Unlisted
 pub mod Ways
 pub mod Settled

@@ -5,14 +5,14 @@
 use mathlib.Core.Path.{_≡_, refl, sym, _∙_, ap}
 use mathlib.Core.Bool.{Bool, true, false}
 use mathlib.Core.List.{List}
-use Prim.Native.Nat.{ℕ, zero, suc, _+_, _*_, _-_, _≤_, _<_}
+use Prim.Native.Nat.{ℕ, zero, suc, _+_, _*_, _-_, _≤_}
 use native.Mathlib.Omega.{arith}
 use lib.Dec.{T, leb, leb→le, le→leb}
 use lib.ListN.{length}
 use Rattle.rules.specs.Tests.{_≤?_, _=?_, _and_, _or_, pick}
-use Rattle.rules.specs.Contents.{Range, within, inSet, digit}
+use Rattle.rules.specs.Contents.{Range, within, inSet, digit, letter}
 use Rattle.rules.specs.ContentJudge.{opens, tensBy, tensFit, onesFit}
-use Rattle.rules.specs.Table.{numberSet, nameSet, oldNumberSet}
+use Rattle.rules.specs.Table.{oldNumberSet}
 use Rattle.rules.specs.OctetRows.{bit, kindsOf, Rowed, ContentKind, digits, numbers, names, admitted, kindSet}
 use Rattle.rules.proofs.Tests.{le-of, of-le, both, join}
 use Rattle.rules.proofs.Returns.{T-of, same-truth}
@@ -32,33 +32,41 @@ unfolding kindRows
 rowed = record { long = tabled-long kindsOf 0 256; row = λ x h. at kindsOf 256 x h }
 
 -- ---- each bit of a row
-kind-bit : (kind : ℕ) → ContentKind kind → (a b c : Bool) →
-    admitted (bit a + 2 * bit b + 4 * bit c) kind ≡ pick (kind =? 1) a (pick (kind =? 2) b c)
-unfolding admitted bit pick _=?_
-kind-bit k digits true true true = refl
-kind-bit k digits true true false = refl
-kind-bit k digits true false true = refl
-kind-bit k digits true false false = refl
-kind-bit k digits false true true = refl
-kind-bit k digits false true false = refl
-kind-bit k digits false false true = refl
-kind-bit k digits false false false = refl
-kind-bit k numbers true true true = refl
-kind-bit k numbers true true false = refl
-kind-bit k numbers true false true = refl
-kind-bit k numbers true false false = refl
-kind-bit k numbers false true true = refl
-kind-bit k numbers false true false = refl
-kind-bit k numbers false false true = refl
-kind-bit k numbers false false false = refl
-kind-bit k names true true true = refl
-kind-bit k names true true false = refl
-kind-bit k names true false true = refl
-kind-bit k names true false false = refl
-kind-bit k names false true true = refl
-kind-bit k names false true false = refl
-kind-bit k names false false true = refl
-kind-bit k names false false false = refl
+-- two tests of four agree where they do in all sixteen cases
+abbrev Cases : (Bool → Bool → Type 0) → Type 0
+Cases P = P true true × P true false × P false true × P false false
+
+each : (P : Bool → Bool → Type 0) → Cases P → (a b : Bool) → P a b
+each P h true true = h .0
+each P h true false = h .1
+each P h false true = h .2
+each P h false false = h .3
+
+four-alike : (f g : Bool → Bool → Bool → Bool → Bool) →
+    Cases (λ (a b : Bool). Cases (λ (c d : Bool). f a b c d ≡ g a b c d)) → (a b c d : Bool) → f a b c d ≡ g a b c d
+four-alike f g h a b c d =
+    each (λ (c d : Bool). f a b c d ≡ g a b c d)
+    (each (λ (a b : Bool). Cases (λ (c d : Bool). f a b c d ≡ g a b c d)) h a b) c d
+
+first-bit : (a b c d : Bool) → admitted (bit a + 2 * bit b + 4 * bit c + 8 * bit d) 1 ≡ a
+unfolding admitted bit _=?_
+first-bit = four-alike (λ (a b c d : Bool). admitted (bit a + 2 * bit b + 4 * bit c + 8 * bit d) 1) (λ (a b c d : Bool). a)
+    ((refl, refl, refl, refl), (refl, refl, refl, refl), (refl, refl, refl, refl), (refl, refl, refl, refl))
+
+second-bit : (a b c d : Bool) → admitted (bit a + 2 * bit b + 4 * bit c + 8 * bit d) 2 ≡ b
+unfolding admitted bit _=?_
+second-bit = four-alike (λ (a b c d : Bool). admitted (bit a + 2 * bit b + 4 * bit c + 8 * bit d) 2) (λ (a b c d : Bool). b)
+    ((refl, refl, refl, refl), (refl, refl, refl, refl), (refl, refl, refl, refl), (refl, refl, refl, refl))
+
+third-bit : (a b c d : Bool) → admitted (bit a + 2 * bit b + 4 * bit c + 8 * bit d) 4 ≡ c
+unfolding admitted bit _=?_
+third-bit = four-alike (λ (a b c d : Bool). admitted (bit a + 2 * bit b + 4 * bit c + 8 * bit d) 4) (λ (a b c d : Bool). c)
+    ((refl, refl, refl, refl), (refl, refl, refl, refl), (refl, refl, refl, refl), (refl, refl, refl, refl))
+
+fourth-bit : (a b c d : Bool) → admitted (bit a + 2 * bit b + 4 * bit c + 8 * bit d) 8 ≡ d
+unfolding admitted bit _=?_
+fourth-bit = four-alike (λ (a b c d : Bool). admitted (bit a + 2 * bit b + 4 * bit c + 8 * bit d) 8) (λ (a b c d : Bool). d)
+    ((refl, refl, refl, refl), (refl, refl, refl, refl), (refl, refl, refl, refl), (refl, refl, refl, refl))
 
 last-of : (b : Bool) → b ≡ (b or false)
 unfolding _or_
@@ -69,24 +77,24 @@ one-digit : (x : ℕ) → digit x ≡ inSet oldNumberSet x
 unfolding digit inSet
 one-digit x = last-of _
 
-set-of : (kind : ℕ) → ContentKind kind → (x : ℕ) →
-    pick (kind =? 1) (digit x) (pick (kind =? 2) (inSet numberSet x) (inSet nameSet x)) ≡ inSet (kindSet kind) x
-unfolding kindSet pick _=?_
-set-of kind digits x = one-digit x
-set-of kind numbers x = refl
-set-of kind names x = refl
-
 -- what a row says of a kind is what the rules say of its octet
 pub admits-kind : (kind : ℕ) → ContentKind kind → (x row : ℕ) → row ≡ kindsOf x →
     admitted row kind ≡ inSet (kindSet kind) x
+unfolding kindsOf kindSet pick _=?_
+admits-kind kind digits x row e = ap (λ (r : ℕ). admitted r 1) e ∙ first-bit _ _ _ _ ∙ one-digit x
+admits-kind kind numbers x row e = ap (λ (r : ℕ). admitted r 2) e ∙ second-bit _ _ _ _
+admits-kind kind names x row e = ap (λ (r : ℕ). admitted r 4) e ∙ third-bit _ _ _ _
+
+-- and of letters
+pub row-letter : (x row : ℕ) → row ≡ kindsOf x → admitted row 8 ≡ letter x
 unfolding kindsOf
-admits-kind kind k x row e = ap (λ (r : ℕ). admitted r kind) e ∙ kind-bit kind k _ _ _ ∙ set-of kind k x
+row-letter x row e = ap (λ (r : ℕ). admitted r 8) e ∙ fourth-bit _ _ _ _
 
 -- ---- digits
 -- a row says whether its octet is a digit
 pub row-digit : (x row : ℕ) → row ≡ kindsOf x → admitted row 1 ≡ digit x
-unfolding kindsOf pick _=?_
-row-digit x row e = ap (λ (k : ℕ). admitted k 1) e ∙ kind-bit 1 digits _ _ _
+unfolding kindsOf
+row-digit x row e = ap (λ (k : ℕ). admitted k 1) e ∙ first-bit _ _ _ _
 
 pub tens-row : (x row : ℕ) (r : Range) → row ≡ kindsOf x → tensBy (admitted row 1) r x ≡ tensFit r x
 unfolding tensFit

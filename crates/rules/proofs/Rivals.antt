@@ -7,14 +7,12 @@ use mathlib.Core.List.{List, [], _∷_}
 use Prim.Native.Nat.{ℕ, _<_}
 use lib.ListN.{getD}
 use lib.Dec.{T}
-use Rattle.rules.specs.Tests.{_≤?_, _=?_, _and_, _or_, pick, every}
+use Rattle.rules.specs.Tests.{_=?_, _and_, _or_, pick, every}
 use Rattle.rules.proofs.Tests.{pick-not, eq-of, both}
-use Rattle.rules.proofs.Returns.{pick-t, pick-f, yes-eq, no-eq, holds}
-use Rattle.rules.specs.Contents.{someLength}
-use Rattle.rules.specs.Table.{Row, rulesOf, oldBook, rowIn, rowOf, listedIn, listed, classFault, whole, classOf, rivalOf}
-use Rattle.rules.specs.Codes.{classCode, strictClass}
+use Rattle.rules.proofs.Returns.{pick-t, pick-f, yes-eq, no-eq, holds, T-of}
+use Rattle.rules.specs.Table.{Row, rulesOf, oldBook, plainRow, rows01, rowsOld, rowIn, rowOf, listedIn, listed, classOf, rivalOf}
+use Rattle.rules.specs.Codes.{classCode}
 use Rattle.rules.specs.declared.Class.{Class}
-use Rattle.rules.specs.declared.Class.the-variants.{Unlisted}
 use Rattle.rules.specs.declared.Book.{Book}
 use Rattle.rules.specs.declared.Book.the-variants.{PresentStrict, PresentLenient, OldStrict, OldLenient}
 use Rattle.rules.proofs.Table.{tabled, at}
@@ -29,9 +27,13 @@ pub row-past : (w : Class) (d r : Row) (rs : List Row) (t : ℕ) → (t ≡ r .k
 unfolding rowIn
 row-past w d r rs t n e = e ∙ sym (ap (λ (q : Row). q .class) (pick-not _ _ _ (λ x. n (eq-of _ _ x))))
 
+pub last-row : (w : Class) (d : Row) (t : ℕ) → w ≡ d .class → w ≡ rowIn d [] t .class
+unfolding rowIn
+last-row w d t e = e
+
 -- ---- the types with a row: those whose class is neither carried nor unlisted
 unfoldable pub rowed : Class → Bool
-rowed c = pick (classCode c =? 0) false (pick (classCode c =? 15) false true)
+rowed c = pick (classCode c =? 0) false (pick (classCode c =? 22) false true)
 
 listed-in : (d : Row) (rs : List Row) (t : ℕ) → rowed (d .class) ≡ false →
     T (every (λ (r : Row). rowed (r .class)) rs) → rowed (rowIn d rs t .class) ≡ listedIn rs t
@@ -56,53 +58,32 @@ module _ (b : Book) (t k : ℕ) (e : k ≡ classCode (classOf (rulesOf b) t)) wh
   unfolding rowed
   not-carried z = pick-t _ _ _ _ (yes-eq _ _ (sym e ∙ z)) refl ∙ listed-are b t
 
-  pub not-unlisted : (k ≡ 0 → ⊥) → k ≡ 15 → false ≡ listed (rulesOf b) t
+  pub not-unlisted : (k ≡ 0 → ⊥) → k ≡ 22 → false ≡ listed (rulesOf b) t
   unfolding rowed
   not-unlisted n z =
       pick-f _ _ _ _ (no-eq _ _ (λ x. n (e ∙ x))) (pick-t _ _ _ _ (yes-eq _ _ (sym e ∙ z)) refl) ∙ listed-are b t
 
-  pub with-row : (k ≡ 0 → ⊥) → (k ≡ 15 → ⊥) → true ≡ listed (rulesOf b) t
+  pub with-row : (k ≡ 0 → ⊥) → (k ≡ 22 → ⊥) → true ≡ listed (rulesOf b) t
   unfolding rowed
   with-row n u =
       pick-f _ _ _ _ (no-eq _ _ (λ x. n (e ∙ x))) (pick-f _ _ _ _ (no-eq _ _ (λ x. u (e ∙ x))) refl) ∙ listed-are b t
 
--- ---- the strict way differs in the carried class alone, which no row has
-kept : (c : Class) → T (rowed c) → strictClass c ≡ c
-unfolding rowed strictClass pick
-kept c h = go (classCode c =? 0) _ h
-  where
-    go : (b x : Bool) → T (pick b false x) → pick b Unlisted c ≡ c
-    go true x h = absurd h
-    go false x h = refl
+-- ---- a book's class is that of its edition's rows, and of its own class where there is none
+pub in-old : (b : Book) (t : ℕ) (o r : Class) → o ≡ rulesOf b .others → oldBook b ≡ true →
+    r ≡ rowIn (plainRow t o) rowsOld t .class → r ≡ classOf (rulesOf b) t
+unfolding oldBook rulesOf classOf rowOf
+in-old PresentStrict t o r e f q = absurd (T-of false f)
+in-old PresentLenient t o r e f q = absurd (T-of false f)
+in-old OldStrict t o r e f q = q ∙ ap (λ (c : Class). rowIn (plainRow t c) rowsOld t .class) e
+in-old OldLenient t o r e f q = q ∙ ap (λ (c : Class). rowIn (plainRow t c) rowsOld t .class) e
 
-strict-in : (d e : Row) (rs : List Row) (t : ℕ) → strictClass (d .class) ≡ e .class →
-    T (every (λ (r : Row). rowed (r .class)) rs) → strictClass (rowIn d rs t .class) ≡ rowIn e rs t .class
-unfolding rowIn every pick
-strict-in d e [] t q h = q
-strict-in d e (r ∷ rs) t q h = go (strict-in d e rs t q (both _ _ h .1)) (t =? r .kind)
-  where
-    go : strictClass (rowIn d rs t .class) ≡ rowIn e rs t .class → (b : Bool) →
-        strictClass (pick b r (rowIn d rs t) .class) ≡ pick b r (rowIn e rs t) .class
-    go ih true = kept _ (both _ _ h .0)
-    go ih false = ih
-
-strict-present : (t : ℕ) → strictClass (classOf (rulesOf PresentLenient) t) ≡ classOf (rulesOf PresentStrict) t
-unfolding rowed classCode strictClass classOf rowOf rulesOf every _and_ pick _=?_
-strict-present t = strict-in _ _ _ t refl tt
-
-strict-old : (t : ℕ) → strictClass (classOf (rulesOf OldLenient) t) ≡ classOf (rulesOf OldStrict) t
-unfolding rowed classCode strictClass classOf rowOf rulesOf every _and_ pick _=?_
-strict-old t = strict-in _ _ _ t refl tt
-
--- a book's class is that of its edition, which the strict way takes what is carried out of
-pub book-class : (b : Book) (t : ℕ) (c r : Class) (o : Bool) → o ≡ oldBook b →
-    c ≡ pick o (classOf (rulesOf OldLenient) t) (classOf (rulesOf PresentLenient) t) →
-    r ≡ pick (classFault (rulesOf b .others) =? 10) (strictClass c) c → r ≡ classOf (rulesOf b) t
-unfolding oldBook rulesOf classFault someLength whole pick _=?_ _≤?_ _or_
-book-class PresentStrict t c r o d e q = q ∙ ap strictClass (rw d at e) ∙ strict-present t
-book-class PresentLenient t c r o d e q = q ∙ (rw d at e)
-book-class OldStrict t c r o d e q = q ∙ ap strictClass (rw d at e) ∙ strict-old t
-book-class OldLenient t c r o d e q = q ∙ (rw d at e)
+pub in-present : (b : Book) (t : ℕ) (o r : Class) → o ≡ rulesOf b .others → oldBook b ≡ false →
+    r ≡ rowIn (plainRow t o) rows01 t .class → r ≡ classOf (rulesOf b) t
+unfolding oldBook rulesOf classOf rowOf
+in-present PresentStrict t o r e f q = q ∙ ap (λ (c : Class). rowIn (plainRow t c) rows01 t .class) e
+in-present PresentLenient t o r e f q = q ∙ ap (λ (c : Class). rowIn (plainRow t c) rows01 t .class) e
+in-present OldStrict t o r e f q = absurd (T-of false (sym f))
+in-present OldLenient t o r e f q = absurd (T-of false (sym f))
 
 -- ---- the pairs as the code has them
 unfoldable pub rivals : ℕ → ℕ

@@ -1,7 +1,7 @@
 -- How many octets of contents may stand where they stand: never more than there are, and all exactly where each
 -- passes. A text is gone along octet by octet, a date pair by pair; where only the first octet is judged, it decides.
 -- Assumes nothing.
-use Prim.Native.Nat.{ℕ, zero, suc, _+_, _-_, _≤_, _<_}
+use Prim.Native.Nat.{ℕ, suc, _+_, _-_, _≤_, _<_}
 use mathlib.Core.Path.{_≡_, refl, sym, _∙_, ap}
 use mathlib.Core.Bool.{Bool, true, false}
 use mathlib.Core.List.{List, [], _∷_}
@@ -12,7 +12,7 @@ use lib.Seq.{drop-cons, drop-drop}
 use Rattle.rules.specs.Tests.{_≤?_, _=?_, _and_, pick}
 use Rattle.rules.specs.Octets.{Octets}
 use Rattle.rules.specs.Contents.{Range, inSet}
-use Rattle.rules.specs.ContentJudge.{Judge, passes, passing, tensFit, onesFit, pairAt, pairStands, pairsJudge, textJudge, fitsFrom, goodFront}
+use Rattle.rules.specs.ContentJudge.{Judge, passes, passing, tensFit, onesFit, pairAt, pairStands, pairsJudge, textJudge, judgeOf, okAt, remember, fitsFrom, goodFront}
 use Rattle.rules.proofs.Octets.{octets-drop}
 use Rattle.rules.proofs.Tests.{both, eq-of, of-eq, le-of, of-le, pick-yes, pick-not}
 use Rattle.rules.proofs.Returns.{T-of, yes-eq, no-eq, same-truth}
@@ -89,6 +89,42 @@ module _ (s : List Range) (v : List ℕ) (i : ℕ) (inv : TextSoFar s v i) where
     pub text-stops : inSet s (getD v i 0) ≡ false → i ≡ passing (textJudge s) (length v) 0 0 v
     unfolding TextSoFar
     text-stops e = let q = here ∙ pick-not _ _ _ (λ t. rw e at t) in omega arith
+
+-- ---- any contents of a class, octet by octet: how many may stand where they stand, of contents that are to have n octets
+module _ (c : Class) (v : List ℕ) (n : ℕ) where
+  abbrev pub Stood : ℕ → ℕ → Type 0
+  Stood i m = i + passing (judgeOf c) n i m (drop i v) ≡ passing (judgeOf c) n 0 0 v
+
+  module _ (i m : ℕ) (h : i < length v) where
+    next : passing (judgeOf c) n i m (drop i v) ≡
+        pick (okAt c n i m (getD v i 0))
+        (suc (passing (judgeOf c) n (i + 1) (remember c n i m (getD v i 0)) (drop (i + 1) v))) 0
+    unfolding passing
+    next =
+        ap (passing (judgeOf c) n i m) (drop-cons v i 0 h)
+        ∙ ap (λ (k : ℕ). pick (okAt c n i m (getD v i 0))
+        (suc (passing (judgeOf c) n k (remember c n i m (getD v i 0)) (drop k v))) 0)
+        (sym (add-one i))
+
+    pub stood-more : (m′ : ℕ) → okAt c n i m (getD v i 0) ≡ true →
+        m′ ≡ remember c n i m (getD v i 0) → Stood i m → Stood (i + 1) m′
+    unfolding pick
+    stood-more m′ k r e =
+        let p : passing (judgeOf c) n i m (drop i v) ≡ suc (passing (judgeOf c) n (i + 1) m′ (drop (i + 1) v)) =
+        next ∙ rw (k, r) refl in
+        omega (arith, p, e)
+
+    pub stood-wrong : okAt c n i m (getD v i 0) ≡ false → Stood i m → i ≡ passing (judgeOf c) n 0 0 v
+    unfolding pick
+    stood-wrong k e =
+        let p : passing (judgeOf c) n i m (drop i v) ≡ 0 = next ∙ rw k refl in
+        omega (arith, p, e)
+
+  pub stood-all : (i m : ℕ) → length v ≤ i → Stood i m → i ≡ passing (judgeOf c) n 0 0 v
+  unfolding passing
+  stood-all i m h e =
+      let p : passing (judgeOf c) n i m (drop i v) ≡ 0 = ap (passing (judgeOf c) n i m) (drop-of-length-le v h) in
+      omega (arith, p, e)
 
 -- ---- a date
 module _ (n : ℕ) where

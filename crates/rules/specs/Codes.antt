@@ -7,7 +7,7 @@ use Rattle.rules.specs.Tests.{_≤?_, _=?_, pick}
 use Rattle.rules.specs.Contents.{Range, inSet, only}
 use Rattle.rules.specs.Editions.{lenient}
 use Rattle.rules.specs.declared.Class.{Class}
-use Rattle.rules.specs.declared.Class.the-variants.{Date, Number, Absent, Name, Lamp, Identity, CallType, Waiting, Forwarded, User, Carried, OldNumber, ShortText, OldForwarded, OldUser, Unlisted}
+use Rattle.rules.specs.declared.Class.the-variants.{Carried, Date, Number, Absent, Name, Lamp, Identity, CallType, Waiting, Forwarded, User, ShortText, Moment, Charge, Duration, Terminal, Display, Service, Extension, OldNumber, OldForwarded, OldUser, Unlisted}
 
 unfoldable pub classCode : Class → ℕ
 classCode Carried = 0
@@ -21,36 +21,50 @@ classCode CallType = 7
 classCode Waiting = 8
 classCode Forwarded = 9
 classCode User = 10
-classCode OldNumber = 11
-classCode ShortText = 12
-classCode OldForwarded = 13
-classCode OldUser = 14
-classCode Unlisted = 15
+classCode ShortText = 11
+classCode Moment = 12
+classCode Charge = 13
+classCode Duration = 14
+classCode Terminal = 15
+classCode Display = 16
+classCode Service = 17
+classCode Extension = 18
+classCode OldNumber = 19
+classCode OldForwarded = 20
+classCode OldUser = 21
+classCode Unlisted = 22
 
 -- the classes of the present edition's rows have the codes from 1 up to this one
 abbrev pub lastPresent : ℕ
-lastPresent = 10
+lastPresent = 18
 
--- and those of the old one: a date, absent, a lamp, and its own
+-- those of both editions' rows up to this one
+abbrev pub lastListed : ℕ
+lastListed = 21
+
+-- and those of the old one: a date, absent, a lamp, a short text, and its own
 abbrev pub oldCodes : List Range
-oldCodes = (1, 1) ∷ (3, 3) ∷ (5, 5) ∷ (11, 14) ∷ []
+oldCodes = (1, 1) ∷ (3, 3) ∷ (5, 5) ∷ (11, 11) ∷ (19, 21) ∷ []
 
 -- the code of a class that an edition has by a way: one of its rows (of an unknown edition, of any), or carried, but
 -- not by the strict way (document 02, Q-11)
 unfoldable pub codeIn : ℕ → ℕ → ℕ → Bool
 codeIn e w k =
     pick (k =? 0) (lenient ≤? w)
-    (pick (e =? 0) (k ≤? lastPresent) (pick (e =? 1) (inSet oldCodes k) (k ≤? 14)))
+    (pick (e =? 0) (k ≤? lastPresent) (pick (e =? 1) (inSet oldCodes k) (k ≤? lastListed)))
 
--- in the strict way a carried class has no contents
-unfoldable pub strictClass : Class → Class
-strictClass c = pick (classCode c =? 0) Unlisted c
-
--- the class of a code from 11 on
+-- the class of a code from 12 on
 unfoldable pub laterClass : ℕ → Class
 laterClass k =
-    pick (k =? 11) OldNumber (pick (k =? 12) ShortText
-    (pick (k =? 13) OldForwarded (pick (k =? 14) OldUser (pick (k =? 15) Unlisted Carried))))
+    pick (k =? 12) Moment
+    (pick (k =? 13) Charge
+    (pick (k =? 14) Duration
+    (pick (k =? 15) Terminal
+    (pick (k =? 16) Display
+    (pick (k =? 17) Service
+    (pick (k =? 18) Extension
+    (pick (k =? 19) OldNumber
+    (pick (k =? 20) OldForwarded (pick (k =? 21) OldUser (pick (k =? 22) Unlisted Carried))))))))))
 
 -- the class of a code; a code of none is read as carried
 unfoldable pub classCoded : ℕ → Class
@@ -64,7 +78,12 @@ classCoded k =
     (pick (k =? 7) CallType
     (pick (k =? 8) Waiting
     (pick (k =? 9) Forwarded
-    (pick (k =? 10) User (laterClass k))))))))))
+    (pick (k =? 10) User
+    (pick (k =? 11) ShortText (laterClass k)))))))))))
+
+-- the length of a class that its range has not; 0 where there is none
+unfoldable pub otherLength : Class → ℕ
+otherLength c = pick (classCode c =? 12) 10 0
 
 -- ---- the lengths of a class as the code has them
 -- the lengths from the least to the most, and one other (0 where there is none)

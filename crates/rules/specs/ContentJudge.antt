@@ -4,13 +4,16 @@
 -- Assumes nothing.
 use Prim.Native.Nat.{ℕ, zero, suc, _+_, _*_, _-_}
 use mathlib.Core.Bool.{Bool, true}
-use mathlib.Core.List.{List, [], _∷_}
+use mathlib.Core.List.{List, [], _∷_, _++_}
 use lib.ListN.{length}
 use Rattle.rules.specs.Tests.{_≤?_, _and_, _or_, pick}
-use Rattle.rules.specs.Contents.{Range, within, inSet, digit, days}
-use Rattle.rules.specs.Table.{timeRanges, numberSet, absentSet, nameSet, lampSet, identitySet, anyOctet, callTypeSet, forwardedSet, userSet, oldNumberSet, oldForwardedSet, oldUserSet}
+use Rattle.rules.specs.Contents.{Range, within, inSet, digit, letter, days}
+use Rattle.rules.specs.Charge.{chargeBy, chargeKeep}
+use Rattle.rules.specs.Terminal.{terminalBy, terminalKeep}
+use Rattle.rules.specs.Extension.{extensionBy, extensionKeep}
+use Rattle.rules.specs.Table.{timeRanges, secondRange, durationRanges, displaySet, serviceSet, numberSet, absentSet, nameSet, lampSet, identitySet, anyOctet, callTypeSet, forwardedSet, userSet, oldNumberSet, oldForwardedSet, oldUserSet}
 use Rattle.rules.specs.declared.Class.{Class}
-use Rattle.rules.specs.declared.Class.the-variants.{Date, Number, Absent, Name, Lamp, Identity, CallType, Waiting, Forwarded, User, Carried, OldNumber, ShortText, OldForwarded, OldUser, Unlisted}
+use Rattle.rules.specs.declared.Class.the-variants.{Carried, Date, Number, Absent, Name, Lamp, Identity, CallType, Waiting, Forwarded, User, ShortText, Moment, Charge, Duration, Terminal, Display, Service, Extension, OldNumber, OldForwarded, OldUser, Unlisted}
 
 -- of n octets, at index i, where m is remembered, for octet x
 pub record Judge : Type 0 where
@@ -27,7 +30,7 @@ unfoldable pub passing : Judge → ℕ → ℕ → ℕ → List ℕ → ℕ
 passing j n i m [] = 0
 passing j n i m (x ∷ v) = pick (j .ok n i m x) (suc (passing j n (suc i) (j .keep n i m x) v)) 0
 
--- ---- the judges of the four builders
+-- ---- the judges of the builders
 -- some number of the range has the tens m
 unfoldable pub opens : Range → ℕ → Bool
 opens r m = r .0 ≤? 10 * m + 9 and 10 * m ≤? r .1
@@ -98,6 +101,27 @@ columnsJudge ss = record { ok = λ n i m x. columnAt ss i x; keep = λ n i m x. 
 abbrev pub textJudge : List Range → Judge
 textJudge s = record { ok = λ n i m x. inSet s x; keep = λ n i m x. 0 }
 
+-- an octet out of the one set, then octets that d says to be out of the other
+unfoldable pub headBy : Bool → List Range → ℕ → ℕ → Bool
+headBy d h zero x = inSet h x
+headBy d h (suc i) x = d
+
+abbrev pub headedJudge : List Range → List Range → Judge
+headedJudge h s = record { ok = λ n i m x. headBy (inSet s x) h i x; keep = λ n i m x. 0 }
+
+-- ---- judges of their own
+abbrev pub chargeJudge : Judge
+chargeJudge =
+    record { ok = λ n i m x. chargeBy (digit x) (letter x) i m x; keep = λ n i m x. chargeKeep i m x }
+
+abbrev pub terminalJudge : List Range → Judge
+terminalJudge s =
+    record { ok = λ n i m x. terminalBy (inSet s x) n i m x; keep = λ n i m x. terminalKeep i m x }
+
+abbrev pub extensionJudge : List Range → Judge
+extensionJudge s =
+    record { ok = λ n i m x. extensionBy (digit x) (inSet s x) i m x; keep = λ n i m x. extensionKeep i x }
+
 -- ---- the judge of each class
 unfoldable pub judgeOf : Class → Judge
 judgeOf Date = calendarJudge timeRanges
@@ -111,8 +135,15 @@ judgeOf Waiting = columnsJudge (anyOctet ∷ [])
 judgeOf Forwarded = columnsJudge (forwardedSet ∷ [])
 judgeOf User = columnsJudge (userSet ∷ [])
 judgeOf Carried = textJudge anyOctet
-judgeOf OldNumber = textJudge oldNumberSet
 judgeOf ShortText = textJudge nameSet
+judgeOf Moment = calendarJudge (timeRanges ++ secondRange ∷ [])
+judgeOf Charge = chargeJudge
+judgeOf Duration = pairsJudge durationRanges
+judgeOf Terminal = terminalJudge numberSet
+judgeOf Display = headedJudge displaySet nameSet
+judgeOf Service = columnsJudge (serviceSet ∷ [])
+judgeOf Extension = extensionJudge nameSet
+judgeOf OldNumber = textJudge oldNumberSet
 judgeOf OldForwarded = columnsJudge (oldForwardedSet ∷ [])
 judgeOf OldUser = columnsJudge (oldUserSet ∷ [])
 judgeOf Unlisted = textJudge anyOctet

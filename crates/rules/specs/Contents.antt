@@ -1,10 +1,10 @@
--- What the contents of a parameter may be (document 01, The message; of a date, document 02, Q-2). A class of contents
--- is the lengths that they have and a rule over whole contents; four builders make such classes.
+-- What the contents of a parameter may be (document 01, The message; of a date, document 02, Q-2; document 02, Q-4). A
+-- class of contents is the lengths that they have and a rule over whole contents; six builders make such classes.
 -- Assumes nothing.
 use Rattle.rules.specs.Tests.{_≤?_, _=?_, _and_, _or_, pick}
 use Prim.Native.Nat.{ℕ, suc, _+_, _*_, _-_}
 use mathlib.Core.Bool.{Bool, true, false}
-use mathlib.Core.List.{List, [], _∷_}
+use mathlib.Core.List.{List, [], _∷_, _++_}
 use lib.ListN.{length, getD}
 
 -- the numbers from the first to the second
@@ -35,6 +35,10 @@ someLength (r ∷ s) = r .0 ≤? r .1 or someLength s
 -- 0 to 9
 unfoldable pub digit : ℕ → Bool
 digit x = within (48, 57) x
+
+-- A to Z
+abbrev pub letter : ℕ → Bool
+letter x = within (0x41, 0x5A) x
 
 -- two digits that make a number of the range
 unfoldable pub pairFits : Range → ℕ → ℕ → Bool
@@ -71,6 +75,13 @@ dated m rs = (1, 12) ∷ (1, days m) ∷ rs
 abbrev pub calendar : List Range → Whole
 calendar rs = record { lengths = only (2 * suc (suc (length rs))); fits = λ v. pairsFit (dated (monthOf v) rs) v }
 
+-- the same, perhaps with a number out of one more range behind
+abbrev pub calendarOr : List Range → Range → Whole
+calendarOr rs r = record {
+  lengths = only (2 * suc (suc (length rs))) ++ only (2 * suc (suc (suc (length rs))));
+  fits = λ v. pairsFit (dated (monthOf v) rs) v or pairsFit (dated (monthOf v) (rs ++ r ∷ [])) v;
+}
+
 unfoldable pub columnsFit : List (List Range) → List ℕ → Bool
 columnsFit [] [] = true
 columnsFit [] (x ∷ v) = false
@@ -88,3 +99,11 @@ allIn s (x ∷ v) = inSet s x and allIn s v
 -- octets out of a set, as many as one of the ranges of lengths has
 abbrev pub text : List Range → List Range → Whole
 text ls s = record { lengths = ls; fits = λ v. inSet ls (length v) and allIn s v }
+
+unfoldable pub headFits : List Range → List Range → List ℕ → Bool
+headFits h s [] = false
+headFits h s (x ∷ v) = inSet h x and allIn s v
+
+-- an octet out of one set, and behind it octets out of another
+abbrev pub headed : List Range → List Range → List Range → Whole
+headed ls h s = record { lengths = ls; fits = λ v. inSet ls (length v) and headFits h s v }

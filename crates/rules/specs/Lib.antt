@@ -3,6 +3,9 @@
 pub mod Tests
 pub mod Octets
 pub mod Contents
+pub mod Charge
+pub mod Terminal
+pub mod Extension
 pub mod Table
 pub mod Message
 pub mod Counting

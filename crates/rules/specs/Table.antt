@@ -1,19 +1,22 @@
--- The tables of the present edition (document 01, The message) and of the old one (document 02, Q-5; source 001): for
--- each parameter type its class of contents, the other type of its pair and its key in a listing;
--- for each class its contents, its kind of value in a draft and its style in a listing. A set of rules is such a
--- table.
+-- The tables of the present edition (document 01, The message; document 02, Q-4; source 004) and of the old one
+-- (document 02, Q-5; source 001): for each parameter type its class of contents, the other type of its pair and its
+-- key in a listing; for each class its contents, its kind of value in a draft and its style in a listing. A set of rules
+-- is such a table.
 -- Assumes nothing.
 use Rattle.rules.specs.Tests.{_=?_, _or_, pick}
-use Rattle.rules.specs.Contents.{Range, inSet, someLength, Whole, calendar, columns, text}
+use Rattle.rules.specs.Contents.{Range, inSet, someLength, Whole, only, pairs, calendar, calendarOr, columns, text, headed}
+use Rattle.rules.specs.Charge.{chargeFits}
+use Rattle.rules.specs.Terminal.{terminalFits}
+use Rattle.rules.specs.Extension.{extensionFits}
 use Prim.Native.Nat.{ℕ}
 use Prim.Native.String.{String, [] as nil, _∷_ as _then_}
 use Prim.Native.Char as char
 use mathlib.Core.Bool.{Bool, true, false}
 use mathlib.Core.List.{List, [], _∷_}
 use Rattle.rules.specs.declared.Form.{Form}
-use Rattle.rules.specs.declared.Form.the-variants.{DateValue, CodeValue, StateValue, TextValue, CarriedValue}
+use Rattle.rules.specs.declared.Form.the-variants.{DateValue, CodeValue, StateValue, TextValue, CarriedValue, MomentValue, DurationValue, MarkedValue}
 use Rattle.rules.specs.declared.Class.{Class}
-use Rattle.rules.specs.declared.Class.the-variants.{Date, Number, Absent, Name, Lamp, Identity, CallType, Waiting, Forwarded, User, Carried, OldNumber, ShortText, OldForwarded, OldUser, Unlisted}
+use Rattle.rules.specs.declared.Class.the-variants.{Carried, Date, Number, Absent, Name, Lamp, Identity, CallType, Waiting, Forwarded, User, ShortText, Moment, Charge, Duration, Terminal, Display, Service, Extension, OldNumber, OldForwarded, OldUser, Unlisted}
 use Rattle.rules.specs.declared.Book.{Book}
 use Rattle.rules.specs.declared.Book.the-variants.{PresentStrict, PresentLenient, OldStrict, OldLenient}
 
@@ -41,6 +44,14 @@ pub record Rules : Type 0 where
 -- hour, minute
 abbrev pub timeRanges : List Range
 timeRanges = (0, 23) ∷ (0, 59) ∷ []
+
+-- second
+abbrev pub secondRange : Range
+secondRange = (0, 59)
+
+-- hour up to 99, minute, second
+abbrev pub durationRanges : List Range
+durationRanges = (0, 99) ∷ (0, 59) ∷ secondRange ∷ []
 
 abbrev pub anyOctet : List Range
 anyOctet = (0, 255) ∷ []
@@ -73,6 +84,15 @@ forwardedSet = (0x00, 0x06) ∷ (0x80, 0xFF) ∷ []
 abbrev pub userSet : List Range
 userSet = (0x00, 0x0F) ∷ []
 
+-- what a display text is, without and with bit 8, stored information (source 004, 5.4.25)
+abbrev pub displaySet : List Range
+displaySet =
+    (0x00, 0x01) ∷ (0x03, 0x06) ∷ (0x70, 0x7F) ∷ (0x80, 0x81) ∷ (0x83, 0x86) ∷ (0xF0, 0xFF) ∷ []
+
+-- not active, active, and what operators use (source 004, 5.4.26)
+abbrev pub serviceSet : List Range
+serviceSet = (0x00, 0x01) ∷ (0x80, 0xFF) ∷ []
+
 -- the nine values of source 001
 abbrev pub oldUserSet : List Range
 oldUserSet = (0x00, 0x00) ∷ (0x03, 0x05) ∷ (0x0A, 0x0D) ∷ (0x0F, 0x0F) ∷ []
@@ -96,8 +116,15 @@ whole Waiting = columns (anyOctet ∷ [])
 whole Forwarded = columns (forwardedSet ∷ [])
 whole User = columns (userSet ∷ [])
 whole Carried = text ((1, 253) ∷ []) anyOctet
-whole OldNumber = text ((1, 18) ∷ []) oldNumberSet
 whole ShortText = text ((1, 20) ∷ []) nameSet
+whole Moment = calendarOr timeRanges secondRange
+whole Charge = record { lengths = only 14; fits = chargeFits }
+whole Duration = pairs durationRanges
+whole Terminal = record { lengths = (2, 21) ∷ []; fits = terminalFits numberSet }
+whole Display = headed ((1, 253) ∷ []) displaySet nameSet
+whole Service = columns (serviceSet ∷ [])
+whole Extension = record { lengths = only 10; fits = extensionFits nameSet }
+whole OldNumber = text ((1, 18) ∷ []) oldNumberSet
 whole OldForwarded = columns (oldForwardedSet ∷ [])
 whole OldUser = columns (oldUserSet ∷ [])
 whole Unlisted = text ((1, 0) ∷ []) anyOctet
@@ -114,8 +141,12 @@ unfoldable pub rowIn : Row → List Row → ℕ → Row
 rowIn d [] t = d
 rowIn d (r ∷ rs) t = pick (t =? r .kind) r (rowIn d rs t)
 
+-- that of a type without one
+abbrev pub plainRow : ℕ → Class → Row
+plainRow t c = record { kind = t; class = c; rival = t; key = [] }
+
 unfoldable pub rowOf : Rules → ℕ → Row
-rowOf R t = rowIn (record { kind = t; class = R .others; rival = t; key = [] }) (R .rows) t
+rowOf R t = rowIn (plainRow t (R .others)) (R .rows) t
 
 unfoldable pub listedIn : List Row → ℕ → Bool
 listedIn [] t = false
@@ -139,7 +170,7 @@ classFault c = pick (someLength (whole c .lengths)) 3 10
 unfoldable pub typeFault : Rules → ℕ → ℕ
 typeFault R t = classFault (classOf R t)
 
--- ---- document 01's rows, in the order of a listing
+-- ---- the present edition's rows, in the order of a listing: that of their types
 abbrev pub row : ℕ → Class → String → Row
 row t c k = record { kind = t; class = c; rival = t; key = ascii k }
 
@@ -157,15 +188,29 @@ rows01 =
     row 0x0B Lamp "lamp" ∷
     row 0x0D Identity "message" ∷
     row 0x0E Number "depositor" ∷
+    row 0x0F Moment "left-time" ∷
+    row 0x10 Number "network-caller" ∷
     row 0x11 CallType "call-type" ∷
     row 0x12 Number "first-called" ∷
     row 0x13 Waiting "waiting" ∷
     row 0x15 Forwarded "forwarded" ∷
     row 0x16 User "user" ∷
+    row 0x1A Number "redirecting" ∷
+    row 0x20 Charge "charge" ∷
+    row 0x21 Charge "additional-charge" ∷
+    row 0x22 Charge "extra-charge" ∷
+    row 0x23 Duration "duration" ∷
+    row 0x30 ShortText "provider" ∷
+    row 0x31 ShortText "carrier" ∷
+    row 0x40 Terminal "terminal" ∷
+    row 0x50 Display "display" ∷
+    row 0x55 Service "service" ∷
+    row 0xE0 Extension "extension" ∷
     []
 
--- ---- what a draft holds of a class (Drafts): the numbers of a date, a code, a state with a reference, a text, a
--- carried text
+-- ---- what a draft holds of a class (Drafts; document 02, Q-4): the numbers of a date, a code, a state with a
+-- reference, a text, a carried text; those of a date with its seconds, if they were sent; those of a duration; a first
+-- octet with a text
 unfoldable pub formOf : Class → Form
 formOf Date = DateValue
 formOf Number = TextValue
@@ -178,14 +223,23 @@ formOf Waiting = CodeValue
 formOf Forwarded = CodeValue
 formOf User = CodeValue
 formOf Carried = CarriedValue
-formOf OldNumber = TextValue
 formOf ShortText = TextValue
+formOf Moment = MomentValue
+formOf Charge = TextValue
+formOf Duration = DurationValue
+formOf Terminal = MarkedValue
+formOf Display = MarkedValue
+formOf Service = CodeValue
+formOf Extension = TextValue
+formOf OldNumber = TextValue
 formOf OldForwarded = CodeValue
 formOf OldUser = CodeValue
 formOf Unlisted = CarriedValue
 
 -- ---- how a listing prints a class (What showmsg prints): MM-DD HH:MM; the octets as they are; off or on; a state
--- and its reference; a number in decimal; two hex digits; not at all, but numbered
+-- and its reference; a number in decimal; two hex digits; not at all, but numbered. Since document 02, Q-4: MM-DD HH:MM
+-- and perhaps :SS; HH:MM:SS; a charge's currency, flags and octets; what a terminal is selected by; hex digits and a
+-- text
 pub data Style : Type 0 where
   clock : Style
   verbatim : Style
@@ -194,6 +248,11 @@ pub data Style : Type 0 where
   decimal : Style
   hex : Style
   numbered : Style
+  moment : Style
+  duration : Style
+  charge : Style
+  terminal : Style
+  display : Style
 
 unfoldable pub styleOf : Class → Style
 styleOf Date = clock
@@ -207,8 +266,15 @@ styleOf Waiting = decimal
 styleOf Forwarded = hex
 styleOf User = hex
 styleOf Carried = numbered
-styleOf OldNumber = verbatim
 styleOf ShortText = verbatim
+styleOf Moment = moment
+styleOf Charge = charge
+styleOf Duration = duration
+styleOf Terminal = terminal
+styleOf Display = display
+styleOf Service = hex
+styleOf Extension = verbatim
+styleOf OldNumber = verbatim
 styleOf OldForwarded = hex
 styleOf OldUser = hex
 styleOf Unlisted = numbered

@@ -1,5 +1,5 @@
 // A row for each octet (document 02, Q-7): the kinds of content that admit it, added up. 1 digits, as in dates and the
-// old edition's numbers; 2 numbers; 4 names. docs/FIELDBOOK.md has the same rows for print.
+// old edition's numbers; 2 numbers; 4 names; 8 letters A to Z, as in a currency. docs/FIELDBOOK.md has the same rows for print.
 pub const KINDS: [u8; 256] = [
     0, // 00
     0, // 01
@@ -66,32 +66,32 @@ pub const KINDS: [u8; 256] = [
     4, // 3E >
     4, // 3F ?
     4, // 40 @
-    4, // 41 A
-    4, // 42 B
-    4, // 43 C
-    4, // 44 D
-    4, // 45 E
-    4, // 46 F
-    4, // 47 G
-    4, // 48 H
-    4, // 49 I
-    4, // 4A J
-    4, // 4B K
-    4, // 4C L
-    4, // 4D M
-    4, // 4E N
-    4, // 4F O
-    4, // 50 P
-    4, // 51 Q
-    4, // 52 R
-    4, // 53 S
-    4, // 54 T
-    4, // 55 U
-    4, // 56 V
-    4, // 57 W
-    4, // 58 X
-    4, // 59 Y
-    4, // 5A Z
+    12, // 41 A
+    12, // 42 B
+    12, // 43 C
+    12, // 44 D
+    12, // 45 E
+    12, // 46 F
+    12, // 47 G
+    12, // 48 H
+    12, // 49 I
+    12, // 4A J
+    12, // 4B K
+    12, // 4C L
+    12, // 4D M
+    12, // 4E N
+    12, // 4F O
+    12, // 50 P
+    12, // 51 Q
+    12, // 52 R
+    12, // 53 S
+    12, // 54 T
+    12, // 55 U
+    12, // 56 V
+    12, // 57 W
+    12, // 58 X
+    12, // 59 Y
+    12, // 5A Z
     4, // 5B [
     4, // 5C \
     4, // 5D ]

@@ -5,18 +5,22 @@ pub mod kinds;
 
 ghost use mathlib.Core.Path.{_≡_};
 ghost use mathlib.Core.Bool.{true};
+ghost use mathlib.Core.List.{[], _∷_, _++_};
 ghost use Prim.Native.Nat.{_+_, _*_, _-_, _≤_};
 ghost use lib.ListN as list;
-ghost use Rattle.rules.specs.Tests.{_≤?_, _=?_, _and_, pick};
+ghost use Rattle.rules.specs.Tests.{_≤?_, _=?_, _and_, _or_, pick};
 ghost use Rattle.rules.specs.Pairwise.{sameOctets};
 ghost use Rattle.rules.specs.Octets.{referenceOf};
 ghost use Rattle.rules.specs.Contents.{within, inSet, days, monthOf};
-ghost use Rattle.rules.specs.Table.{rulesOf, oldBook, listed, classOf, classFault, rivalOf, formOf, whole, lengthFits, oldUserSet, timeRanges, absentSet, lampSet, identitySet, callTypeSet, forwardedSet, userSet};
-ghost use Rattle.rules.specs.Codes.{classCode, classCoded, laterClass, strictClass, oldCodes, codeIn, ranges};
+ghost use Rattle.rules.specs.Table.{rulesOf, oldBook, listed, classOf, classFault, rivalOf, formOf, whole, lengthFits, rowIn, plainRow, rows01, rowsOld, oldUserSet, timeRanges, secondRange, durationRanges, absentSet, lampSet, identitySet, callTypeSet, forwardedSet, userSet, displaySet, serviceSet, numberSet, nameSet};
+ghost use Rattle.rules.specs.Charge.{dash, comma, missing, units, amountBy, amountKeep, currencyBy, flagsAt, flagsKeep, chargeBy, chargeKeep};
+ghost use Rattle.rules.specs.Terminal.{terminalBy, terminalKeep};
+ghost use Rattle.rules.specs.Extension.{blank, extensionBy, extensionKeep};
+ghost use Rattle.rules.specs.Codes.{classCode, classCoded, oldCodes, codeIn, otherLength, ranges};
 ghost use Rattle.rules.specs.declared.Book.the-variants as book;
-ghost use Rattle.rules.specs.ContentJudge.{tensBy, onesBy, dayBy, tensFit, onesFit, calendarKeep, okAt, pairStands, goodFront};
+ghost use Rattle.rules.specs.ContentJudge.{tensBy, onesBy, dayBy, headBy, tensFit, onesFit, calendarKeep, okAt, pairStands, goodFront};
 ghost use Rattle.rules.specs.ContentJudge as content;
-ghost use Rattle.rules.specs.OctetRows.{admitted, calendarBy, okBy, askedKind, kindFront, ContentKind, Rowed};
+ghost use Rattle.rules.specs.OctetRows.{admitted, pairBy, calendarBy, mixedBy, okBy, mixed, askedKind, kindFront, ContentKind, Rowed, Short};
 ghost use Rattle.rules.specs.OctetRows as rows;
 ghost use Rattle.rules.specs.Editions.{known, bookOf, namedBy};
 ghost use Rattle.rules.specs.Editions as editions;
@@ -40,22 +44,35 @@ const LAST_HOUR: u8 = 23;
 
 const LAST_MINUTE: u8 = 59;
 
+// A duration's last hour (document 02, Q-4).
+const LAST_HOURS: u8 = 99;
+
 // The classes of the present edition's rows have the codes from 1 up to this one.
-const LAST_PRESENT: u8 = 10;
+const LAST_PRESENT: u8 = 18;
 
 // The classes of all editions' rows have the codes from 1 up to this one.
-const LAST_LISTED: u8 = 14;
+const LAST_LISTED: u8 = 21;
 
 // The first of the classes that the old edition alone has.
-const FIRST_OLD: u8 = 11;
+const FIRST_OLD: u8 = 19;
 
-// The code of a date.
+// The codes of classes whose octets are of no one kind.
 const DATE: u8 = 1;
+
+const MOMENT: u8 = 12;
+
+const CHARGE: u8 = 13;
+
+const DURATION: u8 = 14;
+
+const TERMINAL: u8 = 15;
+
+const DISPLAY: u8 = 16;
 
 // The codes of the classes that types without a row have.
 const CARRIED: u8 = 0;
 
-const UNLISTED: u8 = 15;
+const UNLISTED: u8 = 22;
 
 // The kinds of content octets, each a bit of a row.
 const DIGIT: u8 = 1;
@@ -63,6 +80,18 @@ const DIGIT: u8 = 1;
 const NUMBER: u8 = 2;
 
 const NAME: u8 = 4;
+
+const LETTER: u8 = 8;
+
+// The kind of a class whose octets are of no one kind.
+const MIXED: u8 = 16;
+
+// Octets of a charge that are no digits, and the space of an extension (source 004, 5.4.18 and 5.4.27).
+const DASH: u8 = 0x2D;
+
+const COMMA: u8 = 0x2C;
+
+const SPACE: u8 = 0x20;
 
 // The classes of contents, in the order of their codes.
 pub enum Class {
@@ -77,8 +106,15 @@ pub enum Class {
     Waiting,
     Forwarded,
     User,
-    OldNumber,
     ShortText,
+    Moment,
+    Charge,
+    Duration,
+    Terminal,
+    Display,
+    Service,
+    Extension,
+    OldNumber,
     OldForwarded,
     OldUser,
     Unlisted,
@@ -102,14 +138,17 @@ pub const STRICT: u8 = 0;
 
 pub const LENIENT: u8 = 1;
 
-// The kinds of value that a draft holds (document 01, Drafts): the numbers of a date, a code, a state with a
-// reference, a text, a carried text.
+// The kinds of value that a draft holds (document 01, Drafts; document 02, Q-4): the numbers of a date, a code, a state
+// with a reference, a text, a carried text; a date that may have seconds, a duration, a first octet with a text.
 pub enum Form {
     DateValue,
     CodeValue,
     StateValue,
     TextValue,
     CarriedValue,
+    MomentValue,
+    DurationValue,
+    MarkedValue,
 }
 
 // What the next octet is: the message type, the length L, a parameter type or (no room left) the checksum, a
@@ -220,46 +259,30 @@ pub fn named_by(number: u8, edition: u8) -> u8
 pub fn class_coded(code: u8) -> Class
     ensures { λ r. ⌜ r ≡ classCoded code ⌝ }
 {
-    if code == 1 {
-        Class::Date
-    } else if code == 2 {
-        Class::Number
-    } else if code == 3 {
-        Class::Absent
-    } else if code == 4 {
-        Class::Name
-    } else if code == 5 {
-        Class::Lamp
-    } else if code == 6 {
-        Class::Identity
-    } else if code == 7 {
-        Class::CallType
-    } else if code == 8 {
-        Class::Waiting
-    } else if code == 9 {
-        Class::Forwarded
-    } else if code == 10 {
-        Class::User
-    } else {
-        later_class(code)
-    }
-}
-
-fn later_class(code: u8) -> Class
-    ensures { λ r. ⌜ r ≡ laterClass code ⌝ }
-{
-    if code == 11 {
-        Class::OldNumber
-    } else if code == 12 {
-        Class::ShortText
-    } else if code == 13 {
-        Class::OldForwarded
-    } else if code == 14 {
-        Class::OldUser
-    } else if code == 15 {
-        Class::Unlisted
-    } else {
-        Class::Carried
+    match code {
+        1 => Class::Date,
+        2 => Class::Number,
+        3 => Class::Absent,
+        4 => Class::Name,
+        5 => Class::Lamp,
+        6 => Class::Identity,
+        7 => Class::CallType,
+        8 => Class::Waiting,
+        9 => Class::Forwarded,
+        10 => Class::User,
+        11 => Class::ShortText,
+        12 => Class::Moment,
+        13 => Class::Charge,
+        14 => Class::Duration,
+        15 => Class::Terminal,
+        16 => Class::Display,
+        17 => Class::Service,
+        18 => Class::Extension,
+        19 => Class::OldNumber,
+        20 => Class::OldForwarded,
+        21 => Class::OldUser,
+        22 => Class::Unlisted,
+        _ => Class::Carried,
     }
 }
 
@@ -278,15 +301,22 @@ pub fn code_of(c: Class) -> u8
         Class::Waiting => 8,
         Class::Forwarded => 9,
         Class::User => 10,
-        Class::OldNumber => 11,
-        Class::ShortText => 12,
-        Class::OldForwarded => 13,
-        Class::OldUser => 14,
-        Class::Unlisted => 15,
+        Class::ShortText => 11,
+        Class::Moment => 12,
+        Class::Charge => 13,
+        Class::Duration => 14,
+        Class::Terminal => 15,
+        Class::Display => 16,
+        Class::Service => 17,
+        Class::Extension => 18,
+        Class::OldNumber => 19,
+        Class::OldForwarded => 20,
+        Class::OldUser => 21,
+        Class::Unlisted => 22,
     }
 }
 
-// Is it the code of a class that a row of the old edition has: a date, absent, a lamp, or one of its own?
+// Is it the code of a class that a row of the old edition has: a date, absent, a lamp, a short text, or one of its own?
 fn old_code(code: u8) -> bool
     ensures { λ r. ⌜ r ≡ inSet oldCodes code ⌝ }
 {
@@ -295,6 +325,8 @@ fn old_code(code: u8) -> bool
     } else if among(3, 3, code) {
         true
     } else if among(5, 5, code) {
+        true
+    } else if among(11, 11, code) {
         true
     } else {
         among(FIRST_OLD, LAST_LISTED, code)
@@ -332,92 +364,73 @@ pub fn form_of(c: Class) -> Form
         Class::Waiting => Form::CodeValue,
         Class::Forwarded => Form::CodeValue,
         Class::User => Form::CodeValue,
-        Class::OldNumber => Form::TextValue,
         Class::ShortText => Form::TextValue,
+        Class::Moment => Form::MomentValue,
+        Class::Charge => Form::TextValue,
+        Class::Duration => Form::DurationValue,
+        Class::Terminal => Form::MarkedValue,
+        Class::Display => Form::MarkedValue,
+        Class::Service => Form::CodeValue,
+        Class::Extension => Form::TextValue,
+        Class::OldNumber => Form::TextValue,
         Class::OldForwarded => Form::CodeValue,
         Class::OldUser => Form::CodeValue,
         Class::Unlisted => Form::CarriedValue,
     }
 }
 
-// The classes of the present edition's types (document 01, The message); every other type is carried.
-fn present_class(t: u8) -> Class
-    ensures { λ r. ⌜ r ≡ classOf (rulesOf book.PresentLenient) t ⌝ }
+// The classes of the present edition's types (document 01, The message; document 02, Q-4); every other type has the
+// class of types without a row.
+fn present_class(t: u8, others: Class) -> Class
+    ensures { λ r. ⌜ r ≡ rowIn (plainRow t others) rows01 t .class ⌝ }
 {
-    if t == 0x01 {
-        Class::Date
-    } else if t == 0x02 {
-        Class::Number
-    } else if t == 0x03 {
-        Class::Number
-    } else if t == 0x04 {
-        Class::Absent
-    } else if t == 0x07 {
-        Class::Name
-    } else if t == 0x08 {
-        Class::Absent
-    } else if t == 0x0B {
-        Class::Lamp
-    } else if t == 0x0D {
-        Class::Identity
-    } else if t == 0x0E {
-        Class::Number
-    } else if t == 0x11 {
-        Class::CallType
-    } else if t == 0x12 {
-        Class::Number
-    } else if t == 0x13 {
-        Class::Waiting
-    } else if t == 0x15 {
-        Class::Forwarded
-    } else if t == 0x16 {
-        Class::User
-    } else {
-        Class::Carried
+    match t {
+        0x01 => Class::Date,
+        0x02 => Class::Number,
+        0x03 => Class::Number,
+        0x04 => Class::Absent,
+        0x07 => Class::Name,
+        0x08 => Class::Absent,
+        0x0B => Class::Lamp,
+        0x0D => Class::Identity,
+        0x0E => Class::Number,
+        0x0F => Class::Moment,
+        0x10 => Class::Number,
+        0x11 => Class::CallType,
+        0x12 => Class::Number,
+        0x13 => Class::Waiting,
+        0x15 => Class::Forwarded,
+        0x16 => Class::User,
+        0x1A => Class::Number,
+        0x20 => Class::Charge,
+        0x21 => Class::Charge,
+        0x22 => Class::Charge,
+        0x23 => Class::Duration,
+        0x30 => Class::ShortText,
+        0x31 => Class::ShortText,
+        0x40 => Class::Terminal,
+        0x50 => Class::Display,
+        0x55 => Class::Service,
+        0xE0 => Class::Extension,
+        _ => others,
     }
 }
 
 // The same in the old edition (document 02, Q-5).
-fn old_class(t: u8) -> Class
-    ensures { λ r. ⌜ r ≡ classOf (rulesOf book.OldLenient) t ⌝ }
+fn old_class(t: u8, others: Class) -> Class
+    ensures { λ r. ⌜ r ≡ rowIn (plainRow t others) rowsOld t .class ⌝ }
 {
-    if t == 0x01 {
-        Class::Date
-    } else if t == 0x02 {
-        Class::OldNumber
-    } else if t == 0x04 {
-        Class::Absent
-    } else if t == 0x07 {
-        Class::ShortText
-    } else if t == 0x0B {
-        Class::Lamp
-    } else if t == 0x12 {
-        Class::OldNumber
-    } else if t == 0x15 {
-        Class::OldForwarded
-    } else if t == 0x16 {
-        Class::OldUser
-    } else {
-        Class::Carried
+    match t {
+        0x01 => Class::Date,
+        0x02 => Class::OldNumber,
+        0x04 => Class::Absent,
+        0x07 => Class::ShortText,
+        0x0B => Class::Lamp,
+        0x12 => Class::OldNumber,
+        0x15 => Class::OldForwarded,
+        0x16 => Class::OldUser,
+        _ => others,
     }
-}
-
-// In the strict way a carried class has no contents.
-fn strictly(c: Class) -> Class
-    ensures { λ r. ⌜ r ≡ strictClass c ⌝ }
-{
-    if code_of(c) == CARRIED {
-        Class::Unlisted
-    } else {
-        c
-    }
-}
-
-// The class where unlisted types are carried, of the old edition or of the present one.
-fn edition_class(old: bool, t: u8) -> Class
-    ensures { λ r. ⌜ r ≡ pick old (classOf (rulesOf book.OldLenient) t) (classOf (rulesOf book.PresentLenient) t) ⌝ }
-{
-    if old { old_class(t) } else { present_class(t) }
 }
 
 // Is it a book of the old edition?
@@ -444,11 +457,26 @@ pub fn edition_of(b: Book) -> u8
     }
 }
 
+// The class of types without a row: they are carried, or refused.
+fn others_of(b: Book) -> Class
+    ensures { λ r. ⌜ r ≡ rulesOf b .others ⌝ }
+{
+    match b {
+        Book::PresentStrict => Class::Unlisted,
+        Book::PresentLenient => Class::Carried,
+        Book::OldStrict => Class::Unlisted,
+        Book::OldLenient => Class::Carried,
+    }
+}
+
 pub fn class_of(b: Book, t: u8) -> Class
     ensures { λ r. ⌜ r ≡ classOf (rulesOf b) t ⌝ }
 {
-    let c = edition_class(is_old(b), t);
-    if is_strict(b) { strictly(c) } else { c }
+    if is_old(b) {
+        old_class(t, others_of(b))
+    } else {
+        present_class(t, others_of(b))
+    }
 }
 
 // Has the type a row of the book? One that has none is carried, or refused.
@@ -517,96 +545,57 @@ pub fn is_strict(b: Book) -> bool
     }
 }
 
-// The lengths of a class: from the least to the most, and perhaps one other (0 where there is none).
+// The lengths of a class: from the least to the most, and perhaps another.
 struct Lengths {
     least: u8,
     most: u8,
-    other: u8,
+}
+
+// The other length of a class; 0 where it has none.
+fn other_length(c: Class) -> u8
+    ensures { λ r. ⌜ r ≡ otherLength c ⌝ }
+{
+    if code_of(c) == MOMENT { 10 } else { 0 }
 }
 
 fn lengths_of(c: Class) -> Lengths
-    ensures { λ r. ⌜ whole c .lengths ≡ ranges (r .least) (r .most) (r .other) ⌝ }
+    ensures { λ r. ⌜ whole c .lengths ≡ ranges (r .least) (r .most) (otherLength c) ⌝ }
 {
     match c {
-        Class::Date => Lengths {
-            least: 8,
-            most: 8,
-            other: 0,
+        Class::Date => Lengths { least: 8, most: 8 },
+        Class::Number => Lengths { least: 1, most: 20 },
+        Class::Absent => Lengths { least: 1, most: 1 },
+        Class::Name => Lengths { least: 1, most: 50 },
+        Class::Lamp => Lengths { least: 1, most: 1 },
+        Class::Identity => Lengths { least: 3, most: 3 },
+        Class::CallType => Lengths { least: 1, most: 1 },
+        Class::Waiting => Lengths { least: 1, most: 1 },
+        Class::Forwarded => Lengths { least: 1, most: 1 },
+        Class::User => Lengths { least: 1, most: 1 },
+        Class::ShortText => Lengths { least: 1, most: 20 },
+        Class::Moment => Lengths { least: 8, most: 8 },
+        Class::Charge => Lengths {
+            least: 14,
+            most: 14,
         },
-        Class::Number => Lengths {
+        Class::Duration => Lengths { least: 6, most: 6 },
+        Class::Terminal => Lengths { least: 2, most: 21 },
+        Class::Display => Lengths {
             least: 1,
-            most: 20,
-            other: 0,
+            most: 253,
         },
-        Class::Absent => Lengths {
-            least: 1,
-            most: 1,
-            other: 0,
+        Class::Service => Lengths { least: 1, most: 1 },
+        Class::Extension => Lengths {
+            least: 10,
+            most: 10,
         },
-        Class::Name => Lengths {
-            least: 1,
-            most: 50,
-            other: 0,
-        },
-        Class::Lamp => Lengths {
-            least: 1,
-            most: 1,
-            other: 0,
-        },
-        Class::Identity => Lengths {
-            least: 3,
-            most: 3,
-            other: 0,
-        },
-        Class::CallType => Lengths {
-            least: 1,
-            most: 1,
-            other: 0,
-        },
-        Class::Waiting => Lengths {
-            least: 1,
-            most: 1,
-            other: 0,
-        },
-        Class::Forwarded => Lengths {
-            least: 1,
-            most: 1,
-            other: 0,
-        },
-        Class::User => Lengths {
-            least: 1,
-            most: 1,
-            other: 0,
-        },
-        Class::OldNumber => Lengths {
-            least: 1,
-            most: 18,
-            other: 0,
-        },
-        Class::ShortText => Lengths {
-            least: 1,
-            most: 20,
-            other: 0,
-        },
-        Class::OldForwarded => Lengths {
-            least: 1,
-            most: 1,
-            other: 0,
-        },
-        Class::OldUser => Lengths {
-            least: 1,
-            most: 1,
-            other: 0,
-        },
-        Class::Unlisted => Lengths {
-            least: 1,
-            most: 0,
-            other: 0,
-        },
+        Class::OldNumber => Lengths { least: 1, most: 18 },
+        Class::OldForwarded => Lengths { least: 1, most: 1 },
+        Class::OldUser => Lengths { least: 1, most: 1 },
+        Class::Unlisted => Lengths { least: 1, most: 0 },
         Class::Carried => Lengths {
             least: 1,
             most: 253,
-            other: 0,
         },
     }
 }
@@ -618,7 +607,7 @@ pub fn class_fault(c: Class) -> u8
     let l = lengths_of(c);
     let least = l.least;
     let most = l.most;
-    let other = l.other;
+    let other = other_length(c);
     if least <= most {
         3
     } else if other == 0 {
@@ -639,13 +628,11 @@ fn length_ok(c: Class, n: u8) -> bool
     ensures { λ r. ⌜ r ≡ lengthFits c n ⌝ }
 {
     let l = lengths_of(c);
-    let other = l.other;
     if among(l.least, l.most, n) {
         true
-    } else if other == 0 {
-        false
     } else {
-        n == other
+        let other = other_length(c);
+        if other == 0 { false } else { n == other }
     }
 }
 
@@ -697,13 +684,15 @@ pub fn possible(c: Class, room: u8) -> bool
     ensures { λ r. ⌜ r ≡ judge.possible c room ⌝ }
 {
     let l = lengths_of(c);
-    let other = l.other;
     if room_for(l.least, l.most, room) {
         true
-    } else if other == 0 {
-        false
     } else {
-        room_for(other, other, room)
+        let other = other_length(c);
+        if other == 0 {
+            false
+        } else {
+            room_for(other, other, room)
+        }
     }
 }
 
@@ -855,6 +844,16 @@ fn user_ok(x: u8) -> bool
     among(0x00, 0x0F, x)
 }
 
+fn service_ok(x: u8) -> bool
+    ensures { λ r. ⌜ r ≡ inSet serviceSet x ⌝ }
+{
+    if among(0x00, 0x01, x) {
+        true
+    } else {
+        among(0x80, 0xFF, x)
+    }
+}
+
 fn old_user_ok(x: u8) -> bool
     ensures { λ r. ⌜ r ≡ inSet oldUserSet x ⌝ }
 {
@@ -869,12 +868,14 @@ fn old_user_ok(x: u8) -> bool
     }
 }
 
-// The kind that the octets of a class are of; 0 where they are not judged by their rows.
+// The kind that the octets of a class are of; 0 where they are not judged by their rows, MIXED where they are of no one
+// kind.
 fn kind_of(c: Class) -> u8
     ensures { λ r. ⌜ r ≡ askedKind c ⌝ }
 {
     match c {
-        Class::Date => DIGIT,
+        Class::Carried => 0,
+        Class::Date => MIXED,
         Class::Number => NUMBER,
         Class::Absent => 0,
         Class::Name => NAME,
@@ -884,12 +885,18 @@ fn kind_of(c: Class) -> u8
         Class::Waiting => 0,
         Class::Forwarded => 0,
         Class::User => 0,
-        Class::OldNumber => DIGIT,
         Class::ShortText => NAME,
+        Class::Moment => MIXED,
+        Class::Charge => MIXED,
+        Class::Duration => MIXED,
+        Class::Terminal => MIXED,
+        Class::Display => MIXED,
+        Class::Service => 0,
+        Class::Extension => MIXED,
+        Class::OldNumber => DIGIT,
         Class::OldForwarded => 0,
         Class::OldUser => 0,
         Class::Unlisted => 0,
-        Class::Carried => 0,
     }
 }
 
@@ -907,6 +914,7 @@ fn code_ok(c: Class, x: u8) -> bool
     ensures { λ r. ⌜ r ≡ okAt c 0 0 0 x ⌝ }
 {
     match c {
+        Class::Carried => true,
         Class::Date => true,
         Class::Number => true,
         Class::Absent => absent_ok(x),
@@ -917,12 +925,245 @@ fn code_ok(c: Class, x: u8) -> bool
         Class::Waiting => true,
         Class::Forwarded => forwarded_ok(x),
         Class::User => user_ok(x),
-        Class::OldNumber => true,
         Class::ShortText => true,
+        Class::Moment => true,
+        Class::Charge => true,
+        Class::Duration => true,
+        Class::Terminal => true,
+        Class::Display => true,
+        Class::Service => service_ok(x),
+        Class::Extension => true,
+        Class::OldNumber => true,
         Class::OldForwarded => among(0x00, 0x06, x),
         Class::OldUser => old_user_ok(x),
         Class::Unlisted => true,
-        Class::Carried => true,
+    }
+}
+
+// The same, and two digits for the seconds, if they are sent (source 004, 5.4.10).
+fn moment_ok(i: u8, m: u8, row: u8, x: u8) -> bool
+    ensures { λ r. ⌜ r ≡ calendarBy (admitted row 1) (timeRanges ++ secondRange ∷ []) i m x ⌝ }
+{
+    if i < 8 {
+        date_ok(i, m, row, x)
+    } else if i < 10 {
+        pair_ok(0, LAST_MINUTE, i - 8, m, row, x)
+    } else {
+        true
+    }
+}
+
+// Two digits each for the hours, the minutes and the seconds (source 004, 5.4.21).
+fn duration_ok(i: u8, m: u8, row: u8, x: u8) -> bool
+    ensures { λ r. ⌜ r ≡ pairBy (admitted row 1) durationRanges i m x ⌝ }
+{
+    if i < 2 {
+        pair_ok(0, LAST_HOURS, i, m, row, x)
+    } else if i < 4 {
+        pair_ok(0, LAST_MINUTE, i - 2, m, row, x)
+    } else if i < 6 {
+        pair_ok(0, LAST_MINUTE, i - 4, m, row, x)
+    } else {
+        true
+    }
+}
+
+// Do the flags of a charge say that it is not available (source 004, 5.4.18, bit 4)?
+fn is_missing(flags: u8) -> bool
+    ensures { λ r. ⌜ r ≡ missing flags ⌝ }
+{
+    flags / 8 % 2 == 1
+}
+
+// Do they say that units are charged (bit 5)?
+fn in_units(flags: u8) -> bool
+    ensures { λ r. ⌜ r ≡ units flags ⌝ }
+{
+    flags / 16 % 2 == 1
+}
+
+// The second and third octet of a currency, behind letters (0) or dashes (1).
+fn currency_ok(m: u8, row: u8, x: u8) -> bool
+    ensures { λ r. ⌜ r ≡ currencyBy (admitted row 8) m x ⌝ }
+{
+    if m == 0 {
+        admits(row, LETTER)
+    } else if m == 1 {
+        x == DASH
+    } else {
+        false
+    }
+}
+
+// Flags behind letters (0), which ask for a charge, or dashes (1), which ask that there is none or that it is units.
+fn flags_ok(m: u8, x: u8) -> bool
+    ensures { λ r. ⌜ r ≡ flagsAt m x ⌝ }
+{
+    if m == 0 {
+        !is_missing(x)
+    } else if m == 1 {
+        if is_missing(x) { true } else { in_units(x) }
+    } else {
+        false
+    }
+}
+
+// A digit, or the comma.
+fn cipher_ok(row: u8, x: u8) -> bool
+    ensures { λ r. ⌜ r ≡ (comma x or admitted row 1) ⌝ }
+{
+    if x == COMMA { true } else { admits(row, DIGIT) }
+}
+
+// Octet k of the ten behind the flags, where m is remembered: 0 a cost, 1 behind its comma, 2 units and a price, 3 behind
+// its comma, 4 units alone, 5 nothing.
+fn amount_ok(m: u8, k: u8, row: u8, x: u8) -> bool
+    ensures { λ r. ⌜ r ≡ amountBy (admitted row 1) m k x ⌝ }
+{
+    if m == 0 {
+        cipher_ok(row, x)
+    } else if m == 1 {
+        admits(row, DIGIT)
+    } else if m == 2 {
+        if k <= 4 {
+            admits(row, DIGIT)
+        } else {
+            cipher_ok(row, x)
+        }
+    } else if m == 3 {
+        admits(row, DIGIT)
+    } else if m == 4 {
+        if k <= 4 {
+            admits(row, DIGIT)
+        } else {
+            x == DASH
+        }
+    } else if m == 5 {
+        x == DASH
+    } else {
+        false
+    }
+}
+
+// Currency, flags, and ten octets that they ask for (source 004, 5.4.18).
+fn charge_ok(i: u8, m: u8, row: u8, x: u8) -> bool
+    ensures { λ r. ⌜ r ≡ chargeBy (admitted row 1) (admitted row 8) i m x ⌝ }
+{
+    if i == 0 {
+        if x == DASH { true } else { admits(row, LETTER) }
+    } else if i < 3 {
+        currency_ok(m, row, x)
+    } else if i == 3 {
+        flags_ok(m, x)
+    } else if i < 14 {
+        amount_ok(m, i - 4, row, x)
+    } else {
+        true
+    }
+}
+
+// What a terminal is selected by: a connection type (01H) where there are two octets, a number or a subaddress.
+fn selector_ok(n: usize, x: u8) -> bool
+    ensures { λ r. ⌜ r ≡ (within (2, 3) x or (n =? 2 and x =? 1)) ⌝ }
+{
+    if among(2, 3, x) {
+        true
+    } else if n == 2 {
+        x == 1
+    } else {
+        false
+    }
+}
+
+// The selector, then a connection's code, or digits (source 004, 5.4.24).
+fn terminal_ok(n: u8, i: u8, m: u8, row: u8, x: u8) -> bool
+    ensures { λ r. ⌜ r ≡ terminalBy (admitted row 2) n i m x ⌝ }
+{
+    if i == 0 {
+        selector_ok(n as usize, x)
+    } else if m == 1 {
+        x <= 7
+    } else {
+        admits(row, NUMBER)
+    }
+}
+
+// What a display text is (source 004, 5.4.25).
+fn mark_ok(x: u8) -> bool
+    ensures { λ r. ⌜ r ≡ inSet displaySet x ⌝ }
+{
+    if among(0x00, 0x01, x) {
+        true
+    } else if among(0x03, 0x06, x) {
+        true
+    } else if among(0x70, 0x7F, x) {
+        true
+    } else if among(0x80, 0x81, x) {
+        true
+    } else if among(0x83, 0x86, x) {
+        true
+    } else {
+        among(0xF0, 0xFF, x)
+    }
+}
+
+fn display_ok(i: u8, row: u8, x: u8) -> bool
+    ensures { λ r. ⌜ r ≡ headBy (admitted row 4) displaySet i x ⌝ }
+{
+    if i == 0 {
+        mark_ok(x)
+    } else {
+        admits(row, NAME)
+    }
+}
+
+// A digit, or a space.
+fn country_ok(row: u8, x: u8) -> bool
+    ensures { λ r. ⌜ r ≡ (blank x or admitted row 1) ⌝ }
+{
+    if x == SPACE { true } else { admits(row, DIGIT) }
+}
+
+// One to three digits and spaces behind them, then seven characters (source 004, 5.4.27).
+fn extension_ok(i: u8, m: u8, row: u8, x: u8) -> bool
+    ensures { λ r. ⌜ r ≡ extensionBy (admitted row 1) (admitted row 4) i m x ⌝ }
+{
+    if i == 0 {
+        admits(row, DIGIT)
+    } else if i == 1 {
+        country_ok(row, x)
+    } else if i == 2 {
+        if m == 1 {
+            x == SPACE
+        } else {
+            country_ok(row, x)
+        }
+    } else if i < 10 {
+        admits(row, NAME)
+    } else {
+        true
+    }
+}
+
+// May octet x of contents of no one kind stand at index i of n, where m is remembered?
+fn mixed_ok(c: Class, n: u8, i: u8, m: u8, row: u8, x: u8) -> bool
+    ensures { λ r. ⌜ r ≡ mixedBy c n i m row x ⌝ }
+{
+    let code = code_of(c);
+    if code == DATE {
+        date_ok(i, m, row, x)
+    } else if code == MOMENT {
+        moment_ok(i, m, row, x)
+    } else if code == CHARGE {
+        charge_ok(i, m, row, x)
+    } else if code == DURATION {
+        duration_ok(i, m, row, x)
+    } else if code == TERMINAL {
+        terminal_ok(n, i, m, row, x)
+    } else if code == DISPLAY {
+        display_ok(i, row, x)
+    } else {
+        extension_ok(i, m, row, x)
     }
 }
 
@@ -934,8 +1175,8 @@ pub fn content_ok(c: Class, n: u8, i: u8, m: u8, row: u8, x: u8) -> bool
     let kind = kind_of(c);
     if kind == 0 {
         if i == 0 { code_ok(c, x) } else { true }
-    } else if code_of(c) == DATE {
-        date_ok(i, m, row, x)
+    } else if kind == MIXED {
+        mixed_ok(c, n, i, m, row, x)
     } else {
         admits(row, kind)
     }
@@ -980,11 +1221,76 @@ fn date_kept(i: u8, m: u8, x: u8) -> u8
     }
 }
 
-// What is remembered after octet x: of a date as the calendar asks, of all others nothing.
+// Of a charge: letters or dashes; what the flags ask for; that a comma has come.
+fn flags_kept(m: u8, x: u8) -> u8
+    ensures { λ r. ⌜ r ≡ flagsKeep m x ⌝ }
+{
+    if is_missing(x) {
+        5
+    } else if in_units(x) {
+        if m == 0 { 2 } else { 4 }
+    } else {
+        0
+    }
+}
+
+fn amount_kept(m: u8, x: u8) -> u8
+    ensures { λ r. ⌜ r ≡ amountKeep m x ⌝ }
+{
+    if m == 0 {
+        if x == COMMA { 1 } else { 0 }
+    } else if m == 2 {
+        if x == COMMA { 3 } else { 2 }
+    } else {
+        m
+    }
+}
+
+fn charge_kept(i: u8, m: u8, x: u8) -> u8
+    ensures { λ r. ⌜ r ≡ chargeKeep i m x ⌝ }
+{
+    if i == 0 {
+        if x == DASH { 1 } else { 0 }
+    } else if i < 3 {
+        m
+    } else if i == 3 {
+        flags_kept(m, x)
+    } else if i < 14 {
+        amount_kept(m, x)
+    } else {
+        0
+    }
+}
+
+// Of a terminal: that a connection type came first.
+fn terminal_kept(i: u8, m: u8, x: u8) -> u8
+    ensures { λ r. ⌜ r ≡ terminalKeep i m x ⌝ }
+{
+    if i == 0 {
+        if x == 1 { 1 } else { 0 }
+    } else {
+        m
+    }
+}
+
+// Of an extension: that the country has one digit.
+fn extension_kept(i: u8, x: u8) -> u8
+    ensures { λ r. ⌜ r ≡ extensionKeep i x ⌝ }
+{
+    if i == 1 {
+        if x == SPACE { 1 } else { 0 }
+    } else {
+        0
+    }
+}
+
+// What is remembered after octet x: of a date as the calendar asks; what its own rule asks of a charge, a duration, a
+// terminal and an extension; of all others nothing.
 pub fn remember(c: Class, n: u8, i: u8, m: u8, x: u8) -> u8
     ensures { λ r. ⌜ r ≡ content.remember c n i m x ⌝ }
 {
     match c {
+        Class::Carried => 0,
         Class::Date => date_kept(i, m, x),
         Class::Number => 0,
         Class::Absent => 0,
@@ -995,12 +1301,18 @@ pub fn remember(c: Class, n: u8, i: u8, m: u8, x: u8) -> u8
         Class::Waiting => 0,
         Class::Forwarded => 0,
         Class::User => 0,
-        Class::OldNumber => 0,
         Class::ShortText => 0,
+        Class::Moment => date_kept(i, m, x),
+        Class::Charge => charge_kept(i, m, x),
+        Class::Duration => digit_of(x),
+        Class::Terminal => terminal_kept(i, m, x),
+        Class::Display => 0,
+        Class::Service => 0,
+        Class::Extension => extension_kept(i, x),
+        Class::OldNumber => 0,
         Class::OldForwarded => 0,
         Class::OldUser => 0,
         Class::Unlisted => 0,
-        Class::Carried => 0,
     }
 }
 
@@ -1100,16 +1412,88 @@ fn date_along(kinds: &[u8], v: &[u8]) -> usize
     v.len()
 }
 
-// Dates and texts as far as they go. The table is laid down here, once for all of their octets.
+// A selector and what it asks for, as far as they go.
+fn terminal_along(kinds: &[u8], v: &[u8]) -> usize
+    requires { ⌜ Rowed (now kinds) × (1 ≤ list.length (now v)) ⌝ }
+    ensures { λ r. ⌜ r ≡ goodFront class.Terminal (now (v .entry)) ⌝ }
+{
+    let n = v.len();
+    let first = v[0];
+    if selector_ok(n, first) {
+        if first == 1 {
+            if v[1] <= 7 { 2 } else { 1 }
+        } else {
+            1 + kind_along(kinds, NUMBER, &v[1..])
+        }
+    } else {
+        0
+    }
+}
+
+// A display's first octet and its text, as far as they go.
+fn display_along(kinds: &[u8], v: &[u8]) -> usize
+    requires { ⌜ Rowed (now kinds) × (1 ≤ list.length (now v)) ⌝ }
+    ensures { λ r. ⌜ r ≡ goodFront class.Display (now (v .entry)) ⌝ }
+{
+    if mark_ok(v[0]) {
+        1 + kind_along(kinds, NAME, &v[1..])
+    } else {
+        0
+    }
+}
+
+// Contents whose octets behind the fourteenth may be any, as far as they go.
+fn short_along(c: Class, kinds: &[u8], v: &[u8]) -> usize
+    requires { ⌜ Rowed (now kinds) × Short c ⌝ }
+    ensures { λ r. ⌜ r ≡ goodFront c (now (v .entry)) ⌝ }
+{
+    let n = v.len();
+    let mut memory: u8 = 0;
+    let mut index: u8 = 0;
+    while index < 14 {
+        let i = index as usize;
+        if n <= i {
+            return n;
+        }
+        let x = v[i];
+        if mixed_ok(c, 0, index, memory, kinds[x as usize], x) {
+            memory = remember(c, 0, index, memory, x);
+            index += 1;
+        } else {
+            return i;
+        }
+    }
+    n
+}
+
+// Contents of no one kind, as far as they go.
+fn mixed_along(c: Class, kinds: &[u8], v: &[u8]) -> usize
+    requires { ⌜ Rowed (now kinds) × (askedKind c ≡ mixed) × (1 ≤ list.length (now v)) ⌝ }
+    ensures { λ r. ⌜ r ≡ goodFront c (now (v .entry)) ⌝ }
+{
+    let code = code_of(c);
+    if code == DATE {
+        date_along(kinds, v)
+    } else if code == TERMINAL {
+        terminal_along(kinds, v)
+    } else if code == DISPLAY {
+        display_along(kinds, v)
+    } else {
+        short_along(c, kinds, v)
+    }
+}
+
+// Contents that are judged by rows, as far as they go. The table is laid down here, once for all of their octets.
 fn by_rows(c: Class, v: &[u8]) -> usize
-    requires { ⌜ rows.asks c ≡ true ⌝ }
+    requires { ⌜ (rows.asks c ≡ true) × (1 ≤ list.length (now v)) ⌝ }
     ensures { λ r. ⌜ r ≡ goodFront c (now (v .entry)) ⌝ }
 {
     let kinds = kinds::KINDS;
-    if code_of(c) == DATE {
-        date_along(&kinds[..], v)
+    let kind = kind_of(c);
+    if kind == MIXED {
+        mixed_along(c, &kinds[..], v)
     } else {
-        kind_along(&kinds[..], kind_of(c), v)
+        kind_along(&kinds[..], kind, v)
     }
 }
 

@@ -3,7 +3,6 @@ pub mod Steps
 pub mod Ways
 pub mod Words
 pub mod Sums
-pub mod InContents
 pub mod Between
 pub mod One
 pub mod Settled

@@ -2,7 +2,7 @@
 -- Assumes nothing.
 use Prim.Native.Nat.{ℕ, _+_, _-_, _≤_, _<_}
 use mathlib.Core.Path.{_≡_, sym, _∙_, ap, ap₂}
-use mathlib.Core.List.{List}
+use mathlib.Core.List.{List, _++_}
 use native.Mathlib.Omega.{arith}
 use lib.ListN.{length, take, drop}
 use lib.Seq.{length-take-le}
@@ -20,8 +20,8 @@ use Rattle.writer.specs.Writing.{measuredOf, writeOf}
 use Rattle.writer.proofs.Legal.{all-inside, written, all-made}
 use Rattle.writer.specs.Laying.{Layable}
 use Rattle.writer.specs.declared.Written.the-variants.{Message}
-use Rattle.writer.specs.Judging.{small, fitting, takesOf, measureFrom}
-use Rattle.writer.proofs.Judging.{takes-none, takes-number, takes-text, onMeasure, measured-is}
+use Rattle.writer.specs.Judging.{headOf, fitting, takesOf, measureFrom}
+use Rattle.writer.proofs.Judging.{takes-none, takes-value, onMeasure, measured-is}
 use Rattle.writer.specs.declared.Written.{Written}
 use Rattle.writer.specs.declared.Measure.{Measure}
 
@@ -45,16 +45,14 @@ module _ (R : Rules) (texts : List ℕ) (e : Entry) (o : e .kind < 256) (c : Cla
       takes-none R texts e o
       (λ h. n (ap (λ (f : Flat). f .form) q ∙ h ∙ ap (λ (c : Class). formNumber (formOf c)) (sym p) ∙ sym s))
 
-  pub entry-number : (r : ℕ) → f .form ≡ k → f .form < 3 → r ≡ fitting c (small (e .value)) → r ≡ takesOf R texts e
-  entry-number r h l g =
-      g ∙ ap (λ (c : Class). fitting c (small (e .value))) p ∙ takes-number R texts e o (same-form h) (rw q at l)
-
-  pub entry-text : (r : ℕ) → f .form ≡ k → 3 ≤ f .form →
-      r ≡ pick (f .start + f .length ≤? length texts) (fitting c (take (f .length) (drop (f .start) texts))) 0 →
+  pub entry-value : (r : ℕ) → f .form ≡ k →
+      r ≡ pick (f .start + f .length ≤? length texts)
+      (fitting c (headOf (e .value) ++ take (f .length) (drop (f .start) texts))) 0 →
       r ≡ takesOf R texts e
-  entry-text r h l g =
+  entry-value r h g =
       g ∙ ap₂ (λ (c : Class) (f : Flat). pick (f .start + f .length ≤? length texts)
-      (fitting c (take (f .length) (drop (f .start) texts))) 0) p q ∙ takes-text R texts e o (same-form h) (rw q at l)
+      (fitting c (headOf (e .value) ++ take (f .length) (drop (f .start) texts))) 0) p q
+      ∙ takes-value R texts e o (same-form h)
 
 -- ---- an answer that is a message: what is asked before it is laid down
 pub layable : (R : Rules) (d : Draft) (texts : List ℕ) (room n : ℕ) (w : Written) → w ≡ writeOf R d texts room →

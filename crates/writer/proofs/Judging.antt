@@ -1,24 +1,25 @@
 -- Entries judged by the octets that would be written for them are judged by the writer's rule.
 -- Assumes nothing.
-use Prim.Native.Nat.{ℕ, suc, _+_, _≤_, _<_}
+use Prim.Native.Nat.{ℕ, zero, suc, _+_, _-_, _≤_, _<_}
 use mathlib.Core.Path.{_≡_, refl, sym, _∙_, ap, ap₂, subst}
 use mathlib.Core.Bool.{Bool, true, false}
 use mathlib.Core.Logic.{_⊎_, inl, inr}
-use mathlib.Core.List.{List, [], _∷_}
+use mathlib.Core.List.{List, [], _∷_, _++_}
 use native.Mathlib.Omega.{arith}
 use lib.ListN.{length, take, drop, length-append}
+use lib.Seq.{length-take-le}
 use lib.Dec.{T}
 use Rattle.rules.specs.Tests.{_≤?_, _and_, pick}
 use Rattle.rules.proofs.Tests.{decide, both, le-of, of-le, eq-of, of-eq, pick-yes, pick-not}
 use Rattle.rules.specs.Table.{Rules, classOf, formOf}
 use Rattle.rules.proofs.ContentLaw.{lawful}
 use Rattle.rules.specs.Message.{body}
-use Rattle.draft.specs.Meaning.{formNumber, kindOf, formIs, spelled}
+use Rattle.draft.specs.Meaning.{formNumber, kindOf, formIs, tens, ones, secondsSaid, spelled}
 use Rattle.draft.specs.Draft.{meaningOf, inside, parameterOf, parametersOf, used}
 use Rattle.draft.specs.Same.{flatOf}
 use Rattle.draft.proofs.Alike.{inside-flat}
 use Rattle.draft.specs.declared.Value.{Value}
-use Rattle.draft.specs.declared.Value.the-variants.{Date, Code, State, Text, Carried}
+use Rattle.draft.specs.declared.Value.the-variants.{Date, Code, State, Text, Carried, Moment, Duration, Marked}
 use Rattle.draft.specs.declared.Entry.{Entry}
 use Rattle.draft.specs.declared.Draft.{Draft}
 use Rattle.writer.specs.Writing.{unwritten, contentsOf, legalEntry, legalBefore, sized, measuredOf}
@@ -27,7 +28,7 @@ use Rattle.writer.specs.declared.Written.{Written}
 use Rattle.writer.specs.declared.Spelling.{Spelling}
 use Rattle.writer.specs.declared.Measure.{Measure}
 use Rattle.writer.specs.declared.Measure.the-variants.{Bad, Size}
-use Rattle.writer.specs.Judging.{spellingOf, small, fitting, takesOf, measureFrom}
+use Rattle.writer.specs.Judging.{stampOf, spellingOf, headOf, fitting, takesOf, measureFrom}
 
 -- ---- a value's contents, by its flat form
 pub form-flat : (texts : List ℕ) (v : Value) → formNumber (formIs (meaningOf texts v)) ≡ flatOf v .form
@@ -37,46 +38,61 @@ form-flat texts (Code x) = refl
 form-flat texts (State s r) = refl
 form-flat texts (Text s n) = refl
 form-flat texts (Carried s n) = refl
+form-flat texts (Moment m d h n s) = refl
+form-flat texts (Duration h m s) = refl
+form-flat texts (Marked x s n) = refl
 
-small-room : (v : Value) → spellingOf v .length ≤ length (spellingOf v .octets)
+-- a moment with seconds or without, by the number that says so
+module _ (m d h n k : ℕ) where
+  pub moment-short : k ≡ 0 → stampOf m d h n 0 0 8 ≡ spellingOf (Moment m d h n k)
+  unfolding spellingOf
+  moment-short e = ap (λ (k : ℕ). spellingOf (Moment m d h n k)) (sym e)
+
+  pub moment-long : (k ≡ 0 → ⊥) → stampOf m d h n (tens (k - 1)) (ones (k - 1)) 10 ≡ spellingOf (Moment m d h n k)
+  unfolding spellingOf
+  moment-long f =
+      let e : suc (k - 1) ≡ k = omega arith in ap (λ (k : ℕ). spellingOf (Moment m d h n k)) e
+
+head-room : (v : Value) → (spellingOf v .length ≤ 10) × (length (spellingOf v .octets) ≡ 10)
 unfolding spellingOf
-small-room (Date m d h n) = omega arith
-small-room (Code x) = omega arith
-small-room (State s r) = omega arith
-small-room (Text s n) = omega arith
-small-room (Carried s n) = omega arith
+head-room (Date m d h n) = (omega arith, refl)
+head-room (Code x) = (omega arith, refl)
+head-room (State s r) = (omega arith, refl)
+head-room (Text s n) = (omega arith, refl)
+head-room (Carried s n) = (omega arith, refl)
+head-room (Moment m d h n zero) = (omega arith, refl)
+head-room (Moment m d h n (suc s)) = (omega arith, refl)
+head-room (Duration h m s) = (omega arith, refl)
+head-room (Marked x s n) = (omega arith, refl)
 
--- the octets spelled are all there
-pub spelled-room : (s : Spelling) (v : Value) → s ≡ spellingOf v → s .length ≤ length (s .octets)
-spelled-room s v e = rw e (small-room v)
+module _ (s : Spelling) (v : Value) (e : s ≡ spellingOf v) where
+  -- the octets spelled are all there
+  pub spelled-room : s .length ≤ length (s .octets)
+  spelled-room = let h = head-room v in rw e (omega (arith, h .0, h .1))
 
-pub small-short : (v : Value) → length (small v) ≤ 8
-unfolding small spellingOf
-small-short (Date m d h n) = omega arith
-small-short (Code x) = omega arith
-small-short (State s r) = omega arith
-small-short (Text s n) = omega arith
-small-short (Carried s n) = omega arith
+  pub spelled-head : take (s .length) (s .octets) ≡ headOf v
+  unfolding headOf
+  spelled-head = ap (λ (s : Spelling). take (s .length) (s .octets)) e
 
--- without a text, they are the octets spelled
-pub small-contents : (texts : List ℕ) (v : Value) → flatOf v .form < 3 →
-    (small v ≡ spelled (meaningOf texts v)) × (inside texts v ≡ true)
-unfolding small spellingOf spelled meaningOf flatOf inside formNumber
-small-contents texts (Date m d h n) l = (refl, refl)
-small-contents texts (Code x) l = (refl, refl)
-small-contents texts (State s r) l = (refl, refl)
-small-contents texts (Text s n) l = absurd (omega arith)
-small-contents texts (Carried s n) l = absurd (omega arith)
+  -- and ten at most
+  pub spelled-short : length (take (s .length) (s .octets)) ≤ 10
+  spelled-short =
+      let h = head-room v in
+      omega (arith, h .0, ap (λ (s : Spelling). s .length) e, length-take-le (s .length) (s .octets) spelled-room)
 
--- with one, they are the text
-pub text-contents : (texts : List ℕ) (v : Value) → 3 ≤ flatOf v .form →
-    take (flatOf v .length) (drop (flatOf v .start) texts) ≡ spelled (meaningOf texts v)
-unfolding spelled meaningOf flatOf formNumber
-text-contents texts (Date m d h n) l = absurd (omega arith)
-text-contents texts (Code x) l = absurd (omega arith)
-text-contents texts (State s r) l = absurd (omega arith)
-text-contents texts (Text s n) l = refl
-text-contents texts (Carried s n) l = refl
+-- they are the octets spelled, and the text behind them
+pub contents-are : (texts : List ℕ) (v : Value) →
+    headOf v ++ take (flatOf v .length) (drop (flatOf v .start) texts) ≡ spelled (meaningOf texts v)
+unfolding headOf spellingOf spelled secondsSaid meaningOf flatOf
+contents-are texts (Date m d h n) = refl
+contents-are texts (Code x) = refl
+contents-are texts (State s r) = refl
+contents-are texts (Text s n) = refl
+contents-are texts (Carried s n) = refl
+contents-are texts (Moment m d h n zero) = refl
+contents-are texts (Moment m d h n (suc s)) = refl
+contents-are texts (Duration h m s) = refl
+contents-are texts (Marked x s n) = refl
 
 module _ (R : Rules) where
   -- ---- an entry
@@ -98,22 +114,12 @@ module _ (R : Rules) where
           chosen _ _ _ (of-le _ _ (omega arith)) (of-eq _ _ (form-flat texts (e .value) ∙ f))
           (inside texts (e .value)) _
 
-      pub takes-number : flatOf (e .value) .form < 3 →
-          fitting (classOf R (e .kind)) (small (e .value)) ≡ takesOf R texts e
-      takes-number l =
-          let s = small-contents texts (e .value) l in
-          ap (fitting (classOf R (e .kind))) (s .0)
-          ∙ sym (pick-yes (inside texts (e .value)) (fitting (classOf R (e .kind)) (contentsOf texts e)) 0
-          (rw (s .1) tt)) ∙ takes-is
-
-      pub takes-text :
-          3 ≤ flatOf (e .value) .form →
-          pick (flatOf (e .value) .start + flatOf (e .value) .length ≤? length texts)
-          (fitting (classOf R (e .kind)) (take (flatOf (e .value) .length)
+      pub takes-value : pick (flatOf (e .value) .start + flatOf (e .value) .length ≤? length texts)
+          (fitting (classOf R (e .kind)) (headOf (e .value) ++ take (flatOf (e .value) .length)
           (drop (flatOf (e .value) .start) texts))) 0 ≡ takesOf R texts e
-      takes-text l =
+      takes-value =
           ap₂ (λ (b : Bool) (v : List ℕ). pick b (fitting (classOf R (e .kind)) v) 0)
-          (sym (inside-flat texts (e .value))) (text-contents texts (e .value) l) ∙ takes-is
+          (sym (inside-flat texts (e .value))) (contents-are texts (e .value)) ∙ takes-is
 
     pub takes-none : (flatOf (e .value) .form ≡ formNumber (formOf (classOf R (e .kind))) → ⊥) → 0 ≡ takesOf R texts e
     unfolding takesOf legalEntry kindOf

@@ -2,12 +2,12 @@
 -- checksum behind them all.
 -- Assumes nothing.
 use Prim.Native.Nat.{ℕ, zero, suc, _+_, _-_, _%_, _≤_, _<_}
-use mathlib.Core.Path.{_≡_, refl, sym, _∙_, ap, ap₂, subst}
+use mathlib.Core.Path.{_≡_, refl, sym, _∙_, ap, ap₂}
 use mathlib.Core.List.{List, [], _∷_, _++_, append-nil, append-assoc}
 use native.Mathlib.Numerals.{add-one}
 use native.Mathlib.Omega.{arith}
 use lib.ListN.{length, take, drop, set, getD, length-drop, length-append, length-take, length-set, take-append-drop}
-use lib.Seq.{take-suc, take-all, take-take, take-at, drop-drop, drop-cons, length-take-le, set-append-seam}
+use lib.Seq.{take-length, take-suc, take-all, take-take, take-at, drop-drop, drop-cons, length-take-le, set-append-seam}
 use lib.Dec.{T}
 use borrow.Rule.Slice.PartMut.{putMid, midOf, same-len-mid}
 use Rattle.rules.specs.Tests.{every}
@@ -20,116 +20,87 @@ use Rattle.rules.proofs.Laying.{laid-then, rest-laid, rest-copied, part-is}
 use Rattle.draft.specs.Draft.{inside, allInside, parameterOf, parametersOf, used, messageOf}
 use Rattle.draft.specs.Same.{flatOf}
 use Rattle.draft.proofs.Alike.{inside-flat}
-use Rattle.draft.specs.declared.Value.{Value}
 use Rattle.draft.specs.declared.Flat.{Flat}
 use Rattle.draft.specs.declared.Entry.{Entry}
 use Rattle.draft.specs.declared.Draft.{Draft}
 use Rattle.writer.specs.Writing.{contentsOf}
-use Rattle.writer.specs.Judging.{spellingOf, small}
-use Rattle.writer.proofs.Judging.{small-short, small-contents, text-contents}
+use Rattle.writer.specs.Judging.{spellingOf, headOf}
+use Rattle.writer.proofs.Judging.{spelled-head, contents-are}
 use Rattle.writer.specs.declared.Spelling.{Spelling}
-use Rattle.writer.specs.Laying.{parameterOctets, Puttable, Layable}
+use Rattle.writer.specs.Laying.{LaidParameter, parameterOctets, Puttable, Layable}
 
--- ---- a type, a length, and a copy of the contents behind them
-pub parameter-laid : (old part last : List ℕ) (kind n : ℕ) → 2 + n ≤ length old →
-    last ≡ take (length part) part ++ drop (length part)
-    (take (length (set (set old 0 kind) 1 n) - 2) (drop 2 (set (set old 0 kind) 1 n))) →
-    putMid 2 (length (set (set old 0 kind) 1 n) - 2) (set (set old 0 kind) 1 n) last ≡ laid (kind ∷ n ∷ part) old
+-- ---- octets copied behind octets
+pub both-laid : (head text old out last : List ℕ) → out ≡ take (length head) head ++ drop (length head) old →
+    last ≡ take (length text) text ++ drop (length text) (take (length out - length head) (drop (length head) out)) →
+    putMid (length head) (length out - length head) out last ≡ laid (head ++ text) old
+unfolding laid
+both-laid head text old out last e q =
+    rest-copied text out last (length head) q
+    ∙ ap (laidAt text (length head))
+    (e ∙ ap (λ (t : List ℕ). t ++ drop (length head) old) (take-length head)) ∙ laid-then head text old
+
+-- ---- a type, a length, and the contents behind them
+laid-behind-two : (old v : List ℕ) (kind n : ℕ) → 2 + n ≤ length old →
+    laidAt v 2 (set (set old 0 kind) 1 n) ≡ laid (kind ∷ n ∷ v) old
 unfolding laid laidAt
-parameter-laid [] part last kind n h e = absurd (let z : 2 + n ≤ 0 = h in omega arith)
-parameter-laid (x ∷ []) part last kind n h e = absurd (let z : 2 + n ≤ 1 = h in omega arith)
-parameter-laid (x ∷ y ∷ zs) part last kind n h e =
-    rest-copied part (kind ∷ n ∷ zs) last 2 e
-    ∙ ap (λ (t : List ℕ). kind ∷ n ∷ (part ++ t)) (sym (drop-drop (length part) 2 (kind ∷ n ∷ zs)))
+laid-behind-two [] v kind n h = absurd (let z : 2 + n ≤ 0 = h in omega arith)
+laid-behind-two (x ∷ []) v kind n h = absurd (let z : 2 + n ≤ 1 = h in omega arith)
+laid-behind-two (x ∷ y ∷ zs) v kind n h =
+    ap (λ (t : List ℕ). kind ∷ n ∷ (v ++ t)) (sym (drop-drop (length v) 2 (kind ∷ n ∷ zs)))
 
-pub parameter-length : (old last : List ℕ) (kind n k : ℕ) →
-    length last ≡ length (midOf 2 k (set (set old 0 kind) 1 n)) →
-    length (putMid 2 k (set (set old 0 kind) 1 n) last) ≡ length old
-parameter-length old last kind n k e = same-len-mid 2 k (set (set old 0 kind) 1 n) last e ∙ simp length-set
+module _ (old head text : List ℕ) (kind : ℕ) where
+  -- the output with the first two
+  abbrev pub opened : List ℕ
+  opened = set (set old 0 kind) 1 (length head + length text)
 
--- ---- a parameter of the octets spelled, or of a part of the text area
-abbrev pub LaidParameter : ℕ → ℕ → List ℕ → List ℕ → List ℕ → ℕ → Type 0
-LaidParameter kind n v old new r = (new ≡ laid (kind ∷ n ∷ v) old) × (r ≡ 2 + n)
+  pub opened-long : length opened ≡ length old
+  opened-long = simp length-set
 
-spelled-small : (s : Spelling) (v : Value) → s ≡ spellingOf v → take (s .length) (s .octets) ≡ small v
-unfolding small
-spelled-small s v e = ap (λ (s : Spelling). take (s .length) (s .octets)) e
-
-pub spelled-asked : (s : Spelling) (v : Value) (room : ℕ) → s ≡ spellingOf v → 2 + length (small v) ≤ room →
-    (2 + length (take (s .length) (s .octets)) ≤ room) × (length (take (s .length) (s .octets)) < 256)
-spelled-asked s v room e h = let k = ap length (spelled-small s v e) in (omega arith, omega (arith, small-short v))
-
-pub spelled-put : (s : Spelling) (v : Value) (kind : ℕ) (old new : List ℕ) (r : ℕ) → s ≡ spellingOf v →
-    LaidParameter kind (length (take (s .length) (s .octets))) (take (s .length) (s .octets)) old new r →
-    LaidParameter kind (length (small v)) (small v) old new r
-spelled-put s v kind old new r e d =
-    subst (λ (w : List ℕ). LaidParameter kind (length w) w old new r) (spelled-small s v e) d
-
-module _ (texts : List ℕ) (start n : ℕ) (h : start + n ≤ length texts) where
-  part-long : length (take (start + n - start) (drop start texts)) ≡ n
-  part-long =
-      ap length (part-is texts start n) ∙ length-take-le n (drop start texts) (omega (arith, length-drop start texts))
-
-  pub part-asked : (room : ℕ) → 2 + n ≤ room → n < 256 →
-      (2 + length (take (start + n - start) (drop start texts)) ≤ room)
-      × (length (take (start + n - start) (drop start texts)) < 256)
-  part-asked room f l = (omega (arith, part-long), omega (arith, part-long))
-
-  pub part-put : (kind : ℕ) (old new : List ℕ) (r : ℕ) →
-      LaidParameter kind (length (take (start + n - start) (drop start texts)))
-      (take (start + n - start) (drop start texts)) old new r → LaidParameter kind n (take n
-      (drop start texts)) old new r
-  part-put kind old new r d =
-      subst (λ (v : List ℕ). LaidParameter kind n v old new r) (part-is texts start n)
-      (subst (λ (m : ℕ). LaidParameter kind m (take (start + n - start) (drop start texts)) old new r) part-long d)
+  pub parameter-laid : (last : List ℕ) → 2 + (length head + length text) ≤ length old →
+      last ≡ laid (head ++ text) (take (length opened - 2) (drop 2 opened)) →
+      LaidParameter kind (head ++ text) old (putMid 2 (length opened - 2) opened last) (2 + (length head + length text))
+  parameter-laid last h e =
+      let n = length-append head text in (
+        rest-laid (head ++ text) opened last 2 e ∙ laid-behind-two old (head ++ text) kind (length head + length text) h
+            ∙ ap (λ (k : ℕ). laid (kind ∷ k ∷ (head ++ text)) old) (sym n),
+        ap (λ (k : ℕ). 2 + k) (sym n),
+      )
 
 -- ---- the parameter of an entry, by its value laid flat
-module _ (texts : List ℕ) (e : Entry) (f : Flat) (q : f ≡ flatOf (e .value)) (room : ℕ)
-    (p : Puttable e texts room) where
-  by-contents : (v : List ℕ) → v ≡ contentsOf texts e → e .kind ∷ length v ∷ v ≡ parameterOctets texts e
-  unfolding parameterOctets
-  by-contents v s = ap (λ (v : List ℕ). e .kind ∷ length v ∷ v) s
+module _ (texts : List ℕ) (e : Entry) (f : Flat) (q : f ≡ flatOf (e .value)) (s : Spelling)
+    (z : s ≡ spellingOf (e .value)) (room : ℕ) (p : Puttable e texts room) where
+  -- the octets spelled, and its text by start and end
+  abbrev inTwo : List ℕ
+  inTwo = take (s .length) (s .octets) ++ take (f .start + f .length - f .start) (drop (f .start) texts)
 
-  whole : length (parameterOctets texts e) ≡ 2 + length (contentsOf texts e)
-  unfolding parameterOctets
-  whole = omega arith
+  two-are : inTwo ≡ contentsOf texts e
+  two-are =
+      ap₂ (λ (v w : List ℕ). v ++ w) (spelled-head s (e .value) z) (part-is texts (f .start) (f .length))
+      ∙ ap (λ (f : Flat). headOf (e .value) ++ take (f .length) (drop (f .start) texts)) q
+      ∙ contents-are texts (e .value)
 
-  number-is : f .form < 3 → small (e .value) ≡ contentsOf texts e
-  number-is l = small-contents texts (e .value) (rw q at l) .0
-
-  pub number-asked : f .form < 3 → 2 + length (small (e .value)) ≤ room
-  number-asked l = omega (arith, ap length (number-is l), p .fits, whole)
-
-  pub number-put : f .form < 3 → (old new : List ℕ) (r : ℕ) →
-      LaidParameter (e .kind) (length (small (e .value))) (small (e .value)) old new r →
-      (new ≡ laid (parameterOctets texts e) old) × (r ≡ length (parameterOctets texts e))
-  number-put l old new r d = (
-    d .0 ∙ ap (λ (t : List ℕ). laid t old) (by-contents _ (number-is l)),
-    d .1
-        ∙ ap (λ (v : List ℕ). 2 + length v) (number-is l) ∙ sym whole,
-  )
-
-  text-is : 3 ≤ f .form → take (f .length) (drop (f .start) texts) ≡ contentsOf texts e
-  text-is l = rw q (text-contents texts (e .value) (rw q at l))
-
-  text-inside : f .start + f .length ≤ length texts
+  pub text-inside : f .start + f .length ≤ length texts
   text-inside = let h = le-of _ _ (rw (inside-flat texts (e .value)) at (p .lies)) in rw q h
 
-  text-long : 3 ≤ f .form → length (contentsOf texts e) ≡ f .length
-  text-long l =
-      ap length (sym (text-is l)) ∙ length-take-le (f .length) (drop (f .start) texts)
-      (omega (arith, length-drop (f .start) texts, text-inside))
+  long : length (take (s .length) (s .octets)) + length
+      (take (f .start + f .length - f .start) (drop (f .start) texts)) ≡ length (contentsOf texts e)
+  long =
+      sym (length-append (take (s .length) (s .octets))
+      (take (f .start + f .length - f .start) (drop (f .start) texts))) ∙ ap length two-are
 
-  pub text-asked : 3 ≤ f .form → (2 + f .length ≤ room) × ((f .start + f .length ≤ length texts) × (f .length < 256))
-  text-asked l = (omega (arith, text-long l, p .fits, whole), (text-inside, omega (arith, text-long l, p .short)))
+  pub entry-asked : (2 + (length (take (s .length) (s .octets)) + length
+      (take (f .start + f .length - f .start) (drop (f .start) texts))) ≤ room)
+      × (length (take (s .length) (s .octets)) + length
+      (take (f .start + f .length - f .start) (drop (f .start) texts)) < 256)
+  unfolding parameterOctets
+  entry-asked = (omega (arith, long, p .fits), omega (arith, long, p .short))
 
-  pub text-put : 3 ≤ f .form → (old new : List ℕ) (r : ℕ) →
-      LaidParameter (e .kind) (f .length) (take (f .length) (drop (f .start) texts)) old new r →
+  pub entry-put : (old new : List ℕ) (r : ℕ) → LaidParameter (e .kind) inTwo old new r →
       (new ≡ laid (parameterOctets texts e) old) × (r ≡ length (parameterOctets texts e))
-  text-put l old new r d = (
-    d .0 ∙ ap (λ (n : ℕ). laid (e .kind ∷ n ∷ take (f .length) (drop (f .start) texts)) old)
-        (sym (text-long l) ∙ ap length (sym (text-is l))) ∙ ap (λ (t : List ℕ). laid t old) (by-contents _ (text-is l)),
-    d .1 ∙ ap (λ (n : ℕ). 2 + n) (sym (text-long l)) ∙ sym whole,
+  unfolding parameterOctets
+  entry-put old new r d = (
+    d .0 ∙ ap (λ (v : List ℕ). laid (e .kind ∷ length v ∷ v) old) two-are,
+    omega (arith, d .1, ap length two-are),
   )
 
 -- ---- parameters one behind the other, behind the message type and L

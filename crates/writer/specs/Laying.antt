@@ -6,10 +6,16 @@ use mathlib.Core.List.{List, _∷_}
 use lib.ListN.{length}
 use lib.Dec.{T}
 use Rattle.rules.specs.Message.{body, most}
+use Rattle.rules.specs.Laying.{laid}
 use Rattle.draft.specs.Draft.{inside, allInside, parametersOf, used}
 use Rattle.draft.specs.declared.Entry.{Entry}
 use Rattle.draft.specs.declared.Draft.{Draft}
 use Rattle.writer.specs.Writing.{contentsOf}
+
+-- of an output that held `old` and then holds `new`: a type, the length of some contents and these are laid down, r
+-- octets in all
+abbrev pub LaidParameter : ℕ → List ℕ → List ℕ → List ℕ → ℕ → Type 0
+LaidParameter kind v old new r = (new ≡ laid (kind ∷ length v ∷ v) old) × (r ≡ 2 + length v)
 
 -- a type, a length and the contents
 unfoldable pub parameterOctets : List ℕ → Entry → List ℕ

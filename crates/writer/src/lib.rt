@@ -7,7 +7,7 @@ use rules::Book;
 use rules::Class;
 use rules::Fault;
 ghost use mathlib.Core.Path.{_≡_};
-ghost use mathlib.Core.List.{_∷_};
+ghost use mathlib.Core.List.{_++_};
 ghost use Prim.Native.Nat.{_+_, _%_, _≤_, _<_};
 ghost use lib.ListN as list;
 ghost use Rattle.rules.specs.Tests.{_≤?_, pick};
@@ -18,8 +18,8 @@ ghost use Rattle.draft.specs.Draft.{used, messageOf};
 ghost use Rattle.rules.specs.Laying.{laid};
 ghost use Rattle.draft.specs.declared.Value.the-variants as value;
 ghost use Rattle.writer.specs.Writing.{unwritten, sized, measuredOf, writeOf, writeIn, outputAfter};
-ghost use Rattle.writer.specs.Judging.{spellingOf, small, fitting, takesOf, measureFrom};
-ghost use Rattle.writer.specs.Laying.{parameterOctets, Puttable, Layable};
+ghost use Rattle.writer.specs.Judging.{stampOf, firstOf, spellingOf, headOf, fitting, takesOf, measureFrom};
+ghost use Rattle.writer.specs.Laying.{LaidParameter, parameterOctets, Puttable, Layable};
 
 // A message of `size` octets at the start of the output, or a refusal.
 pub enum Written {
@@ -33,9 +33,9 @@ pub struct Writing {
     pub answer: Written,
 }
 
-// The contents of a value without a text: the first `length` of eight octets.
+// What the contents of a value have before its text, which is all where it has none: the first `length` of ten octets.
 struct Spelling {
-    octets: [u8; 8],
+    octets: [u8; 10],
     length: usize,
 }
 
@@ -46,9 +46,17 @@ enum Measure {
     Size(usize),
 }
 
-// Two digits for each number of a date.
-fn spell_date(month: u8, day: u8, hour: u8, minute: u8) -> Spelling
-    ensures { λ r. ⌜ r ≡ spellingOf (value.Date month day hour minute) ⌝ }
+// Two digits for each number of a date and two octets behind them: the first eight or all ten are spelled.
+fn spell_stamp(
+    month: u8,
+    day: u8,
+    hour: u8,
+    minute: u8,
+    ninth: u8,
+    tenth: u8,
+    length: usize,
+) -> Spelling
+    ensures { λ r. ⌜ r ≡ stampOf month day hour minute ninth tenth length ⌝ }
 {
     Spelling {
         octets: [
@@ -60,8 +68,42 @@ fn spell_date(month: u8, day: u8, hour: u8, minute: u8) -> Spelling
             48 + hour % 10,
             48 + minute / 10,
             48 + minute % 10,
+            ninth,
+            tenth,
         ],
-        length: 8,
+        length,
+    }
+}
+
+// A date, with its seconds where `second` is not 0 (document 02, Q-4).
+fn spell_moment(month: u8, day: u8, hour: u8, minute: u8, second: u8) -> Spelling
+    ensures { λ r. ⌜ r ≡ spellingOf (value.Moment month day hour minute second) ⌝ }
+{
+    if second == 0 {
+        spell_stamp(month, day, hour, minute, 0, 0, 8)
+    } else {
+        let s = second - 1;
+        spell_stamp(month, day, hour, minute, 48 + s / 10, 48 + s % 10, 10)
+    }
+}
+
+fn spell_duration(hours: u8, minutes: u8, seconds: u8) -> Spelling
+    ensures { λ r. ⌜ r ≡ spellingOf (value.Duration hours minutes seconds) ⌝ }
+{
+    Spelling {
+        octets: [
+            48 + hours / 10,
+            48 + hours % 10,
+            48 + minutes / 10,
+            48 + minutes % 10,
+            48 + seconds / 10,
+            48 + seconds % 10,
+            0,
+            0,
+            0,
+            0,
+        ],
+        length: 6,
     }
 }
 
@@ -72,8 +114,18 @@ fn spell_state(state: u8, reference: u16) -> Spelling
     let high = (reference / 256) as u8;
     let low = (reference % 256) as u8;
     Spelling {
-        octets: [state, high, low, 0, 0, 0, 0, 0],
+        octets: [state, high, low, 0, 0, 0, 0, 0, 0, 0],
         length: 3,
+    }
+}
+
+// A first octet, or none.
+fn spell_first(x: u8, length: usize) -> Spelling
+    ensures { λ r. ⌜ r ≡ firstOf x length ⌝ }
+{
+    Spelling {
+        octets: [x, 0, 0, 0, 0, 0, 0, 0, 0, 0],
+        length,
     }
 }
 
@@ -86,27 +138,45 @@ fn spell(v: Value) -> Spelling
             day,
             hour,
             minute,
-        } => spell_date(month, day, hour, minute),
-        Value::Code(x) => Spelling {
-            octets: [x, 0, 0, 0, 0, 0, 0, 0],
-            length: 1,
-        },
+        } => spell_stamp(month, day, hour, minute, 0, 0, 8),
+        Value::Code(x) => spell_first(x, 1),
         Value::State { state, reference } => spell_state(state, reference),
         Value::Text {
             start: _,
             length: _,
-        } => Spelling {
-            octets: [0; 8],
-            length: 0,
-        },
+        } => spell_first(0, 0),
         Value::Carried {
             start: _,
             length: _,
-        } => Spelling {
-            octets: [0; 8],
-            length: 0,
-        },
+        } => spell_first(0, 0),
+        Value::Moment {
+            month,
+            day,
+            hour,
+            minute,
+            second,
+        } => spell_moment(month, day, hour, minute, second),
+        Value::Duration {
+            hours,
+            minutes,
+            seconds,
+        } => spell_duration(hours, minutes, seconds),
+        Value::Marked {
+            mark,
+            start: _,
+            length: _,
+        } => spell_first(mark, 1),
     }
+}
+
+// Octets and others behind them, from the output's first octet on.
+fn put_both(out: &mut [u8], head: &[u8], text: &[u8])
+    requires { ⌜ list.length (now head) + list.length (now text) ≤ list.length (now out) ⌝ }
+    ensures { λ r. ⌜ now (out .exit) ≡ laid (now (head .entry) ++ now (text .entry)) (now (out .entry)) ⌝ }
+{
+    let n = head.len();
+    bytes::copy(head, out);
+    bytes::copy(text, &mut out[n..]);
 }
 
 // The length of contents that fit their class; 0, which no contents have, where they do not.
@@ -129,21 +199,44 @@ fn fitting_length(class: Class, part: &[u8]) -> u8
     }
 }
 
-fn number_length(class: Class, v: Value) -> u8
-    ensures { λ r. ⌜ r ≡ fitting class (small v) ⌝ }
+// The same of contents in two parts, laid down in one place to be judged.
+fn laid_length(class: Class, head: &[u8], text: &[u8]) -> u8
+    requires { ⌜ list.length (now head) ≤ 10 ⌝ }
+    ensures { λ r. ⌜ r ≡ fitting class (now (head .entry) ++ now (text .entry)) ⌝ }
 {
-    let spelling = spell(v);
-    let n = spelling.length;
-    let octets = spelling.octets;
-    fitting_length(class, &octets[..n])
+    if rules::LONGEST - head.len() < text.len() {
+        return 0;
+    }
+    let n = head.len() + text.len();
+    let mut contents = [0u8; rules::LONGEST];
+    put_both(&mut contents, head, text);
+    fitting_length(class, &contents[..n])
 }
 
-fn text_length(class: Class, texts: &[u8], start: usize, length: usize) -> u8
-    ensures { λ r. ⌜ r ≡ pick (start + length ≤? list.length (now (texts .entry))) (fitting class (list.take length (list.drop start (now (texts .entry))))) 0 ⌝ }
+// The same where one part may be empty: the other is judged where it lies.
+fn joined_length(class: Class, head: &[u8], text: &[u8]) -> u8
+    requires { ⌜ list.length (now head) ≤ 10 ⌝ }
+    ensures { λ r. ⌜ r ≡ fitting class (now (head .entry) ++ now (text .entry)) ⌝ }
+{
+    if head.len() == 0 {
+        fitting_length(class, text)
+    } else if text.len() == 0 {
+        fitting_length(class, head)
+    } else {
+        laid_length(class, head, text)
+    }
+}
+
+// The same of a value whose text, if it has one, is here; 0 where that does not lie inside.
+fn value_length(class: Class, v: Value, texts: &[u8], start: usize, length: usize) -> u8
+    ensures { λ r. ⌜ r ≡ pick (start + length ≤? list.length (now (texts .entry))) (fitting class (headOf v ++ list.take length (list.drop start (now (texts .entry))))) 0 ⌝ }
 {
     if draft::lies(texts, start, length) {
+        let spelling = spell(v);
+        let n = spelling.length;
+        let octets = spelling.octets;
         let end = start + length;
-        fitting_length(class, &texts[start..end])
+        joined_length(class, &octets[..n], &texts[start..end])
     } else {
         0
     }
@@ -158,11 +251,7 @@ fn entry_length(book: Book, e: Entry, texts: &[u8]) -> u8
     let class = rules::class_of(book, e.kind);
     let flat = draft::flatten(value);
     if flat.form == draft::form_of(class) {
-        if flat.form < draft::TEXT_FORM {
-            number_length(class, value)
-        } else {
-            text_length(class, texts, flat.start, flat.length)
-        }
+        value_length(class, value, texts, flat.start, flat.length)
     } else {
         0
     }
@@ -240,32 +329,16 @@ fn judge(book: Book, draft: Draft, texts: &[u8], room: usize) -> Written
     }
 }
 
-fn put_parameter(out: &mut [u8], kind: u8, part: &[u8]) -> usize
-    requires { ⌜ (2 + list.length (now part) ≤ list.length (now out)) × (list.length (now part) < 256) ⌝ }
-    ensures { λ r. ⌜ (now (out .exit) ≡ laid (kind ∷ list.length (now (part .entry)) ∷ now (part .entry)) (now (out .entry))) × (r ≡ 2 + list.length (now (part .entry))) ⌝ }
+// A type, a length, and contents in two parts.
+fn put_parameter(out: &mut [u8], kind: u8, head: &[u8], text: &[u8]) -> usize
+    requires { ⌜ (2 + (list.length (now head) + list.length (now text)) ≤ list.length (now out)) × (list.length (now head) + list.length (now text) < 256) ⌝ }
+    ensures { λ r. ⌜ LaidParameter kind (now (head .entry) ++ now (text .entry)) (now (out .entry)) (now (out .exit)) r ⌝ }
 {
+    let n = head.len() + text.len();
     out[0] = kind;
-    out[1] = part.len() as u8;
-    bytes::copy(part, &mut out[2..]);
-    2 + part.len()
-}
-
-fn put_number(out: &mut [u8], kind: u8, v: Value) -> usize
-    requires { ⌜ 2 + list.length (small v) ≤ list.length (now out) ⌝ }
-    ensures { λ r. ⌜ (now (out .exit) ≡ laid (kind ∷ list.length (small v) ∷ small v) (now (out .entry))) × (r ≡ 2 + list.length (small v)) ⌝ }
-{
-    let spelling = spell(v);
-    let n = spelling.length;
-    let octets = spelling.octets;
-    put_parameter(out, kind, &octets[..n])
-}
-
-fn put_text(out: &mut [u8], kind: u8, texts: &[u8], start: usize, length: usize) -> usize
-    requires { ⌜ (2 + length ≤ list.length (now out)) × ((start + length ≤ list.length (now texts)) × (length < 256)) ⌝ }
-    ensures { λ r. ⌜ (now (out .exit) ≡ laid (kind ∷ length ∷ list.take length (list.drop start (now (texts .entry)))) (now (out .entry))) × (r ≡ 2 + length) ⌝ }
-{
-    let end = start + length;
-    put_parameter(out, kind, &texts[start..end])
+    out[1] = n as u8;
+    put_both(&mut out[2..], head, text);
+    2 + n
 }
 
 // The parameter that an entry makes, from the output's first octet on.
@@ -275,11 +348,12 @@ fn put_entry(out: &mut [u8], e: Entry, texts: &[u8]) -> usize
 {
     let value = e.value;
     let flat = draft::flatten(value);
-    if flat.form < draft::TEXT_FORM {
-        put_number(out, e.kind, value)
-    } else {
-        put_text(out, e.kind, texts, flat.start, flat.length)
-    }
+    let spelling = spell(value);
+    let n = spelling.length;
+    let octets = spelling.octets;
+    let start = flat.start;
+    let end = start + flat.length;
+    put_parameter(out, e.kind, &octets[..n], &texts[start..end])
 }
 
 // All but the checksum: each parameter is laid down from its own place onward, in the output's rest.

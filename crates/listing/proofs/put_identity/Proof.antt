@@ -4,7 +4,7 @@ use mathlib.Core.Path.{ap}
 use Rattle.rules.specs.Table.{ascii}
 use Rattle.listing.specs.Put.{put-three, put-same, room-first, room-second, room-third}
 use Rattle.listing.proofs.Pieces.{room-same}
-use Rattle.listing.specs.Listing.{stateWord}
+use Rattle.listing.specs.Listing.{stateWord, identity}
 use Rattle.listing.specs.Numerals.{decimal}
 use borrow.Author.Needs.{needs}
 use Rattle.listing.proofs.put_identity.Statement.{statement}
@@ -14,14 +14,14 @@ octet-requires : tie.Need-octet-requires
 octet-requires c κs = search needs
 
 put-state-requires : tie.Need-put-state-requires
-unfolding ascii
+unfolding identity ascii
 put-state-requires c κs =
     let start = c .before .before .before .before in
     room-same _ _ _ _ (ap stateWord (c .before .octet .ensures))
     (room-first _ _ _ _ _ (start .pre))
 
 put-octet-requires : tie.Need-put-octet-requires
-unfolding ascii
+unfolding identity ascii
 put-octet-requires c κs =
     let after-octet = c .before .before .before .before .before in
     let start = after-octet .before .before .before in
@@ -32,7 +32,7 @@ reference-in-requires : tie.Need-reference-in-requires
 reference-in-requires c κs = search needs
 
 put-decimal-requires : tie.Need-put-decimal-requires
-unfolding ascii
+unfolding identity ascii
 put-decimal-requires c κs =
     let after-put-octet = c .before .before .before .before in
     let after-put-state = after-put-octet .before .before .before .before in
@@ -46,7 +46,7 @@ same-length : tie.Need-same-length
 same-length c = search needs
 
 returns : tie.Need-returns
-unfolding ascii
+unfolding identity ascii
 returns c =
     let after-reference-in = c .before .before .before .before in
     let after-put-state = after-reference-in .before .before .before .before .before .before .before in

@@ -1,9 +1,7 @@
--- `rules::class_of` meets its contract: each edition has its table, and the strict way takes what is carried out
--- of it.
+-- `rules::class_of` meets its contract: each edition has its table, and the book the class of types without a row.
 -- Assumes nothing.
-use mathlib.Core.Path.{refl}
-use Rattle.rules.proofs.Returns.{pick-t, pick-f, via}
-use Rattle.rules.proofs.Rivals.{book-class}
+use Rattle.rules.proofs.Returns.{via}
+use Rattle.rules.proofs.Rivals.{in-old, in-present}
 use borrow.Author.Needs.{needs}
 use Rattle.rules.proofs.class_of.Statement.{statement}
 use Rattle.rules.proofs.class_of.Tie as tie
@@ -11,28 +9,38 @@ use Rattle.rules.proofs.class_of.Tie as tie
 is-old-requires : tie.Need-is-old-requires
 is-old-requires c κs = search needs
 
-edition-class-requires : tie.Need-edition-class-requires
-edition-class-requires c κs = search needs
+others-of-requires : tie.Need-others-of-requires
+others-of-requires c κs = search needs
 
-is-strict-requires : tie.Need-is-strict-requires
-is-strict-requires c κs = search needs
+old-class-requires : tie.Need-old-class-requires
+old-class-requires c κs = search needs
 
-strictly-requires : tie.Need-strictly-requires
-strictly-requires c κs = search needs
+others-of-requires-2 : tie.Need-others-of-requires-2
+others-of-requires-2 c κs = search needs
+
+present-class-requires : tie.Need-present-class-requires
+present-class-requires c κs = search needs
 
 returns : tie.Need-returns
 returns c =
-    let p = c .before .before .before in
-    book-class _ _ _ _ _ (p .before .is-old .ensures) (p .edition-class .ensures)
-    (pick-t _ _ _ _ (via _ _ _ (c .before .before .is-strict .ensures) (c .before .if1 .taken)) (c .strictly .ensures))
+    let other = c .before in
+    in-old _ _ _ _ (other .others-of .ensures) (via _ _ _ (other .before .before .is-old .ensures) (other .before .if1 .taken))
+    (c .old-class .ensures)
 
 returns-2 : tie.Need-returns-2
 returns-2 c =
-    let p = c .before .before in
-    book-class _ _ _ _ _ (p .before .is-old .ensures) (p .edition-class .ensures)
-    (pick-f _ _ _ _ (via _ _ _ (c .before .is-strict .ensures) (c .if1 .left)) refl)
+    let other = c .before in
+    in-present _ _ _ _ (other .others-of2 .ensures)
+    (via _ _ _ (other .before .before .is-old .ensures) (other .before .if1 .left)) (c .present-class .ensures)
 
 pub class-of-spec : {M : Type 1} → statement M
 class-of-spec =
     tie.close
-    (tie.spec is-old-requires edition-class-requires is-strict-requires strictly-requires returns returns-2)
+    (tie.spec
+    is-old-requires
+    others-of-requires
+    old-class-requires
+    others-of-requires-2
+    present-class-requires
+    returns
+    returns-2)

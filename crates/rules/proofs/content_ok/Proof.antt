@@ -1,5 +1,5 @@
--- `rules::content_ok` meets its contract: where no rows are asked for the first octet alone is judged; else a date by
--- the calendar, a text by its kind.
+-- `rules::content_ok` meets its contract: where no rows are asked for the first octet alone is judged; else contents of
+-- no one kind by judges of their own, a text by its kind.
 -- Assumes nothing.
 use mathlib.Core.Path.{_∙_, sym, ap}
 use Prim.Native.Nat.{ℕ}
@@ -17,11 +17,8 @@ kind-of-requires c κs = search needs
 code-ok-requires : tie.Need-code-ok-requires
 code-ok-requires c κs = sym (c .before .before .kind-of .ensures) ∙ c .before .if1 .taken
 
-code-of-requires : tie.Need-code-of-requires
-code-of-requires c κs = search needs
-
-date-ok-requires : tie.Need-date-ok-requires
-date-ok-requires c κs = search needs
+mixed-ok-requires : tie.Need-mixed-ok-requires
+mixed-ok-requires c κs = search needs
 
 admits-requires : tie.Need-admits-requires
 admits-requires c κs = search needs
@@ -43,20 +40,19 @@ returns-2 c =
 returns-3 : tie.Need-returns-3
 unfolding okBy
 returns-3 c =
-    let code = c .before .before in
-    let kind = code .before in
-    pick-f _ _ _ _ (no-eq _ _ (λ z. kind .if1 .left (kind .before .kind-of .ensures ∙ z)))
-    (pick-t _ _ _ _ (yes-eq _ _ (sym (code .code-of .ensures) ∙ c .before .if3 .taken)) (c .date-ok .ensures))
+    let kind = c .before .before in
+    let told = kind .before .kind-of .ensures in
+    pick-f _ _ _ _ (no-eq _ _ (λ z. kind .if1 .left (told ∙ z)))
+    (pick-t _ _ _ _ (yes-eq _ _ (sym told ∙ c .before .if3 .taken)) (c .mixed-ok .ensures))
 
 returns-4 : tie.Need-returns-4
 unfolding okBy
 returns-4 c =
-    let code = c .before .before in
-    let kind = code .before in
+    let kind = c .before .before in
     let told = kind .before .kind-of .ensures in
     let a = kind .before .before .args in
     pick-f _ _ _ _ (no-eq _ _ (λ z. kind .if1 .left (told ∙ z)))
-    (pick-f _ _ _ _ (no-eq _ _ (λ z. c .before .if3 .left (code .code-of .ensures ∙ z)))
+    (pick-f _ _ _ _ (no-eq _ _ (λ z. c .before .if3 .left (told ∙ z)))
     (c .admits .ensures ∙ ap (λ (k : ℕ). admitted (a .row) k) told))
 
 pub content-ok-spec : {M : Type 1} → statement M
@@ -65,8 +61,7 @@ content-ok-spec =
     (tie.spec
     kind-of-requires
     code-ok-requires
-    code-of-requires
-    date-ok-requires
+    mixed-ok-requires
     admits-requires
     returns
     returns-2

@@ -2,6 +2,7 @@
 -- octet decides.
 -- Assumes nothing.
 use mathlib.Core.Path.{refl, sym, _∙_}
+use native.Mathlib.Omega.{arith}
 use Rattle.rules.proofs.Octets.{octets-known}
 use Rattle.rules.proofs.Returns.{pick-t, pick-f}
 use Rattle.rules.proofs.Standing.{none-stand}
@@ -17,7 +18,8 @@ asks-requires : tie.Need-asks-requires
 asks-requires c κs = search needs
 
 by-rows-requires : tie.Need-by-rows-requires
-by-rows-requires c κs = sym (c .before .asks .ensures) ∙ c .if2 .taken
+by-rows-requires c κs =
+    (sym (c .before .asks .ensures) ∙ c .if2 .taken, omega (arith, c .before .before .if1 .left))
 
 shared-slice-read-code-ok : tie.Need-shared-slice-read-code-ok
 shared-slice-read-code-ok c = search needs

@@ -53,6 +53,27 @@ enum-told-15 c = search needs
 enum-told-16 : tie.Need-enum-told-16
 enum-told-16 c = search needs
 
+enum-told-17 : tie.Need-enum-told-17
+enum-told-17 c = search needs
+
+enum-told-18 : tie.Need-enum-told-18
+enum-told-18 c = search needs
+
+enum-told-19 : tie.Need-enum-told-19
+enum-told-19 c = search needs
+
+enum-told-20 : tie.Need-enum-told-20
+enum-told-20 c = search needs
+
+enum-told-21 : tie.Need-enum-told-21
+enum-told-21 c = search needs
+
+enum-told-22 : tie.Need-enum-told-22
+enum-told-22 c = search needs
+
+enum-told-23 : tie.Need-enum-told-23
+enum-told-23 c = search needs
+
 returns : tie.Need-returns
 unfolding formOf
 returns c = rw (c .enum-told .given .1)
@@ -117,9 +138,81 @@ returns-16 : tie.Need-returns-16
 unfolding formOf
 returns-16 c = rw (c .enum-told16 .given .1)
 
+returns-17 : tie.Need-returns-17
+unfolding formOf
+returns-17 c = rw (c .enum-told17 .given .1)
+
+returns-18 : tie.Need-returns-18
+unfolding formOf
+returns-18 c = rw (c .enum-told18 .given .1)
+
+returns-19 : tie.Need-returns-19
+unfolding formOf
+returns-19 c = rw (c .enum-told19 .given .1)
+
+returns-20 : tie.Need-returns-20
+unfolding formOf
+returns-20 c = rw (c .enum-told20 .given .1)
+
+returns-21 : tie.Need-returns-21
+unfolding formOf
+returns-21 c = rw (c .enum-told21 .given .1)
+
+returns-22 : tie.Need-returns-22
+unfolding formOf
+returns-22 c = rw (c .enum-told22 .given .1)
+
+returns-23 : tie.Need-returns-23
+unfolding formOf
+returns-23 c = rw (c .enum-told23 .given .1)
+
 pub form-of-spec : {M : Type 1} → statement M
 form-of-spec =
-    tie.close (tie.spec enum-told enum-told-2 enum-told-3 enum-told-4 enum-told-5 enum-told-6 enum-told-7
-    enum-told-8 enum-told-9 enum-told-10 enum-told-11 enum-told-12 enum-told-13 enum-told-14 enum-told-15
-    enum-told-16 returns returns-2 returns-3 returns-4 returns-5 returns-6 returns-7 returns-8 returns-9 returns-10
-    returns-11 returns-12 returns-13 returns-14 returns-15 returns-16)
+    tie.close
+    (tie.spec
+    enum-told
+    enum-told-2
+    enum-told-3
+    enum-told-4
+    enum-told-5
+    enum-told-6
+    enum-told-7
+    enum-told-8
+    enum-told-9
+    enum-told-10
+    enum-told-11
+    enum-told-12
+    enum-told-13
+    enum-told-14
+    enum-told-15
+    enum-told-16
+    enum-told-17
+    enum-told-18
+    enum-told-19
+    enum-told-20
+    enum-told-21
+    enum-told-22
+    enum-told-23
+    returns
+    returns-2
+    returns-3
+    returns-4
+    returns-5
+    returns-6
+    returns-7
+    returns-8
+    returns-9
+    returns-10
+    returns-11
+    returns-12
+    returns-13
+    returns-14
+    returns-15
+    returns-16
+    returns-17
+    returns-18
+    returns-19
+    returns-20
+    returns-21
+    returns-22
+    returns-23)

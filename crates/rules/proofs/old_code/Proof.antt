@@ -5,7 +5,6 @@ use Rattle.rules.proofs.Returns.{tests}
 use borrow.Author.Needs.{needs}
 use Rattle.rules.proofs.old_code.Statement.{statement}
 use Rattle.rules.proofs.old_code.Tie as tie
-use Rattle.rules.proofs.among.Reads as among-reads
 
 among-requires : tie.Need-among-requires
 among-requires c κs = search needs
@@ -18,6 +17,9 @@ among-requires-3 c κs = search needs
 
 among-requires-4 : tie.Need-among-requires-4
 among-requires-4 c κs = search needs
+
+among-requires-5 : tie.Need-among-requires-5
+among-requires-5 c κs = search needs
 
 returns : tie.Need-returns
 unfolding inSet
@@ -35,15 +37,10 @@ returns-4 : tie.Need-returns-4
 unfolding inSet
 returns-4 c = search tests
 
+returns-5 : tie.Need-returns-5
+unfolding inSet
+returns-5 c = search tests
+
 pub old-code-spec : {M : Type 1} → statement M
 old-code-spec =
-    tie.close
-    (tie.spec
-    among-requires
-    among-requires-2
-    among-requires-3
-    among-requires-4
-    returns
-    returns-2
-    returns-3
-    returns-4)
+    tie.close (tie.spec among-requires among-requires-2 among-requires-3 among-requires-4 among-requires-5 returns returns-2 returns-3 returns-4 returns-5)

@@ -1,73 +1,151 @@
--- `rules::present_class` meets its contract: a type that a test names has the class of its row, and any other is
--- carried.
+-- `rules::present_class` meets its contract: a type that the match names has the class of its row, and any other
+-- that of types without one.
 -- Assumes nothing.
-use mathlib.Core.Path.{sym, ap}
+use mathlib.Core.Path.{refl}
 use Rattle.rules.specs.Tests.{_=?_, pick}
-use Rattle.rules.specs.Table.{rulesOf, classOf, rowOf, rowIn}
-use Rattle.rules.specs.declared.Book.the-variants.{PresentLenient}
-use Rattle.rules.proofs.Rivals.{row-past}
+use Rattle.rules.specs.Table.{rowIn}
+use Rattle.rules.proofs.Rivals.{row-past, last-row}
 use Rattle.rules.proofs.present_class.Statement.{statement}
 use Rattle.rules.proofs.present_class.Tie as tie
 
 returns : tie.Need-returns
-unfolding classOf rowOf rowIn rulesOf pick _=?_
-returns c = sym (ap (classOf (rulesOf PresentLenient)) (c .if1 .taken))
+unfolding rowIn pick _=?_
+returns c = rw (c .match .keys1)
 
 returns-2 : tie.Need-returns-2
-unfolding classOf rowOf rowIn rulesOf pick _=?_
-returns-2 c = sym (ap (classOf (rulesOf PresentLenient)) (c .if2 .taken))
+unfolding rowIn pick _=?_
+returns-2 c = rw (c .match .keys2)
 
 returns-3 : tie.Need-returns-3
-unfolding classOf rowOf rowIn rulesOf pick _=?_
-returns-3 c = sym (ap (classOf (rulesOf PresentLenient)) (c .if3 .taken))
+unfolding rowIn pick _=?_
+returns-3 c = rw (c .match .keys3)
 
 returns-4 : tie.Need-returns-4
-unfolding classOf rowOf rowIn rulesOf pick _=?_
-returns-4 c = sym (ap (classOf (rulesOf PresentLenient)) (c .if4 .taken))
+unfolding rowIn pick _=?_
+returns-4 c = rw (c .match .keys4)
 
 returns-5 : tie.Need-returns-5
-unfolding classOf rowOf rowIn rulesOf pick _=?_
-returns-5 c = sym (ap (classOf (rulesOf PresentLenient)) (c .if5 .taken))
+unfolding rowIn pick _=?_
+returns-5 c = rw (c .match .keys5)
 
 returns-6 : tie.Need-returns-6
-unfolding classOf rowOf rowIn rulesOf pick _=?_
-returns-6 c = sym (ap (classOf (rulesOf PresentLenient)) (c .if6 .taken))
+unfolding rowIn pick _=?_
+returns-6 c = rw (c .match .keys6)
 
 returns-7 : tie.Need-returns-7
-unfolding classOf rowOf rowIn rulesOf pick _=?_
-returns-7 c = sym (ap (classOf (rulesOf PresentLenient)) (c .if7 .taken))
+unfolding rowIn pick _=?_
+returns-7 c = rw (c .match .keys7)
 
 returns-8 : tie.Need-returns-8
-unfolding classOf rowOf rowIn rulesOf pick _=?_
-returns-8 c = sym (ap (classOf (rulesOf PresentLenient)) (c .if8 .taken))
+unfolding rowIn pick _=?_
+returns-8 c = rw (c .match .keys8)
 
 returns-9 : tie.Need-returns-9
-unfolding classOf rowOf rowIn rulesOf pick _=?_
-returns-9 c = sym (ap (classOf (rulesOf PresentLenient)) (c .if9 .taken))
+unfolding rowIn pick _=?_
+returns-9 c = rw (c .match .keys9)
 
 returns-10 : tie.Need-returns-10
-unfolding classOf rowOf rowIn rulesOf pick _=?_
-returns-10 c = sym (ap (classOf (rulesOf PresentLenient)) (c .if10 .taken))
+unfolding rowIn pick _=?_
+returns-10 c = rw (c .match .keys10)
 
 returns-11 : tie.Need-returns-11
-unfolding classOf rowOf rowIn rulesOf pick _=?_
-returns-11 c = sym (ap (classOf (rulesOf PresentLenient)) (c .if11 .taken))
+unfolding rowIn pick _=?_
+returns-11 c = rw (c .match .keys11)
 
 returns-12 : tie.Need-returns-12
-unfolding classOf rowOf rowIn rulesOf pick _=?_
-returns-12 c = sym (ap (classOf (rulesOf PresentLenient)) (c .if12 .taken))
+unfolding rowIn pick _=?_
+returns-12 c = rw (c .match .keys12)
 
 returns-13 : tie.Need-returns-13
-unfolding classOf rowOf rowIn rulesOf pick _=?_
-returns-13 c = sym (ap (classOf (rulesOf PresentLenient)) (c .if13 .taken))
+unfolding rowIn pick _=?_
+returns-13 c = rw (c .match .keys13)
 
 returns-14 : tie.Need-returns-14
-unfolding classOf rowOf rowIn rulesOf pick _=?_
-returns-14 c = sym (ap (classOf (rulesOf PresentLenient)) (c .if14 .taken))
+unfolding rowIn pick _=?_
+returns-14 c = rw (c .match .keys14)
 
 returns-15 : tie.Need-returns-15
-unfolding classOf rowOf rowIn rulesOf
-returns-15 c = search row-past depth 20
+unfolding rowIn pick _=?_
+returns-15 c = rw (c .match .keys15)
+
+returns-16 : tie.Need-returns-16
+unfolding rowIn pick _=?_
+returns-16 c = rw (c .match .keys16)
+
+returns-17 : tie.Need-returns-17
+unfolding rowIn pick _=?_
+returns-17 c = rw (c .match .keys17)
+
+returns-18 : tie.Need-returns-18
+unfolding rowIn pick _=?_
+returns-18 c = rw (c .match .keys18)
+
+returns-19 : tie.Need-returns-19
+unfolding rowIn pick _=?_
+returns-19 c = rw (c .match .keys19)
+
+returns-20 : tie.Need-returns-20
+unfolding rowIn pick _=?_
+returns-20 c = rw (c .match .keys20)
+
+returns-21 : tie.Need-returns-21
+unfolding rowIn pick _=?_
+returns-21 c = rw (c .match .keys21)
+
+returns-22 : tie.Need-returns-22
+unfolding rowIn pick _=?_
+returns-22 c = rw (c .match .keys22)
+
+returns-23 : tie.Need-returns-23
+unfolding rowIn pick _=?_
+returns-23 c = rw (c .match .keys23)
+
+returns-24 : tie.Need-returns-24
+unfolding rowIn pick _=?_
+returns-24 c = rw (c .match .keys24)
+
+returns-25 : tie.Need-returns-25
+unfolding rowIn pick _=?_
+returns-25 c = rw (c .match .keys25)
+
+returns-26 : tie.Need-returns-26
+unfolding rowIn pick _=?_
+returns-26 c = rw (c .match .keys26)
+
+returns-27 : tie.Need-returns-27
+unfolding rowIn pick _=?_
+returns-27 c = rw (c .match .keys27)
+
+returns-28 : tie.Need-returns-28
+returns-28 c =
+    let none = c .match .rest in
+    row-past _ _ _ _ _ (none .0 .0 .0 .0 .0 .0 .0 .0 .0 .0 .0 .0 .0 .0 .0 .0 .0 .0 .0 .0 .0 .0 .0 .0 .0 .0 .1)
+    (row-past _ _ _ _ _ (none .0 .0 .0 .0 .0 .0 .0 .0 .0 .0 .0 .0 .0 .0 .0 .0 .0 .0 .0 .0 .0 .0 .0 .0 .0 .1)
+    (row-past _ _ _ _ _ (none .0 .0 .0 .0 .0 .0 .0 .0 .0 .0 .0 .0 .0 .0 .0 .0 .0 .0 .0 .0 .0 .0 .0 .0 .1)
+    (row-past _ _ _ _ _ (none .0 .0 .0 .0 .0 .0 .0 .0 .0 .0 .0 .0 .0 .0 .0 .0 .0 .0 .0 .0 .0 .0 .0 .1)
+    (row-past _ _ _ _ _ (none .0 .0 .0 .0 .0 .0 .0 .0 .0 .0 .0 .0 .0 .0 .0 .0 .0 .0 .0 .0 .0 .0 .1)
+    (row-past _ _ _ _ _ (none .0 .0 .0 .0 .0 .0 .0 .0 .0 .0 .0 .0 .0 .0 .0 .0 .0 .0 .0 .0 .0 .1)
+    (row-past _ _ _ _ _ (none .0 .0 .0 .0 .0 .0 .0 .0 .0 .0 .0 .0 .0 .0 .0 .0 .0 .0 .0 .0 .1)
+    (row-past _ _ _ _ _ (none .0 .0 .0 .0 .0 .0 .0 .0 .0 .0 .0 .0 .0 .0 .0 .0 .0 .0 .0 .1)
+    (row-past _ _ _ _ _ (none .0 .0 .0 .0 .0 .0 .0 .0 .0 .0 .0 .0 .0 .0 .0 .0 .0 .0 .1)
+    (row-past _ _ _ _ _ (none .0 .0 .0 .0 .0 .0 .0 .0 .0 .0 .0 .0 .0 .0 .0 .0 .0 .1)
+    (row-past _ _ _ _ _ (none .0 .0 .0 .0 .0 .0 .0 .0 .0 .0 .0 .0 .0 .0 .0 .0 .1)
+    (row-past _ _ _ _ _ (none .0 .0 .0 .0 .0 .0 .0 .0 .0 .0 .0 .0 .0 .0 .0 .1)
+    (row-past _ _ _ _ _ (none .0 .0 .0 .0 .0 .0 .0 .0 .0 .0 .0 .0 .0 .0 .1)
+    (row-past _ _ _ _ _ (none .0 .0 .0 .0 .0 .0 .0 .0 .0 .0 .0 .0 .0 .1)
+    (row-past _ _ _ _ _ (none .0 .0 .0 .0 .0 .0 .0 .0 .0 .0 .0 .0 .1)
+    (row-past _ _ _ _ _ (none .0 .0 .0 .0 .0 .0 .0 .0 .0 .0 .0 .1)
+    (row-past _ _ _ _ _ (none .0 .0 .0 .0 .0 .0 .0 .0 .0 .0 .1)
+    (row-past _ _ _ _ _ (none .0 .0 .0 .0 .0 .0 .0 .0 .0 .1)
+    (row-past _ _ _ _ _ (none .0 .0 .0 .0 .0 .0 .0 .0 .1)
+    (row-past _ _ _ _ _ (none .0 .0 .0 .0 .0 .0 .0 .1)
+    (row-past _ _ _ _ _ (none .0 .0 .0 .0 .0 .0 .1)
+    (row-past _ _ _ _ _ (none .0 .0 .0 .0 .0 .1)
+    (row-past _ _ _ _ _ (none .0 .0 .0 .0 .1)
+    (row-past _ _ _ _ _ (none .0 .0 .0 .1)
+    (row-past _ _ _ _ _ (none .0 .0 .1)
+    (row-past _ _ _ _ _ (none .0 .1)
+    (row-past _ _ _ _ _ (none .1) (last-row _ _ _ refl)))))))))))))))))))))))))))
 
 pub present-class-spec : {M : Type 1} → statement M
 present-class-spec =
@@ -87,4 +165,17 @@ present-class-spec =
     returns-12
     returns-13
     returns-14
-    returns-15)
+    returns-15
+    returns-16
+    returns-17
+    returns-18
+    returns-19
+    returns-20
+    returns-21
+    returns-22
+    returns-23
+    returns-24
+    returns-25
+    returns-26
+    returns-27
+    returns-28)

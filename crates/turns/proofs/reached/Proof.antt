@@ -13,7 +13,7 @@ use Rattle.rules.proofs.Table.{tabled}
 use Rattle.rules.proofs.OctetRows.{kindRows, rowed}
 use Rattle.rules.proofs.Asked.{asked-ok}
 use Rattle.rules.proofs.Returns.{via}
-use Rattle.turns.proofs.InContents.{Stood, stood-more, stood-wrong, stood-all}
+use Rattle.rules.proofs.Standing.{Stood, stood-more, stood-wrong, stood-all}
 use borrow.Author.Needs.{needs}
 use Rattle.turns.proofs.reached.Statement.{statement}
 use Rattle.turns.proofs.reached.Tie as tie

@@ -1,6 +1,10 @@
--- `writer::put_entry` meets its contract: numbers are spelled, a text is taken from its place.
+-- `writer::put_entry` meets its contract: its numbers are spelled, its text is taken from its place.
 -- Assumes nothing.
-use Rattle.writer.proofs.Laying.{number-asked, number-put, text-asked, text-put}
+use mathlib.Core.Path.{sym}
+use native.Mathlib.Omega.{arith}
+use lib.Seq.{length-take-le}
+use Rattle.writer.proofs.Judging.{spelled-room}
+use Rattle.writer.proofs.Laying.{text-inside, entry-asked, entry-put}
 use borrow.Author.Needs.{needs}
 use Rattle.writer.proofs.put_entry.Statement.{statement}
 use Rattle.writer.proofs.put_entry.Tie as tie
@@ -8,44 +12,64 @@ use Rattle.writer.proofs.put_entry.Tie as tie
 flatten-requires : tie.Need-flatten-requires
 flatten-requires c κs = search needs
 
-put-number-requires : tie.Need-put-number-requires
-put-number-requires c κs =
-    let start = c .before .before .before .before .before .before in
-    number-asked _ _ _ (c .before .before .before .flatten .ensures) _ (start .pre) (c .before .if1 .taken)
+spell-requires : tie.Need-spell-requires
+spell-requires c κs = search needs
 
-put-text-requires : tie.Need-put-text-requires
-put-text-requires c κs =
+add-end : tie.Need-add-end
+add-end c =
     let start = c .before .before .before .before .before .before in
-    text-asked _ _ _ (c .before .before .before .flatten .ensures) _ (start .pre) (c .before .if1 .left)
+    let after-spell = c .before .before in
+    let h = text-inside _ _ _ (after-spell .before .flatten .ensures) _ (after-spell .spell .ensures) _ (start .pre) in
+    omega arith
+
+array-share-prefix-octets : tie.Need-array-share-prefix-octets
+array-share-prefix-octets c = spelled-room _ _ (c .before .before .before .spell .ensures)
+
+slice-aggregate-put-parameter : tie.Need-slice-aggregate-put-parameter
+slice-aggregate-put-parameter c =
+    let after-spell = c .before .before .before .before in
+    sym (length-take-le _ _ (spelled-room _ _ (after-spell .spell .ensures)))
+
+sub-put-parameter : tie.Need-sub-put-parameter
+sub-put-parameter c = search needs
+
+part-put-parameter-start : tie.Need-part-put-parameter-start
+part-put-parameter-start c = search needs
+
+part-put-parameter-end : tie.Need-part-put-parameter-end
+part-put-parameter-end c =
+    let start = c .before .before .before .before .before .before .before .before in
+    let after-spell = c .before .before .before .before in
+    text-inside _ _ _ (after-spell .before .flatten .ensures) _ (after-spell .spell .ensures) _ (start .pre)
+
+put-parameter-requires : tie.Need-put-parameter-requires
+put-parameter-requires c κs =
+    let start = c .before .before .before .before .before .before .before .before .before in
+    let after-spell = c .before .before .before .before .before in
+    entry-asked _ _ _ (after-spell .before .flatten .ensures) _ (after-spell .spell .ensures) _ (start .pre)
 
 same-length : tie.Need-same-length
 same-length c = search needs
 
 returns : tie.Need-returns
 returns c =
-    let branch = c .before .before .before .before in
-    let start = branch .before .before .before .before .before in
-    number-put _ _ _ (branch .before .before .flatten .ensures) _ (start .pre) (branch .if1 .taken) _ _ _
-    (c .before .before .put-number .ensures)
-
-same-length-2 : tie.Need-same-length-2
-same-length-2 c = search needs
-
-returns-2 : tie.Need-returns-2
-returns-2 c =
-    let branch = c .before .before .before .before in
-    let start = branch .before .before .before .before .before in
-    text-put _ _ _ (branch .before .before .flatten .ensures) _ (start .pre) (branch .if1 .left) _ _ _
-    (c .before .before .put-text .ensures)
+    let start = c .before .before .before .before .before .before .before .before .before .before .before .before in
+    let after-spell = c .before .before .before .before .before .before .before .before in
+    entry-put _ _ _ (after-spell .before .flatten .ensures) _ (after-spell .spell .ensures) _ (start .pre) _ _ _
+    (c .before .before .put-parameter .ensures)
 
 pub put-entry-spec : {M : Type 1} → statement M
 put-entry-spec =
     tie.close
     (tie.spec
     flatten-requires
-    put-number-requires
-    put-text-requires
+    spell-requires
+    add-end
+    array-share-prefix-octets
+    slice-aggregate-put-parameter
+    sub-put-parameter
+    part-put-parameter-start
+    part-put-parameter-end
+    put-parameter-requires
     same-length
-    returns
-    same-length-2
-    returns-2)
+    returns)

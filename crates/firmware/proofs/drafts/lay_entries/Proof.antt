@@ -1,6 +1,5 @@
 -- `firmware::lay_entries` meets its contract. The loop's invariant: the record is that of the entries taken so far,
--- and the texts laid down are theirs; a text stands two octets behind its parameter's place. The measure is the turns
--- left.
+-- and the texts laid down are theirs; a text ends where its parameter ends. The measure is the turns left.
 -- Assumes nothing.
 use Prim.Native.Nat.{ℕ, _+_, _*_, _-_}
 use mathlib.Core.Path.{sym, _∙_, ap}
@@ -11,7 +10,7 @@ use Rattle.rules.specs.Table.{rulesOf}
 use Rattle.rules.proofs.Laying.{rest-laid}
 use Rattle.reader.proofs.Laying.{left-ended, left-full}
 use Rattle.reader.proofs.Copies.{put-is}
-use Rattle.firmware.proofs.DraftRecord.{Recorded, recorded-first, recorded-long, recorded-room, recorded-more, recorded-end}
+use Rattle.firmware.proofs.DraftRecord.{Recorded, recorded-first, recorded-long, recorded-room, recorded-inside, recorded-more, recorded-end}
 use borrow.Author.Needs.{needs}
 use Rattle.firmware.proofs.drafts.lay_entries.Statement.{statement}
 use Rattle.firmware.proofs.drafts.lay_entries.Tie as tie
@@ -62,14 +61,14 @@ lay-entry-requires c κs =
     simp (length-take, length-drop)
     (omega (arith, recorded-long _ _ _ (start .pre .1) _ _ _ _ _ (turn .before .loop .inv), turn .loop-test .taken))
 
-add-start : tie.Need-add-start Inv-loop μ-loop
-add-start c =
+sub-start : tie.Need-sub-start Inv-loop μ-loop
+sub-start c =
     let after-taken = c .before .before .before .before .before in
     let turn = after-taken .before .before .before in
     let start = turn .before .before .before .before .before in
-    let room = recorded-room _ _ _ (start .pre .1) _ _ _ _ _ (turn .before .loop .inv) (turn .loop-test .taken) _ _ _
+    let text = recorded-inside _ _ _ (start .pre .1) _ _ _ _ _ (turn .before .loop .inv) (turn .loop-test .taken) _ _ _
     (sym (after-taken .taken .given .1) ∙ after-taken .before .before .entry .ensures) in
-    omega (arith, room .0)
+    omega (arith, text .0)
 
 add-end : tie.Need-add-end Inv-loop μ-loop
 add-end c =
@@ -148,10 +147,11 @@ loop-again c =
     let turn = after-taken .before .before .before in
     let loop = turn .before in
     let start = loop .before .before .before .before in
+    let found = after-taken .taken .given .0 in
     recorded-more _ _ _ (start .pre .1) _ _ _ _ _ (loop .loop .inv) (turn .loop-test .taken) _ _ _
     (sym (after-taken .taken .given .1) ∙ after-taken .before .before .entry .ensures) _ _
     (rest-laid _ _ _ (8 + 8 * loop .loop .count) (after-entry .lay-entry .ensures))
-    (put-is (start .args .octets .now) (loop .loop .texts) _ (loop .loop .at + 2) _ (loop .loop .used)
+    (put-is (start .args .octets .now) (loop .loop .texts) _ (found .1 .1 .0 - found .1 .0) (found .1 .0) (loop .loop .used)
     (after-copy .copy .ensures .1))
 
 enum-told : tie.Need-enum-told Inv-loop μ-loop
@@ -204,7 +204,7 @@ lay-entries-spec =
     part-lay-entry-start
     part-lay-entry-end
     lay-entry-requires
-    add-start
+    sub-start
     add-end
     sub-copy
     part-copy-start
