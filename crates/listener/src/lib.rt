@@ -197,7 +197,7 @@ fn further(book: Book, f: Frame, index: u8, memory: u8, q: Spot, x: u8) -> Insid
 {
     let class = f.class;
     let here = content_at(f, index, memory);
-    let kept = rules::remember(class, f.length, index, memory, x);
+    let kept = contents::remember(class, f.length, index, memory, x);
     let spot = moved(book, here, q, x, q.parameter);
     Inside {
         index: index + 1,
@@ -211,7 +211,7 @@ fn row_in(class: Class, kinds: &[u8], x: u8) -> u8
     requires { ⌜ AskedRows class (now kinds) ⌝ }
     ensures { λ r. ⌜ AskedRow class r x ⌝ }
 {
-    if rules::asks(class) {
+    if contents::asks(class) {
         kinds[x as usize]
     } else {
         0
@@ -240,7 +240,7 @@ fn by_octets(
     while i < octets.len() {
         let x = octets[i];
         let row = row_in(class, kinds, x);
-        if rules::content_ok(class, f.length, index, memory, row, x) {
+        if contents::content_ok(class, f.length, index, memory, row, x) {
             let next = further(book, f, index, memory, q, x);
             index = next.index;
             memory = next.memory;
@@ -272,8 +272,8 @@ fn along(book: Book, f: Frame, first: u8, kept: u8, spot: Spot, octets: &[u8], f
     ensures { λ r. ⌜ Onward (rulesOf book) (insideOf f first kept spot) (now (octets .entry)) from r ⌝ }
 {
     let class = f.class;
-    if rules::asks(class) {
-        let kinds = rules::kinds::KINDS;
+    if contents::asks(class) {
+        let kinds = contents::kinds::KINDS;
         by_octets(book, f, first, kept, spot, &kinds[..], octets, from)
     } else {
         by_octets(book, f, first, kept, spot, &octets[..0], octets, from)

@@ -13,12 +13,9 @@ use Rattle.rules.proofs.noted.Reads as noted
 use Rattle.rules.proofs.reference_of.Reads as reference-of
 use Rattle.rules.proofs.length_fits.Reads as length-fits
 use Rattle.rules.proofs.possible.Reads as possible
+use Rattle.rules.proofs.among.Reads as among
 use Rattle.rules.proofs.message_kind.Reads as message-kind
-use Rattle.rules.proofs.asks.Reads as asks
-use Rattle.rules.proofs.content_ok.Reads as content-ok
-use Rattle.rules.proofs.remember.Reads as remember
 use Rattle.rules.proofs.same_octets.Reads as same-octets
-use Rattle.rules.proofs.first_wrong.Reads as first-wrong
 use Rattle.rules.proofs.code_in.Reads as code-in
 use Rattle.rules.proofs.named_by.Reads as named-by
 use Rattle.rules.proofs.edition_of.Reads as edition-of
@@ -42,25 +39,13 @@ pub possible-settled : (κs : _) (a : _) (r r' : _) (s s' : _) → possible.Post
     r ≡ r'
 possible-settled κs a r r' s s' p q = p ∙ sym q
 
+pub among-settled : (κs : _) (a : _) (r r' : _) (s s' : _) → among.Post κs a r s →
+    among.Post κs a r' s' → r ≡ r'
+among-settled κs a r r' s s' p q = p ∙ sym q
+
 pub message-kind-settled : (κs : _) (a : _) (r r' : _) (s s' : _) → message-kind.Post κs a r s →
     message-kind.Post κs a r' s' → r ≡ r'
 message-kind-settled κs a r r' s s' p q = p ∙ sym q
-
-pub asks-settled : (κs : _) (a : _) (r r' : _) (s s' : _) → asks.Post κs a r s →
-    asks.Post κs a r' s' → r ≡ r'
-asks-settled κs a r r' s s' p q = p ∙ sym q
-
-pub content-ok-settled : (κs : _) (a : _) (r r' : _) (s s' : _) → content-ok.Post κs a r s →
-    content-ok.Post κs a r' s' → r ≡ r'
-content-ok-settled κs a r r' s s' p q = p ∙ sym q
-
-pub remember-settled : (κs : _) (a : _) (r r' : _) (s s' : _) → remember.Post κs a r s → remember.Post κs a r' s' →
-    r ≡ r'
-remember-settled κs a r r' s s' p q = p ∙ sym q
-
-pub first-wrong-settled : (κs : _) (a : _) (r r' : _) (s s' : _) → first-wrong.Post κs a r s →
-    first-wrong.Post κs a r' s' → r ≡ r'
-first-wrong-settled κs a r r' s s' p q = p ∙ sym q
 
 pub code-of-settled : (κs : _) (a : _) (r r' : _) (s s' : _) → code-of.Post κs a r s → code-of.Post κs a r' s' → r ≡ r'
 code-of-settled κs a r r' s s' p q = p ∙ sym q

@@ -92,13 +92,13 @@ fn reached(class: Class, v: &[u8], length: u8) -> usize
     ensures { λ r. ⌜ r ≡ passing (judgeOf class) length 0 0 (now (v .entry)) ⌝ }
 {
     let n = v.len() as u8;
-    let kinds = rules::kinds::KINDS;
+    let kinds = contents::kinds::KINDS;
     let mut memory: u8 = 0;
     let mut index: u8 = 0;
     while index < n {
         let x = v[index as usize];
-        if rules::content_ok(class, length, index, memory, kinds[x as usize], x) {
-            memory = rules::remember(class, length, index, memory, x);
+        if contents::content_ok(class, length, index, memory, kinds[x as usize], x) {
+            memory = contents::remember(class, length, index, memory, x);
             index += 1;
         } else {
             return index as usize;
@@ -168,7 +168,7 @@ fn contents(
     if s.len() < end {
         return cut(book, s, at, class, length, room, sum, count);
     }
-    let good = rules::first_wrong(class, &s[start..end]);
+    let good = contents::first_wrong(class, &s[start..end]);
     if good < length as usize {
         return word(5, start + good, 0, 0, count + 1);
     }

@@ -189,7 +189,7 @@ fn fitting_length(class: Class, part: &[u8]) -> u8
     let n = part.len() as u8;
     // in a room that the parameter fills
     if rules::length_fits(class, n + 2, n) {
-        if rules::first_wrong(class, part) == part.len() {
+        if contents::first_wrong(class, part) == part.len() {
             n
         } else {
             0

@@ -14,7 +14,7 @@ use Rattle.turns.proofs.header.Reads as header
 use Rattle.turns.proofs.header.Kinds as header-kinds
 use Rattle.turns.proofs.+contents+header.Lts-header as header-lts
 use Rattle.rules.proofs.class_of.Reads as class-of-reads
-use Rattle.rules.proofs.first_wrong.Reads as first-wrong-reads
+use Rattle.contents.proofs.first_wrong.Reads as first-wrong-reads
 use Rattle.rules.proofs.length_fits.Reads as length-fits-reads
 use Rattle.turns.proofs.cut.Reads as cut-reads
 use Rattle.turns.proofs.last.Reads as last-reads

@@ -1,0 +1,2 @@
+-- The root of the proofs: that every public promise settles its answer.
+pub mod Settled
