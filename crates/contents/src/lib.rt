@@ -1,6 +1,6 @@
-// The octets of contents (document 01, The message; document 02, Q-2, Q-4 and Q-7): whether one may stand where it stands
-// and what is remembered of it, octet by octet; and how many may stand of contents as a whole. Every public function is
-// total.
+// The octets of contents (document 01, The message; document 02, Q-2, Q-4 and Q-7): whether one may stand where it
+// stands and what is remembered of it, octet by octet; and how many may stand of contents as a whole. Every public
+// function is total.
 pub mod kinds;
 
 use rules::CHARGE;
@@ -368,8 +368,8 @@ fn cipher_ok(row: u8, x: u8) -> bool
     if x == COMMA { true } else { admits(row, DIGIT) }
 }
 
-// Octet k of the ten behind the flags, where m is remembered: 0 a cost, 1 behind its comma, 2 units and a price, 3 behind
-// its comma, 4 units alone, 5 nothing.
+// Octet k of the ten behind the flags, where m is remembered: 0 a cost, 1 behind its comma, 2 units and a price, 3
+// behind its comma, 4 units alone, 5 nothing.
 fn amount_ok(m: u8, k: u8, row: u8, x: u8) -> bool
     ensures { λ r. ⌜ r ≡ amountBy (admitted row 1) m k x ⌝ }
 {

@@ -1,5 +1,5 @@
-// Drafts (document 01, Drafts; document 02, Q-5): an edition, a message type and up to 85 entries, each a parameter type
-// with its value.
+// Drafts (document 01, Drafts; document 02, Q-4 and Q-5): an edition, a message type and up to 85 entries, each a
+// parameter type with its value.
 use rules::Class;
 use rules::Form;
 use rules::MOST;

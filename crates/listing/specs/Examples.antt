@@ -95,7 +95,8 @@ rows =
       octets (call (parameter 0x10 (ascii "40912") ∷ parameter 0x1A (ascii "*31#7") ∷ [])),
       "kind=call\nnetwork-caller=40912\nredirecting=*31#7\ncarried=0\n",
     ) ∷ (
-      octets (call (parameter 0xE0 (ascii "33 CUPS1.0") ∷ parameter 0x31 (ascii "A B") ∷ parameter 0x30 (ascii "C") ∷ [])),
+      octets
+          (call (parameter 0xE0 (ascii "33 CUPS1.0") ∷ parameter 0x31 (ascii "A B") ∷ parameter 0x30 (ascii "C") ∷ [])),
       "kind=call\nprovider=C\ncarrier=A B\nextension=33 CUPS1.0\ncarried=0\n",
     ) ∷
     -- a moment without seconds; a display without a text

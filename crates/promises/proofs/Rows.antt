@@ -1,6 +1,6 @@
--- Document 01's rows marked P (Octets on each side of the line) and those of document 02, Q-2, Q-3, Q-4, Q-5 and Q-11,
--- one list under one claim over the promises of `reset_way` and `reset`, `listen`, `read_way` and `read`, `write`, `settle`
--- and `counted`, whatever outcomes they allow.
+-- Document 01's rows marked P (Octets on each side of the line) and those of document 02, Q-2, Q-3, Q-4, Q-5 and
+-- Q-11, one list under one claim over the promises of `reset_way` and `reset`, `listen`, `read_way` and `read`,
+-- `write`, `settle` and `counted`, whatever outcomes they allow.
 -- Assumes nothing.
 use Prim.Native.Nat.{ℕ}
 use mathlib.Core.Path.{_≡_, refl, _∙_, ap}

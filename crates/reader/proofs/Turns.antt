@@ -244,7 +244,8 @@ value-text used (markedIs x v) = refl
 
 -- ---- what was found, from its parts
 module _ (R : Rules) (o : List ℕ) (at : ℕ) (f : Found) (e : f ≡ parameterAt o at) where
-  module _ (k start l n : ℕ) (p : f ≡ found.Parameter k start l) (g : Form) (m : g ≡ kindOf R k) (q : n ≡ textPart g l) where
+  module _ (k start l n : ℕ) (p : f ≡ found.Parameter k start l) (g : Form) (m : g ≡ kindOf R k)
+      (q : n ≡ textPart g l) where
     size : n ≡ length (textOf R (standing o k start l))
     size =
         q ∙ ap (λ (x : Form). textPart x l) m

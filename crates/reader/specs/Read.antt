@@ -104,7 +104,7 @@ takenAt R o at used = takenFrom R o used (parameterAt o at)
 -- where the text of the parameter at a place stands, and the place behind the parameter, where the text ends
 unfoldable pub textFrom : Rules → List ℕ → Found → Text
 textFrom R o (found.Parameter k start n) =
-    text.At (start + n - length (textOf R (standing o k start n))) (length (textOf R (standing o k start n))) (start + n)
+    let l = length (textOf R (standing o k start n)) in text.At (start + n - l) l (start + n)
 textFrom R o found.Nothing = text.End
 
 unfoldable pub textAt : Rules → List ℕ → ℕ → Text

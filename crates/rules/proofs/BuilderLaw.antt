@@ -1,5 +1,5 @@
--- Four of the builders of classes (pairs, columns, text, headed) make lawful classes; and what other classes need of sets,
--- lengths and pairs.
+-- Four of the builders of classes (pairs, columns, text, headed) make lawful classes; and what other classes need of
+-- sets, lengths and pairs.
 -- Assumes nothing.
 use Prim.Native.Nat.{ℕ, zero, suc, _+_, _*_, _-_, _/_, _≤_, _<_}
 use mathlib.Core.Path.{_≡_, refl, ap}
@@ -9,7 +9,7 @@ use mathlib.Core.List.{List, [], _∷_}
 use native.Mathlib.Omega.{arith}
 use lib.ListN.{length}
 use lib.Dec.{T}
-use Rattle.rules.specs.Tests.{_≤?_, _and_, every}
+use Rattle.rules.specs.Tests.{_≤?_, _and_, _or_, every}
 use Rattle.rules.proofs.Tests.{both, join, either, left, le-of, of-le, every-head, every-tail}
 use Rattle.rules.specs.Contents.{Range, within, inSet, pairs, columns, text, headed, only, digit, pairFits, pairsFit, columnsFit, allIn, headFits}
 use Rattle.rules.specs.ContentJudge.{passes, opens, tensFit, onesFit, pairAt, pairsJudge, columnAt, columnsJudge, textJudge, headBy, headedJudge}
@@ -182,6 +182,18 @@ pub digit-octet : (x : ℕ) → T (digit x) → x < 256
 unfolding digit within
 digit-octet x t = omega (arith, le-of _ _ (both _ _ t .1))
 
+pub zero-digit : T (digit 0x30)
+unfolding digit within _≤?_ _and_
+zero-digit = tt
+
+-- an octet that passes one of two tests
+pub some-octet : (a b : Bool) (x : ℕ) → (T a → x < 256) → (T b → x < 256) → T (a or b) → x < 256
+some-octet a b x f g t = go (either _ _ t)
+  where
+    go : T a ⊎ T b → x < 256
+    go (inl z) = f z
+    go (inr z) = g z
+
 pub pair-octet : (rs : List Range) (i m x : ℕ) → T (pairAt rs i m x) → x < 256
 unfolding pairAt tensFit onesFit
 pair-octet [] i m x t = omega (arith, le-of _ _ t)
@@ -326,6 +338,7 @@ headed-lawful ls h s k =
       least = λ n t. least ls n (d .0) t;
       most = λ n t. most-253 ls n (d .0) t;
       fit-length = λ v t. both _ _ t .0;
-      fit-from = λ v t. let f = both _ _ t in rw (head-from h s (length v) v (least ls (length v) (d .0) (f .0))) (f .1);
+      fit-from =
+          λ v t. let f = both _ _ t in rw (head-from h s (length v) v (least ls (length v) (d .0) (f .0))) (f .1);
       from-fit = λ v l t. join _ _ l (rw (head-from h s (length v) v (least ls (length v) (d .0) l)) at t);
     }

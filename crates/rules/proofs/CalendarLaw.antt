@@ -234,6 +234,13 @@ module _ (rs : List Range) (r : Range) where
   abbrev more : List Range
   more = rs ++ r ∷ []
 
+  -- the two lengths: without the last range and with it
+  abbrev brief : ℕ
+  brief = 2 * suc (suc (length rs))
+
+  abbrev whole : ℕ
+  whole = 2 * suc (suc (suc (length rs)))
+
   pub calendar-or-lawful : T (soundLengths (only (2 * suc (suc (length rs)))) and every soundRange rs) →
       T (soundLengths (only (2 * suc (suc (length more)))) and every soundRange more) →
       Lawful (calendarOr rs r) (calendarJudge more)
@@ -246,26 +253,28 @@ module _ (rs : List Range) (r : Range) where
         push = B .push;
         next = B .next;
         octet = B .octet;
-        least = λ n l. limits A B n (one-of (2 * suc (suc (length rs))) (2 * suc (suc (suc (length rs)))) n l) .0;
-        most = λ n l. limits A B n (one-of (2 * suc (suc (length rs))) (2 * suc (suc (suc (length rs)))) n l) .1;
+        least = λ n l. limits A B n (one-of brief whole n l) .0;
+        most = λ n l. limits A B n (one-of brief whole n l) .1;
         fit-length = λ v f. long A B v (either _ _ f);
         fit-from = λ v f. from A B v (either _ _ f);
-        from-fit = λ v l p. fit A B v (one-of (2 * suc (suc (length rs))) (2 * suc (suc (suc (length rs)))) (length v) l) p;
+        from-fit = λ v l p. fit A B v (one-of brief whole (length v) l) p;
       }
     where
       longer : length more ≡ suc (length rs)
       longer = omega (arith, length-append rs (r ∷ []))
 
       limits : Lawful (calendar rs) (calendarJudge rs) → Lawful (calendar more) (calendarJudge more) → (n : ℕ) →
-          (n ≡ 2 * suc (suc (length rs))) ⊎ (n ≡ 2 * suc (suc (suc (length rs)))) → (1 ≤ n) × (n ≤ 253)
+          (n ≡ brief) ⊎ (n ≡ whole) → (1 ≤ n) × (n ≤ 253)
       limits A B n (inl e) = let l = is-only _ n e in (A .least n l, A .most n l)
-      limits A B n (inr e) = let l = is-only (2 * suc (suc (length more))) n (omega (arith, e, longer)) in (B .least n l, B .most n l)
+      limits A B n (inr e) =
+          let l = is-only (2 * suc (suc (length more))) n (omega (arith, e, longer)) in (B .least n l, B .most n l)
 
       long : Lawful (calendar rs) (calendarJudge rs) → Lawful (calendar more) (calendarJudge more) → (v : List ℕ) →
           T (calendar rs .fits v) ⊎ T (calendar more .fits v) → T (inSet (calendarOr rs r .lengths) (length v))
-      long A B v (inl f) = is-first (2 * suc (suc (length rs))) (2 * suc (suc (suc (length rs)))) (length v) (only-is (2 * suc (suc (length rs))) (length v) (A .fit-length v f))
+      long A B v (inl f) = is-first brief whole (length v) (only-is brief (length v) (A .fit-length v f))
       long A B v (inr f) =
-          is-second (2 * suc (suc (length rs))) (2 * suc (suc (suc (length rs)))) (length v) (omega (arith, only-is (2 * suc (suc (length more))) (length v) (B .fit-length v f), longer))
+          is-second brief whole (length v)
+          (omega (arith, only-is (2 * suc (suc (length more))) (length v) (B .fit-length v f), longer))
 
       from : Lawful (calendar rs) (calendarJudge rs) → Lawful (calendar more) (calendarJudge more) → (v : List ℕ) →
           T (calendar rs .fits v) ⊎ T (calendar more .fits v) → T (passes (calendarJudge more) (length v) 0 0 v)
@@ -275,9 +284,10 @@ module _ (rs : List Range) (r : Range) where
       from A B v (inr f) = B .fit-from v f
 
       fit : Lawful (calendar rs) (calendarJudge rs) → Lawful (calendar more) (calendarJudge more) → (v : List ℕ) →
-          (length v ≡ 2 * suc (suc (length rs))) ⊎ (length v ≡ 2 * suc (suc (suc (length rs)))) →
+          (length v ≡ brief) ⊎ (length v ≡ whole) →
           T (passes (calendarJudge more) (length v) 0 0 v) → T (calendarOr rs r .fits v)
       fit A B v (inl e) p =
           left _ _ (A .from-fit v (is-only _ _ e)
           (rw (front-passes rs (r ∷ []) (length v) 0 0 v (omega (arith, e))) p))
-      fit A B v (inr e) p = right _ _ (B .from-fit v (is-only (2 * suc (suc (length more))) (length v) (omega (arith, e, longer))) p)
+      fit A B v (inr e) p =
+          right _ _ (B .from-fit v (is-only (2 * suc (suc (length more))) (length v) (omega (arith, e, longer))) p)

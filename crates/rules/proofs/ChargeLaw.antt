@@ -16,7 +16,7 @@ use Rattle.rules.specs.Contents.{within, inSet, digit, letter, only}
 use Rattle.rules.specs.ContentJudge.{passes, chargeJudge}
 use Rattle.rules.specs.Charge.{dash, comma, missing, units, run, amount, after, costs, chargeFits, amountBy, amountKeep, currencyBy, flagsAt, flagsKeep, chargeBy, chargeKeep}
 use Rattle.rules.proofs.ClassLaw.{Lawful}
-use Rattle.rules.proofs.BuilderLaw.{only-is, is-only, digit-octet}
+use Rattle.rules.proofs.BuilderLaw.{only-is, is-only, digit-octet, some-octet, zero-digit}
 
 abbrev amountAt : ℕ → ℕ → ℕ → Bool
 amountAt m k x = amountBy (digit x) m k x
@@ -40,9 +40,12 @@ unfolding amount
 amount-long zero [] t = refl
 amount-long zero (x ∷ v) t = absurd t
 amount-long (suc k) [] t = absurd t
-amount-long (suc k) (x ∷ v) t = ap suc (pick-case (λ (b : Bool). T b → length v ≡ k) _ _ _ (λ _ u. run-long digit k v u) (λ _ u. amount-long k v (both _ _ u .1)) t)
+amount-long (suc k) (x ∷ v) t =
+    ap suc (pick-case (λ (b : Bool). T b → length v ≡ k) _ _ _ (λ _ u. run-long digit k v u)
+    (λ _ u. amount-long k v (both _ _ u .1)) t)
 
-after-long : (k j : ℕ) (p : List ℕ → Bool) → ((v : List ℕ) → T (p v) → length v ≡ j) → (v : List ℕ) → T (after k p v) → length v ≡ k + j
+after-long : (k j : ℕ) (p : List ℕ → Bool) → ((v : List ℕ) → T (p v) → length v ≡ j) → (v : List ℕ) →
+    T (after k p v) → length v ≡ k + j
 unfolding after
 after-long zero j p f v t = omega (arith, f v t)
 after-long (suc k) j p f [] t = absurd t
@@ -50,26 +53,34 @@ after-long (suc k) j p f (x ∷ v) t = omega (arith, after-long k j p f v (both 
 
 costs-long : (b : Bool) (f : ℕ) (v : List ℕ) → T (costs b f v) → length v ≡ 10
 unfolding costs pick
-costs-long true f v t =
-    pick-case (λ (b : Bool). T b → length v ≡ 10) (missing f) _ _ (λ _ u. absurd u)
-    (λ _ u. pick-case (λ (b : Bool). T b → length v ≡ 10) (units f) _ _ (λ _ w. after-long 5 5 (amount 5) (amount-long 5) v w) (λ _ w. amount-long 10 v w) u) t
-costs-long false f v t =
-    pick-case (λ (b : Bool). T b → length v ≡ 10) (missing f) _ _ (λ _ u. run-long dash 10 v u)
-    (λ _ u. pick-case (λ (b : Bool). T b → length v ≡ 10) (units f) _ _ (λ _ w. after-long 5 5 (run dash 5) (run-long dash 5) v w) (λ _ w. absurd w) u) t
+costs-long b f v t = by b (missing f) (units f) t
+  where
+    by : (b m u : Bool) → T (pick b (pick m false (pick u (after 5 (amount 5) v) (amount 10 v)))
+        (pick m (run dash 10 v) (pick u (after 5 (run dash 5) v) false))) → length v ≡ 10
+    by true true u t = absurd t
+    by true false true t = after-long 5 5 (amount 5) (amount-long 5) v t
+    by true false false t = amount-long 10 v t
+    by false true u t = run-long dash 10 v t
+    by false false true t = after-long 5 5 (run dash 5) (run-long dash 5) v t
+    by false false false t = absurd t
 
 -- ---- the ten octets of amount, units and price
 -- the ten octets from octet k of them on, where m is remembered
 unfoldable goes : ℕ → ℕ → ℕ → List ℕ → Bool
 goes n k m v = passes chargeJudge n (suc (suc (suc (suc k)))) m v
 
-one-on : (n k m x : ℕ) (v : List ℕ) → k ≤ 9 → goes n k m (x ∷ v) ≡ (amountAt m k x and goes n (suc k) (amountKeep m x) v)
+one-on : (n k m x : ℕ) (v : List ℕ) → k ≤ 9 →
+    goes n k m (x ∷ v) ≡ (amountAt m k x and goes n (suc k) (amountKeep m x) v)
 unfolding goes passes chargeBy chargeKeep
 one-on n k m x v h =
-    ap (λ (b : Bool). b and passes chargeJudge n (suc (suc (suc (suc (suc k))))) (pick (k ≤? 9) (amountKeep m x) 0) v) (pick-yes (k ≤? 9) (amountAt m k x) _ (of-le _ _ h))
-    ∙ ap (λ (a : ℕ). amountAt m k x and passes chargeJudge n (suc (suc (suc (suc (suc k))))) a v) (pick-yes (k ≤? 9) (amountKeep m x) 0 (of-le _ _ h))
+    let rest = passes chargeJudge n (suc (suc (suc (suc (suc k))))) in
+    ap (λ (b : Bool). b and rest (pick (k ≤? 9) (amountKeep m x) 0) v)
+    (pick-yes (k ≤? 9) (amountAt m k x) _ (of-le _ _ h))
+    ∙ ap (λ (a : ℕ). amountAt m k x and rest a v) (pick-yes (k ≤? 9) (amountKeep m x) 0 (of-le _ _ h))
 
 -- a mode in which every octet passes one test and the mode stays
-steady : (p : ℕ → Bool) (m n k l : ℕ) (v : List ℕ) → ((i x : ℕ) → k ≤ i → amountAt m i x ≡ p x) → ((x : ℕ) → amountKeep m x ≡ m) → k + l ≡ 10 → length v ≡ l → goes n k m v ≡ run p l v
+steady : (p : ℕ → Bool) (m n k l : ℕ) (v : List ℕ) → ((i x : ℕ) → k ≤ i → amountAt m i x ≡ p x) →
+    ((x : ℕ) → amountKeep m x ≡ m) → k + l ≡ 10 → length v ≡ l → goes n k m v ≡ run p l v
 unfolding run goes passes
 steady p m n k zero [] a q e h = refl
 steady p m n k zero (x ∷ v) a q e h = absurd (omega arith)
@@ -78,11 +89,13 @@ steady p m n k (suc l) (x ∷ v) a q e h =
     one-on n k m x v (omega arith)
     ∙ ap (λ (b : Bool). b and goes n (suc k) (amountKeep m x) v) (a k x (omega arith))
     ∙ ap (λ (c : ℕ). p x and goes n (suc k) c v) (q x)
-    ∙ ap (λ (b : Bool). p x and b) (steady p m n (suc k) l v (λ i y z. a i y (omega arith)) q (omega arith) (omega arith))
+    ∙ ap (λ (b : Bool). p x and b)
+    (steady p m n (suc k) l v (λ i y z. a i y (omega arith)) q (omega arith) (omega arith))
 
 -- digits of which one may be a comma: mode m before it, mode m' after it
-spent : (m m' n k l : ℕ) (v : List ℕ) → ((i x : ℕ) → k ≤ i → amountAt m i x ≡ (comma x or digit x)) → ((x : ℕ) → amountKeep m x ≡ pick (comma x) m' m)
-    → ((i x : ℕ) → amountAt m' i x ≡ digit x) → ((x : ℕ) → amountKeep m' x ≡ m') → k + l ≡ 10 → length v ≡ l → goes n k m v ≡ amount l v
+spent : (m m' n k l : ℕ) (v : List ℕ) → ((i x : ℕ) → k ≤ i → amountAt m i x ≡ (comma x or digit x)) →
+    ((x : ℕ) → amountKeep m x ≡ pick (comma x) m' m) → ((i x : ℕ) → amountAt m' i x ≡ digit x) →
+    ((x : ℕ) → amountKeep m' x ≡ m') → k + l ≡ 10 → length v ≡ l → goes n k m v ≡ amount l v
 unfolding amount goes passes pick _or_ _and_
 spent m m' n k zero [] a q a' q' e h = refl
 spent m m' n k zero (x ∷ v) a q a' q' e h = absurd (omega arith)
@@ -93,7 +106,8 @@ spent m m' n k (suc l) (x ∷ v) a q a' q' e h =
     ∙ ap (λ (c : ℕ). (comma x or digit x) and goes n (suc k) c v) (q x)
     ∙ go (spent m m' n (suc k) l v (λ i y z. a i y (omega arith)) q a' q' (omega arith) (omega arith)) (comma x)
   where
-    go : goes n (suc k) m v ≡ amount l v → (b : Bool) → ((b or digit x) and goes n (suc k) (pick b m' m) v) ≡ pick b (run digit l v) (digit x and amount l v)
+    go : goes n (suc k) m v ≡ amount l v → (b : Bool) →
+        ((b or digit x) and goes n (suc k) (pick b m' m) v) ≡ pick b (run digit l v) (digit x and amount l v)
     go ih true = steady digit m' n (suc k) l v (λ i y _. a' i y) q' (omega arith) (omega arith)
     go ih false = ap (λ (b : Bool). digit x and b) ih
 
@@ -102,8 +116,9 @@ unfolding digit comma within
 digit-no-comma x t u = omega (arith, le-of _ _ (both _ _ t .0), eq-of _ _ u)
 
 -- the units, and then the price or dashes
-counting : (m : ℕ) (p : List ℕ → Bool) (n k u : ℕ) (v : List ℕ) → ((i x : ℕ) → i ≤ 4 → amountAt m i x ≡ digit x) → ((x : ℕ) → T (digit x) → amountKeep m x ≡ m)
-    → ((w : List ℕ) → length w ≡ 5 → goes n 5 m w ≡ p w) → k + u ≡ 5 → length v ≡ u + 5 → goes n k m v ≡ after u p v
+counting : (m : ℕ) (p : List ℕ → Bool) (n k u : ℕ) (v : List ℕ) → ((i x : ℕ) → i ≤ 4 → amountAt m i x ≡ digit x) →
+    ((x : ℕ) → T (digit x) → amountKeep m x ≡ m) → ((w : List ℕ) → length w ≡ 5 → goes n 5 m w ≡ p w) → k + u ≡ 5 →
+    length v ≡ u + 5 → goes n k m v ≡ after u p v
 unfolding after
 counting m p n k zero v a q f e h = let z : k ≡ 5 = omega arith in rw z (f v (omega arith))
 counting m p n k (suc u) [] a q f e h = absurd (omega arith)
@@ -112,7 +127,8 @@ counting m p n k (suc u) (x ∷ v) a q f e h =
     ∙ ap (λ (b : Bool). b and goes n (suc k) (amountKeep m x) v) (a k x (omega arith))
     ∙ go (counting m p n (suc k) u v a q f (omega arith) (omega arith)) (decide (digit x))
   where
-    go : goes n (suc k) m v ≡ after u p v → T (digit x) ⊎ (T (digit x) → ⊥) → (digit x and goes n (suc k) (amountKeep m x) v) ≡ (digit x and after u p v)
+    go : goes n (suc k) m v ≡ after u p v → T (digit x) ⊎ (T (digit x) → ⊥) →
+        (digit x and goes n (suc k) (amountKeep m x) v) ≡ (digit x and after u p v)
     go ih (inl t) = ap (λ (c : ℕ). digit x and goes n (suc k) c v) (q x t) ∙ ap (λ (b : Bool). digit x and b) ih
     go ih (inr t) = same-truth _ _ (λ z. absurd (t (both _ _ z .0))) (λ z. absurd (t (both _ _ z .0)))
 
@@ -123,13 +139,18 @@ module _ (n : ℕ) (v : List ℕ) (h : length v ≡ 10) where
 
   priced : goes n 0 2 v ≡ after 5 (amount 5) v
   unfolding amountBy amountKeep
-  priced = counting 2 (amount 5) n 0 5 v (λ i x l. pick-yes _ _ _ (of-le _ _ l)) (λ x t. pick-not _ _ _ (digit-no-comma x t))
-      (λ w l. spent 2 3 n 5 5 w (λ i x g. pick-not _ _ _ (λ z. omega (arith, le-of _ _ z))) (λ x. refl) (λ i x. refl) (λ x. refl) refl l) refl h
+  priced =
+      counting 2 (amount 5) n 0 5 v (λ i x l. pick-yes _ _ _ (of-le _ _ l))
+      (λ x t. pick-not _ _ _ (digit-no-comma x t))
+      (λ w l. spent 2 3 n 5 5 w (λ i x g. pick-not _ _ _ (λ z. omega (arith, le-of _ _ z))) (λ x. refl)
+      (λ i x. refl) (λ x. refl) refl l) refl h
 
   alone : goes n 0 4 v ≡ after 5 (run dash 5) v
   unfolding amountBy amountKeep
-  alone = counting 4 (run dash 5) n 0 5 v (λ i x l. pick-yes _ _ _ (of-le _ _ l)) (λ x t. refl)
-      (λ w l. steady dash 4 n 5 5 w (λ i x g. pick-not _ _ _ (λ z. omega (arith, le-of _ _ z))) (λ x. refl) refl l) refl h
+  alone =
+      counting 4 (run dash 5) n 0 5 v (λ i x l. pick-yes _ _ _ (of-le _ _ l)) (λ x t. refl)
+      (λ w l. steady dash 4 n 5 5 w (λ i x g. pick-not _ _ _ (λ z. omega (arith, le-of _ _ z))) (λ x. refl) refl l)
+      refl h
 
   nothing : goes n 0 5 v ≡ run dash 10 v
   unfolding amountBy amountKeep
@@ -140,66 +161,58 @@ module _ (n : ℕ) (v : List ℕ) (h : length v ≡ 10) where
   unfolding flagsAt flagsKeep costs _=?_ pick _and_ _or_
   flagged zero f l = by (missing f) (units f)
     where
-      by : (a b : Bool) → (pick a false true and goes n 0 (pick a 5 (pick b 2 0)) v) ≡ pick a false (pick b (after 5 (amount 5) v) (amount 10 v))
+      by : (a b : Bool) → (pick a false true and goes n 0 (pick a 5 (pick b 2 0)) v) ≡
+          pick a false (pick b (after 5 (amount 5) v) (amount 10 v))
       by true b = refl
       by false true = priced
       by false false = cost
   flagged (suc zero) f l = by (missing f) (units f)
     where
-      by : (a b : Bool) → ((a or b) and goes n 0 (pick a 5 (pick b 4 0)) v) ≡ pick a (run dash 10 v) (pick b (after 5 (run dash 5) v) false)
+      by : (a b : Bool) → ((a or b) and goes n 0 (pick a 5 (pick b 4 0)) v) ≡
+          pick a (run dash 10 v) (pick b (after 5 (run dash 5) v) false)
       by true b = nothing
       by false true = alone
       by false false = refl
   flagged (suc (suc m)) f l = absurd (omega arith)
 
 -- ---- the law
-
-dash-no-letter : (x : ℕ) → T (dash x) → T (letter x) → ⊥
-unfolding dash within
-dash-no-letter x t u = omega (arith, eq-of _ _ t, le-of _ _ (both _ _ u .0))
-
-head : (n a b c f : ℕ) (v : List ℕ) → length v ≡ 10 → passes chargeJudge n 0 0 (a ∷ b ∷ c ∷ f ∷ v) ≡ chargeFits (a ∷ b ∷ c ∷ f ∷ v)
-unfolding passes chargeBy chargeKeep chargeFits currencyBy goes _=?_
-head n a b c f v h = same-truth _ _ to of
+-- behind the first octet, of letters or of dashes
+behind : (n m b c f : ℕ) (v : List ℕ) → length v ≡ 10 → m ≤ 1 → passes chargeJudge n 1 m (b ∷ c ∷ f ∷ v) ≡
+    (currencyAt m b and (currencyAt m c and (f ≤? 255 and costs (m =? 0) f v)))
+unfolding passes chargeBy chargeKeep goes
+behind n m b c f v h l =
+    ap (λ (q : Bool). currencyAt m b and (currencyAt m c and q))
+    (inner (f ≤? 255) (flagsAt m f) _ ∙ ap (λ (q : Bool). f ≤? 255 and q) (flagged n v h m f l))
   where
-    to : T (passes chargeJudge n 0 0 (a ∷ b ∷ c ∷ f ∷ v)) → T (chargeFits (a ∷ b ∷ c ∷ f ∷ v))
-    to t = go (decide (dash a)) (both _ _ t .0) (both _ _ t .1)
-      where
-        go : T (dash a) ⊎ (T (dash a) → ⊥) → T (dash a or letter a) → T (passes chargeJudge n 1 (pick (dash a) 1 0) (b ∷ c ∷ f ∷ v)) → T (chargeFits (a ∷ b ∷ c ∷ f ∷ v))
-        go (inl d) o r =
-            let s = subst (λ (m : ℕ). T (passes chargeJudge n 1 m (b ∷ c ∷ f ∷ v))) (pick-yes (dash a) 1 0 d) r in
-            let s1 = both _ _ s in
-            let s2 = both _ _ (s1 .1) in
-            let s3 = both _ _ (s2 .1) in
-            let s4 = both _ _ (s3 .0) in
-            join _ _ (s4 .0) (subst T (sym (pick-yes (dash a) _ _ d)) (join _ _ (s1 .0) (join _ _ (s2 .0) (subst T (flagged n v h 1 f (omega arith)) (join _ _ (s4 .1) (s3 .1))))))
-        go (inr d) o r =
-            let s = subst (λ (m : ℕ). T (passes chargeJudge n 1 m (b ∷ c ∷ f ∷ v))) (pick-not (dash a) 1 0 d) r in
-            let s1 = both _ _ s in
-            let s2 = both _ _ (s1 .1) in
-            let s3 = both _ _ (s2 .1) in
-            let s4 = both _ _ (s3 .0) in
-            join _ _ (s4 .0) (subst T (sym (pick-not (dash a) _ _ d)) (join _ _ (letters (either _ _ o)) (join _ _ (s1 .0) (join _ _ (s2 .0) (subst T (flagged n v h 0 f (omega arith)) (join _ _ (s4 .1) (s3 .1)))))))
-          where
-            letters : T (dash a) ⊎ T (letter a) → T (letter a)
-            letters (inl z) = absurd (d z)
-            letters (inr z) = z
+    inner : (p q r : Bool) → ((p and q) and r) ≡ (p and (q and r))
+    inner p q r = same-truth _ _
+        (λ t. let d = both _ _ (both _ _ t .0) in join _ _ (d .0) (join _ _ (d .1) (both _ _ t .1)))
+        (λ t. let d = both _ _ (both _ _ t .1) in join _ _ (join _ _ (both _ _ t .0) (d .0)) (d .1))
 
-    of : T (chargeFits (a ∷ b ∷ c ∷ f ∷ v)) → T (passes chargeJudge n 0 0 (a ∷ b ∷ c ∷ f ∷ v))
-    of t = go (decide (dash a)) (both _ _ t .0) (both _ _ t .1)
-      where
-        go : T (dash a) ⊎ (T (dash a) → ⊥) → T (f ≤? 255) → T (pick (dash a) (dash b and (dash c and costs false f v)) (letter a and (letter b and (letter c and costs true f v)))) → T (passes chargeJudge n 0 0 (a ∷ b ∷ c ∷ f ∷ v))
-        go (inl d) o r =
-            let s1 = both _ _ (subst T (pick-yes (dash a) _ _ d) r) in
-            let s2 = both _ _ (s1 .1) in
-            let s3 = both _ _ (subst T (sym (flagged n v h 1 f (omega arith))) (s2 .1)) in
-            join _ _ (left _ _ d) (subst (λ (m : ℕ). T (passes chargeJudge n 1 m (b ∷ c ∷ f ∷ v))) (sym (pick-yes (dash a) 1 0 d)) (join _ _ (s1 .0) (join _ _ (s2 .0) (join _ _ (join _ _ o (s3 .0)) (s3 .1)))))
-        go (inr d) o r =
-            let s0 = both _ _ (subst T (pick-not (dash a) _ _ d) r) in
-            let s1 = both _ _ (s0 .1) in
-            let s2 = both _ _ (s1 .1) in
-            let s3 = both _ _ (subst T (sym (flagged n v h 0 f (omega arith))) (s2 .1)) in
-            join _ _ (right _ _ (s0 .0)) (subst (λ (m : ℕ). T (passes chargeJudge n 1 m (b ∷ c ∷ f ∷ v))) (sym (pick-not (dash a) 1 0 d)) (join _ _ (s1 .0) (join _ _ (s2 .0) (join _ _ (join _ _ o (s3 .0)) (s3 .1)))))
+-- the flags are an octet, wherever that is asked
+outer : (a b q r : Bool) → (a and (b and (q and r))) ≡ (q and (a and (b and r)))
+unfolding _and_
+outer true true q r = refl
+outer true false true r = refl
+outer true false false r = refl
+outer false b true r = refl
+outer false b false r = refl
+
+head : (n a b c f : ℕ) (v : List ℕ) → length v ≡ 10 →
+    passes chargeJudge n 0 0 (a ∷ b ∷ c ∷ f ∷ v) ≡ chargeFits (a ∷ b ∷ c ∷ f ∷ v)
+unfolding passes chargeBy chargeKeep chargeFits currencyBy pick _and_ _or_ _=?_
+head n a b c f v h = by (dash a) (letter a)
+  where
+    none : (q : Bool) → false ≡ (q and false)
+    none true = refl
+    none false = refl
+
+    by : (d l : Bool) → ((d or l) and passes chargeJudge n 1 (pick d 1 0) (b ∷ c ∷ f ∷ v)) ≡
+        (f ≤? 255 and pick d (dash b and (dash c and costs false f v))
+        (l and (letter b and (letter c and costs true f v))))
+    by true l = behind n 1 b c f v h (omega arith) ∙ outer (dash b) (dash c) (f ≤? 255) _
+    by false true = behind n 0 b c f v h (omega arith) ∙ outer (letter b) (letter c) (f ≤? 255) _
+    by false false = none (f ≤? 255)
 
 long : (v : List ℕ) → T (chargeFits v) → length v ≡ 14
 unfolding chargeFits
@@ -208,7 +221,9 @@ long (a ∷ []) t = absurd t
 long (a ∷ b ∷ []) t = absurd t
 long (a ∷ b ∷ c ∷ []) t = absurd t
 long (a ∷ b ∷ c ∷ f ∷ v) t =
-    let e : length v ≡ 10 = pick-case (λ (q : Bool). T q → length v ≡ 10) (dash a) _ _ (λ _ u. costs-long false f v (both _ _ (both _ _ u .1) .1)) (λ _ u. costs-long true f v (both _ _ (both _ _ (both _ _ u .1) .1) .1)) (both _ _ t .1) in
+    let e : length v ≡ 10 = pick-case (λ (q : Bool). T q → length v ≡ 10) (dash a) _ _
+    (λ _ u. costs-long false f v (both _ _ (both _ _ u .1) .1))
+    (λ _ u. costs-long true f v (both _ _ (both _ _ (both _ _ u .1) .1) .1)) (both _ _ t .1) in
     omega arith
 
 fit-from : (v : List ℕ) → T (chargeFits v) → T (passes chargeJudge (length v) 0 0 v)
@@ -240,8 +255,14 @@ known-currency (suc zero) x t = omega arith
 known-currency (suc (suc m)) x t = absurd t
 
 flags-known : (m x : ℕ) → flagsKeep m x ≤ 5
-unfolding flagsKeep
-flags-known m x = pick-case (λ (q : ℕ). q ≤ 5) (missing x) _ _ (λ _. omega arith) (λ _. pick-case (λ (q : ℕ). q ≤ 5) (units x) _ _ (λ _. pick-case (λ (q : ℕ). q ≤ 5) (m =? 0) _ _ (λ _. omega arith) (λ _. omega arith)) (λ _. omega arith))
+unfolding flagsKeep pick
+flags-known m x = by (missing x) (units x) (m =? 0)
+  where
+    by : (a b z : Bool) → pick a 5 (pick b (pick z 2 4) 0) ≤ 5
+    by true b z = omega arith
+    by false true true = omega arith
+    by false true false = omega arith
+    by false false z = omega arith
 
 amount-known : (m k x : ℕ) → T (amountAt m k x) → amountKeep m x ≤ 5
 unfolding amountBy amountKeep
@@ -259,11 +280,9 @@ push zero m x t = pick-case (λ (q : ℕ). q ≤ 1) (dash x) _ _ (λ _. omega ar
 push (suc zero) m x t = known-currency m x t
 push (suc (suc zero)) m x t = known-currency m x t
 push (suc (suc (suc zero))) m x t = λ _. flags-known m x
-push (suc (suc (suc (suc k)))) m x t = λ h. subst (λ (q : ℕ). q ≤ 5) (sym (pick-yes (k ≤? 9) (amountKeep m x) 0 (of-le _ _ (omega arith)))) (amount-known m k x (subst T (pick-yes (k ≤? 9) _ _ (of-le _ _ (omega arith))) t))
-
-zero-digit : T (digit 0x30)
-unfolding digit within _≤?_ _and_
-zero-digit = tt
+push (suc (suc (suc (suc k)))) m x t =
+    λ h. subst (λ (q : ℕ). q ≤ 5) (sym (pick-yes (k ≤? 9) (amountKeep m x) 0 (of-le _ _ (omega arith))))
+    (amount-known m k x (subst T (pick-yes (k ≤? 9) _ _ (of-le _ _ (omega arith))) t))
 
 amount-next : (m k : ℕ) → m ≤ 5 → (x : ℕ) × T (amountAt m k x)
 unfolding amountBy dash _=?_
@@ -312,13 +331,6 @@ letter-octet : (x : ℕ) → T (letter x) → x < 256
 unfolding within
 letter-octet x t = omega (arith, le-of _ _ (both _ _ t .1))
 
-some-octet : (a b : Bool) (x : ℕ) → (T a → x < 256) → (T b → x < 256) → T (a or b) → x < 256
-some-octet a b x f g t = go (either _ _ t)
-  where
-    go : T a ⊎ T b → x < 256
-    go (inl z) = f z
-    go (inr z) = g z
-
 comma-octet : (x : ℕ) → T (comma x) → x < 256
 unfolding comma
 comma-octet x t = omega (arith, eq-of _ _ t)
@@ -327,9 +339,12 @@ amount-octet : (m k x : ℕ) → T (amountAt m k x) → x < 256
 unfolding amountBy
 amount-octet zero k x t = some-octet _ _ x (comma-octet x) (digit-octet x) t
 amount-octet (suc zero) k x t = digit-octet x t
-amount-octet (suc (suc zero)) k x t = pick-case (λ (q : Bool). T q → x < 256) (k ≤? 4) _ _ (λ _ u. digit-octet x u) (λ _ u. some-octet _ _ x (comma-octet x) (digit-octet x) u) t
+amount-octet (suc (suc zero)) k x t =
+    pick-case (λ (q : Bool). T q → x < 256) (k ≤? 4) _ _ (λ _ u. digit-octet x u)
+    (λ _ u. some-octet _ _ x (comma-octet x) (digit-octet x) u) t
 amount-octet (suc (suc (suc zero))) k x t = digit-octet x t
-amount-octet (suc (suc (suc (suc zero)))) k x t = pick-case (λ (q : Bool). T q → x < 256) (k ≤? 4) _ _ (λ _ u. digit-octet x u) (λ _ u. dash-octet x u) t
+amount-octet (suc (suc (suc (suc zero)))) k x t =
+    pick-case (λ (q : Bool). T q → x < 256) (k ≤? 4) _ _ (λ _ u. digit-octet x u) (λ _ u. dash-octet x u) t
 amount-octet (suc (suc (suc (suc (suc zero))))) k x t = dash-octet x t
 amount-octet (suc (suc (suc (suc (suc (suc m)))))) k x t = absurd t
 
@@ -345,7 +360,9 @@ octet zero m x t = some-octet _ _ x (dash-octet x) (letter-octet x) t
 octet (suc zero) m x t = currency-octet m x t
 octet (suc (suc zero)) m x t = currency-octet m x t
 octet (suc (suc (suc zero))) m x t = omega (arith, le-of _ _ (both _ _ t .0))
-octet (suc (suc (suc (suc k)))) m x t = pick-case (λ (q : Bool). T q → x < 256) (k ≤? 9) _ _ (λ _ u. amount-octet m k x u) (λ _ u. omega (arith, le-of _ _ u)) t
+octet (suc (suc (suc (suc k)))) m x t =
+    pick-case (λ (q : Bool). T q → x < 256) (k ≤? 9) _ _ (λ _ u. amount-octet m k x u)
+    (λ _ u. omega (arith, le-of _ _ u)) t
 
 pub charge-lawful : Lawful (record { lengths = only 14; fits = chargeFits }) chargeJudge
 charge-lawful = record {

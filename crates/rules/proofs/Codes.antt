@@ -1,15 +1,17 @@
 -- A class is told by its code, and the codes are 0 to 22: computed, class by class and code by code.
 -- Assumes nothing.
-use Prim.Native.Nat.{ℕ, zero, suc, _≤_}
+use Prim.Native.Nat.{ℕ, _≤_}
 use mathlib.Core.Path.{_≡_, refl, sym, _∙_, ap}
 use native.Mathlib.Omega.{arith}
 use Rattle.rules.specs.Tests.{_=?_, pick}
-use Rattle.rules.specs.Codes.{classCode, laterClass, classCoded}
+use Rattle.rules.specs.Codes.{classCode, classCoded}
+use Rattle.rules.proofs.Table.{tabled}
+use Rattle.rules.proofs.Rivals.{same-table}
 use Rattle.rules.specs.declared.Class.{Class}
 use Rattle.rules.specs.declared.Class.the-variants.{Carried, Date, Number, Absent, Name, Lamp, Identity, CallType, Waiting, Forwarded, User, ShortText, Moment, Charge, Duration, Terminal, Display, Service, Extension, OldNumber, OldForwarded, OldUser, Unlisted}
 
 pub coded-code : (c : Class) → classCoded (classCode c) ≡ c
-unfolding classCoded laterClass classCode pick _=?_
+unfolding classCoded classCode pick _=?_
 coded-code Carried = refl
 coded-code Date = refl
 coded-code Number = refl
@@ -40,28 +42,5 @@ code-is c k e = sym (coded-code c) ∙ ap classCoded e
 
 -- the codes are 0 to 22
 pub code-coded : (k : ℕ) → k ≤ 22 → classCode (classCoded k) ≡ k
-unfolding classCoded laterClass classCode pick _=?_
-code-coded zero h = refl
-code-coded (suc zero) h = refl
-code-coded (suc (suc zero)) h = refl
-code-coded (suc (suc (suc zero))) h = refl
-code-coded (suc (suc (suc (suc zero)))) h = refl
-code-coded (suc (suc (suc (suc (suc zero))))) h = refl
-code-coded (suc (suc (suc (suc (suc (suc zero)))))) h = refl
-code-coded (suc (suc (suc (suc (suc (suc (suc zero))))))) h = refl
-code-coded (suc (suc (suc (suc (suc (suc (suc (suc zero)))))))) h = refl
-code-coded (suc (suc (suc (suc (suc (suc (suc (suc (suc zero))))))))) h = refl
-code-coded (suc (suc (suc (suc (suc (suc (suc (suc (suc (suc zero)))))))))) h = refl
-code-coded (suc (suc (suc (suc (suc (suc (suc (suc (suc (suc (suc zero))))))))))) h = refl
-code-coded (suc (suc (suc (suc (suc (suc (suc (suc (suc (suc (suc (suc zero)))))))))))) h = refl
-code-coded (suc (suc (suc (suc (suc (suc (suc (suc (suc (suc (suc (suc (suc zero))))))))))))) h = refl
-code-coded (suc (suc (suc (suc (suc (suc (suc (suc (suc (suc (suc (suc (suc (suc zero)))))))))))))) h = refl
-code-coded (suc (suc (suc (suc (suc (suc (suc (suc (suc (suc (suc (suc (suc (suc (suc zero))))))))))))))) h = refl
-code-coded (suc (suc (suc (suc (suc (suc (suc (suc (suc (suc (suc (suc (suc (suc (suc (suc zero)))))))))))))))) h = refl
-code-coded (suc (suc (suc (suc (suc (suc (suc (suc (suc (suc (suc (suc (suc (suc (suc (suc (suc zero))))))))))))))))) h = refl
-code-coded (suc (suc (suc (suc (suc (suc (suc (suc (suc (suc (suc (suc (suc (suc (suc (suc (suc (suc zero)))))))))))))))))) h = refl
-code-coded (suc (suc (suc (suc (suc (suc (suc (suc (suc (suc (suc (suc (suc (suc (suc (suc (suc (suc (suc zero))))))))))))))))))) h = refl
-code-coded (suc (suc (suc (suc (suc (suc (suc (suc (suc (suc (suc (suc (suc (suc (suc (suc (suc (suc (suc (suc zero)))))))))))))))))))) h = refl
-code-coded (suc (suc (suc (suc (suc (suc (suc (suc (suc (suc (suc (suc (suc (suc (suc (suc (suc (suc (suc (suc (suc zero))))))))))))))))))))) h = refl
-code-coded (suc (suc (suc (suc (suc (suc (suc (suc (suc (suc (suc (suc (suc (suc (suc (suc (suc (suc (suc (suc (suc (suc zero)))))))))))))))))))))) h = refl
-code-coded (suc (suc (suc (suc (suc (suc (suc (suc (suc (suc (suc (suc (suc (suc (suc (suc (suc (suc (suc (suc (suc (suc (suc k))))))))))))))))))))))) h = absurd (omega arith)
+unfolding tabled classCoded classCode pick _=?_
+code-coded k h = same-table (λ (j : ℕ). classCode (classCoded j)) (λ (j : ℕ). j) 23 k refl (omega arith)

@@ -16,22 +16,14 @@ use Rattle.rules.specs.Contents.{Range, within, inSet, digit, allIn, onl
 use Rattle.rules.specs.ContentJudge.{passes, extensionJudge}
 use Rattle.rules.specs.Extension.{blank, countryFits, extensionFits, extensionBy, extensionKeep}
 use Rattle.rules.proofs.ClassLaw.{Lawful}
-use Rattle.rules.proofs.BuilderLaw.{soundSet, set-next, set-octet, digit-octet, only-is, is-only}
+use Rattle.rules.proofs.BuilderLaw.{soundSet, set-next, set-octet, digit-octet, some-octet, zero-digit, only-is, is-only}
 
 blank-octet : (x : ℕ) → T (blank x) → x < 256
 unfolding blank
 blank-octet x t = omega (arith, eq-of _ _ t)
 
 either-octet : (x : ℕ) → T (blank x or digit x) → x < 256
-either-octet x t = go (either _ _ t)
-  where
-    go : T (blank x) ⊎ T (digit x) → x < 256
-    go (inl z) = blank-octet x z
-    go (inr z) = digit-octet x z
-
-zero-digit : T (digit 0x30)
-unfolding digit within _≤?_ _and_
-zero-digit = tt
+either-octet x t = some-octet _ _ x (blank-octet x) (digit-octet x) t
 
 a-blank : T (blank 0x20)
 unfolding blank _=?_

@@ -1,5 +1,5 @@
--- A first octet and a text behind it, as far as they go (document 02, Q-4): the selector of a terminal's function and its
--- digits, or its code; a display's first octet and its characters.
+-- A first octet and a text behind it, as far as they go (document 02, Q-4): the selector of a terminal's function and
+-- its digits, or its code; a display's first octet and its characters.
 -- Assumes nothing.
 use Prim.Native.Nat.{ℕ, zero, suc, _+_, _-_, _≤_}
 use mathlib.Core.Path.{_≡_, refl, sym, _∙_, ap, ap₂}

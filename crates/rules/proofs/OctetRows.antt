@@ -48,24 +48,31 @@ four-alike f g h a b c d =
     each (λ (c d : Bool). f a b c d ≡ g a b c d)
     (each (λ (a b : Bool). Cases (λ (c d : Bool). f a b c d ≡ g a b c d)) h a b) c d
 
-first-bit : (a b c d : Bool) → admitted (bit a + 2 * bit b + 4 * bit c + 8 * bit d) 1 ≡ a
+abbrev bits : Bool → Bool → Bool → Bool → ℕ
+bits a b c d = bit a + 2 * bit b + 4 * bit c + 8 * bit d
+
+first-bit : (a b c d : Bool) → admitted (bits a b c d) 1 ≡ a
 unfolding admitted bit _=?_
-first-bit = four-alike (λ (a b c d : Bool). admitted (bit a + 2 * bit b + 4 * bit c + 8 * bit d) 1) (λ (a b c d : Bool). a)
+first-bit =
+    four-alike (λ (a b c d : Bool). admitted (bits a b c d) 1) (λ (a b c d : Bool). a)
     ((refl, refl, refl, refl), (refl, refl, refl, refl), (refl, refl, refl, refl), (refl, refl, refl, refl))
 
-second-bit : (a b c d : Bool) → admitted (bit a + 2 * bit b + 4 * bit c + 8 * bit d) 2 ≡ b
+second-bit : (a b c d : Bool) → admitted (bits a b c d) 2 ≡ b
 unfolding admitted bit _=?_
-second-bit = four-alike (λ (a b c d : Bool). admitted (bit a + 2 * bit b + 4 * bit c + 8 * bit d) 2) (λ (a b c d : Bool). b)
+second-bit =
+    four-alike (λ (a b c d : Bool). admitted (bits a b c d) 2) (λ (a b c d : Bool). b)
     ((refl, refl, refl, refl), (refl, refl, refl, refl), (refl, refl, refl, refl), (refl, refl, refl, refl))
 
-third-bit : (a b c d : Bool) → admitted (bit a + 2 * bit b + 4 * bit c + 8 * bit d) 4 ≡ c
+third-bit : (a b c d : Bool) → admitted (bits a b c d) 4 ≡ c
 unfolding admitted bit _=?_
-third-bit = four-alike (λ (a b c d : Bool). admitted (bit a + 2 * bit b + 4 * bit c + 8 * bit d) 4) (λ (a b c d : Bool). c)
+third-bit =
+    four-alike (λ (a b c d : Bool). admitted (bits a b c d) 4) (λ (a b c d : Bool). c)
     ((refl, refl, refl, refl), (refl, refl, refl, refl), (refl, refl, refl, refl), (refl, refl, refl, refl))
 
-fourth-bit : (a b c d : Bool) → admitted (bit a + 2 * bit b + 4 * bit c + 8 * bit d) 8 ≡ d
+fourth-bit : (a b c d : Bool) → admitted (bits a b c d) 8 ≡ d
 unfolding admitted bit _=?_
-fourth-bit = four-alike (λ (a b c d : Bool). admitted (bit a + 2 * bit b + 4 * bit c + 8 * bit d) 8) (λ (a b c d : Bool). d)
+fourth-bit =
+    four-alike (λ (a b c d : Bool). admitted (bits a b c d) 8) (λ (a b c d : Bool). d)
     ((refl, refl, refl, refl), (refl, refl, refl, refl), (refl, refl, refl, refl), (refl, refl, refl, refl))
 
 last-of : (b : Bool) → b ≡ (b or false)

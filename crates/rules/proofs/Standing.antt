@@ -90,7 +90,8 @@ module _ (s : List Range) (v : List ℕ) (i : ℕ) (inv : TextSoFar s v i) where
     unfolding TextSoFar
     text-stops e = let q = here ∙ pick-not _ _ _ (λ t. rw e at t) in omega arith
 
--- ---- any contents of a class, octet by octet: how many may stand where they stand, of contents that are to have n octets
+-- ---- any contents of a class, octet by octet: how many may stand where they stand, of contents that are to have n
+-- octets
 module _ (c : Class) (v : List ℕ) (n : ℕ) where
   abbrev pub Stood : ℕ → ℕ → Type 0
   Stood i m = i + passing (judgeOf c) n i m (drop i v) ≡ passing (judgeOf c) n 0 0 v

@@ -1,5 +1,5 @@
--- The selection of a terminal's function (document 02, Q-4; source 004, 5.4.24) is a lawful class. Its judge looks at the
--- length: a connection type may come first only where there are two octets.
+-- The selection of a terminal's function (document 02, Q-4; source 004, 5.4.24) is a lawful class. Its judge looks at
+-- the length: a connection type may come first only where there are two octets.
 -- Assumes nothing.
 use Prim.Native.Nat.{ℕ, zero, suc, _≤_, _<_}
 use mathlib.Core.Path.{_≡_, refl, sym, ap, subst}

@@ -58,11 +58,12 @@ chargeFits (a ∷ b ∷ []) = false
 chargeFits (a ∷ b ∷ c ∷ []) = false
 chargeFits (a ∷ b ∷ c ∷ f ∷ v) =
     f ≤? 255
-    and pick (dash a) (dash b and (dash c and costs false f v)) (letter a and (letter b and (letter c and costs true f v)))
+    and pick (dash a) (dash b and (dash c and costs false f v))
+    (letter a and (letter b and (letter c and costs true f v)))
 
 -- ---- octet by octet, where d says whether x is a digit, and l whether it is a letter
--- What is remembered: of the currency 0 letters, 1 dashes; from the flags on 0 a cost, 1 a cost behind its comma, 2 units
--- and a price, 3 a price behind its comma, 4 units alone, 5 nothing.
+-- What is remembered: of the currency 0 letters, 1 dashes; from the flags on 0 a cost, 1 a cost behind its comma, 2
+-- units and a price, 3 a price behind its comma, 4 units alone, 5 nothing.
 -- octet k, from 0, of the ten
 unfoldable pub amountBy : Bool → ℕ → ℕ → ℕ → Bool
 amountBy d zero k x = comma x or d

@@ -53,19 +53,6 @@ codeIn e w k =
     pick (k =? 0) (lenient ≤? w)
     (pick (e =? 0) (k ≤? lastPresent) (pick (e =? 1) (inSet oldCodes k) (k ≤? lastListed)))
 
--- the class of a code from 12 on
-unfoldable pub laterClass : ℕ → Class
-laterClass k =
-    pick (k =? 12) Moment
-    (pick (k =? 13) Charge
-    (pick (k =? 14) Duration
-    (pick (k =? 15) Terminal
-    (pick (k =? 16) Display
-    (pick (k =? 17) Service
-    (pick (k =? 18) Extension
-    (pick (k =? 19) OldNumber
-    (pick (k =? 20) OldForwarded (pick (k =? 21) OldUser (pick (k =? 22) Unlisted Carried))))))))))
-
 -- the class of a code; a code of none is read as carried
 unfoldable pub classCoded : ℕ → Class
 classCoded k =
@@ -79,7 +66,18 @@ classCoded k =
     (pick (k =? 8) Waiting
     (pick (k =? 9) Forwarded
     (pick (k =? 10) User
-    (pick (k =? 11) ShortText (laterClass k)))))))))))
+    (pick (k =? 11) ShortText
+    (pick (k =? 12) Moment
+    (pick (k =? 13) Charge
+    (pick (k =? 14) Duration
+    (pick (k =? 15) Terminal
+    (pick (k =? 16) Display
+    (pick (k =? 17) Service
+    (pick (k =? 18) Extension
+    (pick (k =? 19) OldNumber
+    (pick (k =? 20) OldForwarded
+    (pick (k =? 21) OldUser
+    (pick (k =? 22) Unlisted Carried)))))))))))))))))))))
 
 -- the length of a class that its range has not; 0 where there is none
 unfoldable pub otherLength : Class → ℕ

@@ -1,7 +1,7 @@
 -- The tables of the present edition (document 01, The message; document 02, Q-4; source 004) and of the old one
 -- (document 02, Q-5; source 001): for each parameter type its class of contents, the other type of its pair and its
--- key in a listing; for each class its contents, its kind of value in a draft and its style in a listing. A set of rules
--- is such a table.
+-- key in a listing; for each class its contents, its kind of value in a draft and its style in a listing. A set of
+-- rules is such a table.
 -- Assumes nothing.
 use Rattle.rules.specs.Tests.{_=?_, _or_, pick}
 use Rattle.rules.specs.Contents.{Range, inSet, someLength, Whole, only, pairs, calendar, calendarOr, columns, text, headed}

@@ -1,6 +1,6 @@
 // What the judge of single octets is made of, and the tests that it needs: the class of a parameter type, the lengths
-// of a class and the room they fit; whether two texts are the same, and what a reference of two octets is. What may stand
-// in contents is crate `contents`. Every public function is total.
+// of a class and the room they fit; whether two texts are the same, and what a reference of two octets is. What may
+// stand in contents is crate `contents`. Every public function is total.
 ghost use mathlib.Core.Path.{_≡_};
 ghost use mathlib.Core.Bool.{true};
 ghost use Prim.Native.Nat.{_+_, _*_, _-_};

@@ -11,3 +11,4 @@ pub mod Legal
 pub mod Reasons
 pub mod Judging
 pub mod RoundTrips
+pub mod Empty

@@ -144,7 +144,8 @@ extension t a = row (one 0xE0 (Text 0 10)) (ascii t) 15 a
 abbrev pub marked : ℕ → ℕ → ℕ → List ℕ → Told → Example
 marked t mark n texts a = row (one t (Marked mark 0 n)) texts 300 a
 
--- both sides of the main limits (all are run by the program `parts`); the charges that are written are those of source 004, annex D, where D.2's words say 23
+-- both sides of the main limits (all are run by the program `parts`); the charges that are written are those of source
+-- 004, annex D, where D.2's words say 23
 abbrev pub parameterRows : List Example
 parameterRows =
     row (one 0x0F (Moment 2 29 23 59 0)) [] 13 (success 13) ∷

@@ -62,7 +62,8 @@ returns-9 : tie.Need-returns-9
 returns-9 c =
     let u = c .before in
     let v = u .before .before in
-    amount-none _ _ _ _ (v .before .before .if1 .left) (v .before .if2 .left) (v .if3 .left) (u .before .if5 .left) (u .if6 .left) (c .if8 .left)
+    amount-none _ _ _ _ (v .before .before .if1 .left) (v .before .if2 .left) (v .if3 .left) (u .before .if5 .left)
+    (u .if6 .left) (c .if8 .left)
 
 pub amount-ok-spec : {M : Type 1} → statement M
 amount-ok-spec =

@@ -1,5 +1,5 @@
--- `contents::content_ok` meets its contract: where no rows are asked for the first octet alone is judged; else contents of
--- no one kind by judges of their own, a text by its kind.
+-- `contents::content_ok` meets its contract: where no rows are asked for the first octet alone is judged; else
+-- contents of no one kind by judges of their own, a text by its kind.
 -- Assumes nothing.
 use mathlib.Core.Path.{_∙_, sym, ap}
 use Prim.Native.Nat.{ℕ}

@@ -1,5 +1,5 @@
--- `contents::date_along` meets its contract: pair after pair, until one does not stand; the day by the days of the month
--- that the first pair names.
+-- `contents::date_along` meets its contract: pair after pair, until one does not stand; the day by the days of the
+-- month that the first pair names.
 -- Assumes nothing.
 use Prim.Native.Nat.{ℕ}
 use mathlib.Core.Path.{_∙_, sym}

@@ -1,5 +1,5 @@
--- `contents::date_kept` meets its contract: after the ones of the month its days, after the tens of the day what is left
--- of them, else the digit.
+-- `contents::date_kept` meets its contract: after the ones of the month its days, after the tens of the day what is
+-- left of them, else the digit.
 -- Assumes nothing.
 use mathlib.Core.Path.{_∙_}
 use Rattle.rules.proofs.AtIndex.{kept-month, kept-tens, kept-digit}

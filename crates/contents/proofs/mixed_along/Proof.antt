@@ -2,7 +2,7 @@
 -- Assumes nothing.
 use mathlib.Core.Path.{sym, _∙_}
 use Rattle.rules.specs.Tests.{_=?_, pick}
-use Rattle.rules.specs.Codes.{classCoded, laterClass}
+use Rattle.rules.specs.Codes.{classCoded}
 use Rattle.rules.proofs.Codes.{code-is}
 use Rattle.rules.proofs.Asked.{the-short}
 use borrow.Author.Needs.{needs}
@@ -32,19 +32,19 @@ short-along-requires c κs =
     )
 
 returns : tie.Need-returns
-unfolding classCoded laterClass pick _=?_
+unfolding classCoded pick _=?_
 returns c =
     let code = c .before .before in
     rw (code-is _ 1 (sym (code .code-of .ensures) ∙ c .before .if1 .taken)) (c .date-along .ensures)
 
 returns-2 : tie.Need-returns-2
-unfolding classCoded laterClass pick _=?_
+unfolding classCoded pick _=?_
 returns-2 c =
     let code = c .before .before .before in
     rw (code-is _ 15 (sym (code .code-of .ensures) ∙ c .before .if2 .taken)) (c .terminal-along .ensures)
 
 returns-3 : tie.Need-returns-3
-unfolding classCoded laterClass pick _=?_
+unfolding classCoded pick _=?_
 returns-3 c =
     let code = c .before .before .before .before in
     rw (code-is _ 16 (sym (code .code-of .ensures) ∙ c .before .if3 .taken)) (c .display-along .ensures)

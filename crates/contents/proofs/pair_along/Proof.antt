@@ -1,5 +1,5 @@
--- `contents::pair_along` meets its contract: two octets that make a number of the range stand; else none is left, or the
--- tens decide.
+-- `contents::pair_along` meets its contract: two octets that make a number of the range stand; else none is left, or
+-- the tens decide.
 -- Assumes nothing.
 use mathlib.Core.Path.{sym, _∙_}
 use mathlib.Core.Bool.{true, false}

@@ -1,5 +1,5 @@
--- `contents::short_along` meets its contract. The loop's invariant: the octets before the index may stand. The measure is
--- how far the fourteenth is; behind it any octet may stand.
+-- `contents::short_along` meets its contract. The loop's invariant: the octets before the index may stand. The
+-- measure is how far the fourteenth is; behind it any octet may stand.
 -- Assumes nothing.
 use mathlib.Core.Path.{_≡_, refl, _∙_}
 use Prim.Native.Nat.{_≤_, _<_, _-_}

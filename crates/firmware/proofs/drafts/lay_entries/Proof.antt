@@ -147,11 +147,12 @@ loop-again c =
     let turn = after-taken .before .before .before in
     let loop = turn .before in
     let start = loop .before .before .before .before in
-    let found = after-taken .taken .given .0 in
+    let text = after-taken .taken .given .0 .1 .0 in
+    let place = after-taken .taken .given .0 .1 .1 .0 in
     recorded-more _ _ _ (start .pre .1) _ _ _ _ _ (loop .loop .inv) (turn .loop-test .taken) _ _ _
     (sym (after-taken .taken .given .1) ∙ after-taken .before .before .entry .ensures) _ _
     (rest-laid _ _ _ (8 + 8 * loop .loop .count) (after-entry .lay-entry .ensures))
-    (put-is (start .args .octets .now) (loop .loop .texts) _ (found .1 .1 .0 - found .1 .0) (found .1 .0) (loop .loop .used)
+    (put-is (start .args .octets .now) (loop .loop .texts) _ (place - text) text (loop .loop .used)
     (after-copy .copy .ensures .1))
 
 enum-told : tie.Need-enum-told Inv-loop μ-loop
