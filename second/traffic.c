@@ -770,9 +770,13 @@ static void mismatch_terminal(struct traffic *t, uint8_t *c, size_t n)
     }
 }
 
+/* No two numbers are drawn in one expression, here and elsewhere: which of them
+ * comes first is the compiler's choice, and traffic must not hang on it. */
 static void mismatch(struct traffic *t, const struct make *make, uint8_t *c,
                      size_t n)
 {
+    size_t value;
+
     switch (make->form) {
     case DATE:
         if (n == 10 && traffic_number(t, 2) == 0)
@@ -781,7 +785,8 @@ static void mismatch(struct traffic *t, const struct make *make, uint8_t *c,
             limit_date(t, c, n);
         break;
     case DURATION:
-        put_pair(c + 2 * from_to(t, 1, 2), from_to(t, 58, 61));
+        value = from_to(t, 58, 61);
+        put_pair(c + 2 * from_to(t, 1, 2), value);
         break;
     case CHARGE:
         mismatch_charge(t, c);
@@ -856,7 +861,9 @@ static void unlist(struct traffic *t, uint8_t *out)
     for (size_t place = 2; place < out[1] + 2u; place += 2u + out[place + 1])
         at[count++] = place;
     do {
-        out[at[traffic_number(t, count)]] = unlisted_type(t);
+        size_t place = at[traffic_number(t, count)];
+
+        out[place] = unlisted_type(t);
     } while (traffic_number(t, 8) == 0);
     set_sum(out);
 }
