@@ -3,7 +3,9 @@
  * below and second_is_message; "Listening" asks of each prefix whether it is
  * a message or can still become one; the read, the desk, the caption and the
  * listing look only at octets that are known to be a message. No state is
- * handed from octet to octet. Each edition has a table of its own: 01's and
+ * handed from octet to octet. A listing that comes back is cut into lines,
+ * each read by itself, and of the first k lines, for each k, it is asked
+ * whether they begin a listing. Each edition has a table of its own: 01's and
  * the rest of source 004's parameters are the present one's (02, Q-4), source
  * 001's is the old one's (02, Q-5); by the strict way a message is made of its
  * rows alone (02, Q-11). -DSECOND_WRONG=N makes it wrong on purpose: 1 in a
@@ -17,7 +19,12 @@
  * the present table in the old edition, and 16, which carries; 17 takes
  * unknown ways for the lenient one, and 18 settles by the lenient way alone.
  * Of the European parameters 19 takes a charge with two commas, 20 reads a
- * moment without seconds as one with 00, and 21 a mark into its text.
+ * moment without seconds as one with 00, and 21 a mark into its text. Of
+ * listings that come back (02, Q-1) 22 takes leading zeros, 23 small hex
+ * digits, 24 both of a pair, and 25 a last line that is not ended; 26 counts
+ * lines from 0, 27 does not look behind the end, 28 touches the octet behind
+ * the message, 29 says 62 ahead of 61, 30 takes a key twice, and 31 fills an
+ * area that is too short.
  */
 #include "second.h"
 
@@ -1104,4 +1111,334 @@ struct second_part second_caption(uint8_t edition, uint8_t way,
         part.length = q.length;
     }
     return part;
+}
+
+/* ---- Listings come back as messages (02, Q-1) ---- */
+
+static int starts(const uint8_t *v, size_t n, const char *words)
+{
+    return n >= strlen(words) && memcmp(v, words, strlen(words)) == 0;
+}
+
+static int is_words(const uint8_t *v, size_t n, const char *words)
+{
+    return n == strlen(words) && starts(v, n, words);
+}
+
+/*
+ * Values, by their look: each of these gives the number of octets that v[0..n)
+ * stands for, at most SECOND_TEXTS, and the octets; 0 where no value has such a
+ * look. Whether they are a value is for legal_contents to say.
+ */
+
+/* As it is, but not longer than c has room for. */
+static size_t from_octets(const uint8_t *v, size_t n, size_t room, uint8_t *c)
+{
+    if (n > room)
+        return 0;
+    memcpy(c, v, n);
+    return n;
+}
+
+/* Pairs, and between them these characters, or the first of them. */
+static size_t from_pairs(const uint8_t *v, size_t n, const char *between,
+                         uint8_t *c)
+{
+    size_t octets = 0;
+
+    if (n % 3 != 2 || n / 3 > strlen(between))
+        return 0;
+    for (size_t i = 0; i < n; i++) {
+        if (i % 3 != 2)
+            c[octets++] = v[i];
+        else if (v[i] != (uint8_t)between[i / 3])
+            return 0;
+    }
+    return octets;
+}
+
+/* The digit's number, 16 if it is none: capital letters only. */
+static unsigned hex_digit(uint8_t x)
+{
+    if (in_set(DIGIT, x))
+        return x - (unsigned)'0';
+    if (x >= 'A' && x <= 'F')
+        return 10u + x - 'A';
+    if (SECOND_WRONG == 23 && x >= 'a' && x <= 'f')
+        return 10u + x - 'a';
+    return 16;
+}
+
+static size_t from_hex(const uint8_t *v, size_t n, uint8_t *c)
+{
+    if (n != 2 || hex_digit(v[0]) > 15 || hex_digit(v[1]) > 15)
+        return 0;
+    c[0] = (uint8_t)(hex_digit(v[0]) * 16 + hex_digit(v[1]));
+    return 1;
+}
+
+/* The number in decimal without leading zeros, at most the limit; -1 if it is
+ * none. */
+static long decimal_of(const uint8_t *v, size_t n, long limit)
+{
+    long value = 0;
+
+    if (n == 0 || (n > 1 && v[0] == '0' && SECOND_WRONG != 22))
+        return -1;
+    for (size_t i = 0; i < n && value <= limit; i++) {
+        if (!in_set(DIGIT, v[i]))
+            return -1;
+        value = value * 10 + (v[i] - '0');
+    }
+    return value <= limit ? value : -1;
+}
+
+static size_t from_decimal(const uint8_t *v, size_t n, uint8_t *c)
+{
+    long value = decimal_of(v, n, 255);
+
+    c[0] = (uint8_t)value;
+    return value < 0 ? 0 : 1;
+}
+
+static size_t from_lamp(const uint8_t *v, size_t n, uint8_t *c)
+{
+    c[0] = is_words(v, n, "on") ? 0xFF : 0x00;
+    return is_words(v, n, "on") || is_words(v, n, "off") ? 1 : 0;
+}
+
+/* A state, a space and the reference. */
+static size_t from_state(const uint8_t *v, size_t n, uint8_t *c)
+{
+    static const struct {
+        const char *words;
+        uint8_t octet;
+    } states[] = {{"off ", 0x00}, {"unset ", 0x55}, {"on ", 0xFF}};
+    long reference = -1;
+
+    for (size_t i = 0; i < sizeof states / sizeof *states; i++) {
+        size_t before = strlen(states[i].words);
+        if (!starts(v, n, states[i].words))
+            continue;
+        reference = decimal_of(v + before, n - before, 65535);
+        c[0] = states[i].octet;
+        c[1] = (uint8_t)(reference / 256);
+        c[2] = (uint8_t)(reference % 256);
+    }
+    return reference < 0 ? 0 : 3;
+}
+
+/* Currency, flags and ten octets, with spaces between. */
+static size_t from_charge(const uint8_t *v, size_t n, uint8_t *c)
+{
+    if (n != 17 || v[3] != ' ' || from_hex(v + 4, 2, c + 3) == 0
+        || v[6] != ' ')
+        return 0;
+    memcpy(c, v, 3);
+    memcpy(c + 4, v + 7, 10);
+    return 14;
+}
+
+/* A connection and its code, or a number or subaddress. */
+static size_t from_function(const uint8_t *v, size_t n, uint8_t *c)
+{
+    static const struct {
+        const char *words;
+        uint8_t octet;
+    } functions[] = {{"connection ", CONNECTION}, {"number ", SUBSCRIBER},
+                     {"subaddress ", SUBADDRESS}};
+    size_t octets = 0;
+
+    for (size_t i = 0; i < sizeof functions / sizeof *functions; i++) {
+        size_t before = strlen(functions[i].words);
+        if (!starts(v, n, functions[i].words))
+            continue;
+        c[0] = functions[i].octet;
+        octets = c[0] == CONNECTION
+            ? from_hex(v + before, n - before, c + 1)
+            : from_octets(v + before, n - before, SECOND_TEXTS - 1, c + 1);
+    }
+    return octets == 0 ? 0 : 1 + octets;
+}
+
+/* A mark, a space and a text, perhaps of nothing. */
+static size_t from_display(const uint8_t *v, size_t n, uint8_t *c)
+{
+    if (n < 3 || from_hex(v, 2, c) == 0 || v[2] != ' '
+        || n - 3 > SECOND_TEXTS - 1)
+        return 0;
+    memcpy(c + 1, v + 3, n - 3);
+    return 1 + n - 3;
+}
+
+static size_t from_look(unsigned look, const uint8_t *v, size_t n, uint8_t *c)
+{
+    switch (look) {
+    case MONTH_TO_SECOND:
+        return from_pairs(v, n, "- ::", c);
+    case HOUR_TO_SECOND:
+        return from_pairs(v, n, "::", c);
+    case OFF_OR_ON:
+        return from_lamp(v, n, c);
+    case WITH_REFERENCE:
+        return from_state(v, n, c);
+    case HEX:
+        return from_hex(v, n, c);
+    case DECIMAL:
+        return from_decimal(v, n, c);
+    case CURRENCY_AND_COST:
+        return from_charge(v, n, c);
+    case FUNCTION:
+        return from_function(v, n, c);
+    case MARK_AND_TEXT:
+        return from_display(v, n, c);
+    default:
+        return from_octets(v, n, SECOND_TEXTS, c);
+    }
+}
+
+/* A line is the kind, a value or the last one, or stands in no listing. */
+enum line_sort { NO_LINE, KIND_LINE, VALUE_LINE, LAST_LINE };
+
+struct line {
+    enum line_sort sort;
+    uint8_t type;                  /* of the message, or of the parameter */
+    size_t n;                      /* of its contents */
+    uint8_t contents[SECOND_TEXTS];
+    size_t end;                    /* where the text goes on behind it */
+};
+
+static void read_value(uint8_t type, const uint8_t *v, size_t n,
+                       struct line *line)
+{
+    line->type = type;
+    line->n = from_look(present[type].look, v, n, line->contents);
+    if (line->n > 0
+        && legal_contents(SECOND_PRESENT, type, line->contents, line->n))
+        line->sort = VALUE_LINE;
+}
+
+/* v[0..n) by itself, without its line end. */
+static void read_line(const uint8_t *v, size_t n, struct line *line)
+{
+    const size_t value = find(v, 0, n, '=') + 1;
+
+    line->sort = NO_LINE;
+    if (is_words(v, n, "carried=0"))
+        line->sort = LAST_LINE;
+    if (is_words(v, n, "kind=call") || is_words(v, n, "kind=notice")) {
+        line->sort = KIND_LINE;
+        line->type = is_words(v, n, "kind=call") ? 0x80 : 0x82;
+    }
+    for (unsigned type = 0; type < 256 && value <= n; type++) {
+        if (is_listed(SECOND_PRESENT, (uint8_t)type)
+            && is_words(v, value - 1, present[type].key))
+            read_value((uint8_t)type, v + value, n - value, line);
+    }
+}
+
+/* More lines than a listing has: the kind, at most one for each of 27 keys,
+ * and the last. No others need be looked at. */
+#define LINES 30
+
+/* Reads the ended lines of the text, LINES at most, and gives their number. */
+static size_t read_lines(const uint8_t *text, size_t n, struct line *line)
+{
+    size_t count = 0, at = 0, end;
+
+    while (count < LINES && at < n) {
+        end = find(text, at, n, 0x0A);
+        if (end == n && SECOND_WRONG != 25)
+            break;
+        read_line(text + at, end - at, &line[count]);
+        at = end < n ? end + 1 : n;
+        line[count++].end = at;
+    }
+    return count;
+}
+
+/* One value line may stand before another: its type is the lower one, and not
+ * the other of a pair. */
+static int may_follow(uint8_t type, uint8_t before)
+{
+    if (SECOND_WRONG == 30 && type == before)
+        return 1;
+    return before < type
+        && (present[type].rival != before || SECOND_WRONG == 24);
+}
+
+/* These k lines are the first of some listing: the kind is the first and no
+ * other, the last one, if it is among them, the k-th and behind a value, and of
+ * any two values one may follow the other. */
+static int begin_listing(const struct line *line, size_t k)
+{
+    for (size_t i = 0; i < k; i++) {
+        if (line[i].sort == NO_LINE || (line[i].sort == KIND_LINE) != (i == 0)
+            || (line[i].sort == LAST_LINE && (i < 2 || i + 1 < k)))
+            return 0;
+        for (size_t j = 1; j < i && line[i].sort == VALUE_LINE; j++) {
+            if (!may_follow(line[i].type, line[j].type))
+                return 0;
+        }
+    }
+    return 1;
+}
+
+/* The octets of the parameters that the value lines among k lines make. */
+static size_t octets_of(const struct line *line, size_t k)
+{
+    size_t octets = 0;
+
+    for (size_t i = 0; i < k; i++)
+        octets += line[i].sort == VALUE_LINE ? 2 + line[i].n : 0;
+    return octets;
+}
+
+/* The message that the k lines of a listing make; gives its size. */
+static size_t make_message(const struct line *line, size_t k, uint8_t *o)
+{
+    size_t place = 2;
+
+    o[0] = line[0].type;
+    o[1] = (uint8_t)octets_of(line, k);
+    for (size_t i = 1; i + 1 < k; i++) {
+        o[place] = line[i].type;
+        o[place + 1] = (uint8_t)line[i].n;
+        memcpy(o + place + 2, line[i].contents, line[i].n);
+        place += 2 + line[i].n;
+    }
+    o[place] = (uint8_t)(256u - sum_of(o, place));
+    return place + 1;
+}
+
+struct second_made second_message_of(const char *text, size_t n, uint8_t *out,
+                                     size_t room)
+{
+    struct second_made made = {0, 0, 0, named(SECOND_PRESENT)};
+    struct line line[LINES];
+    uint8_t o[258];
+    size_t count = read_lines((const uint8_t *)text, n, line), k = 0;
+    int whole;
+
+    while (k < count && begin_listing(line, k + 1))
+        k++;
+    whole = k > 0 && line[k - 1].sort == LAST_LINE
+        && (line[k - 1].end == n || SECOND_WRONG == 27);
+    if (octets_of(line, k) > 255 && (whole || SECOND_WRONG == 29)) {
+        made.number = 62;
+    } else if (!whole) {
+        made.number = 61;
+        made.place = SECOND_WRONG == 26 ? k : k + 1;
+    } else if (room < octets_of(line, k) + 3) {
+        made.number = 15;
+        made.place = octets_of(line, k) + 3;
+    }
+    if (made.number == 0 || (made.number == 15 && SECOND_WRONG == 31)) {
+        size_t size = make_message(line, k, o);
+        memcpy(out, o, size < room ? size : room);
+        if (SECOND_WRONG == 28 && size < room)
+            out[size] = 0;
+        made.size = made.number == 0 ? size : 0;
+    }
+    return made;
 }

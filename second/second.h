@@ -1,7 +1,8 @@
 /*
  * The second reader: an independent reading of 01 to compare the built
- * listener, reader, desk, caption finder and showmsg against. It starts from
- * whole messages ("The message") and derives every other answer from them.
+ * listener, reader, desk, caption finder and showmsg against, and the way back
+ * from listings to messages (02, Q-1). It starts from whole messages ("The
+ * message") and derives every other answer from them.
  * Every question names the edition and the way: the present edition's types
  * are 01's table and the rest of source 004's (02, Q-4), the old one's are
  * source 001's (02, Q-5); types without a row in the edition's own table are
@@ -164,5 +165,27 @@ struct second_part {
 struct second_part second_caption(uint8_t edition, uint8_t way,
                                   const uint8_t *o, size_t n,
                                   const uint8_t *directory, size_t octets);
+
+/* ---- Listings come back as messages (02, Q-1) ---- */
+
+/* Fields without a meaning for the answer are 0. */
+struct second_made {
+    unsigned number; /* 0, or 61, 62 or 15 */
+    size_t place;    /* of 61 the line, from 1; of 15 the octets needed */
+    size_t size;     /* of the message */
+    uint8_t edition; /* that the answer names: the present one, as listings */
+};
+
+/*
+ * The message that has one parameter for each value line of the listing
+ * text[0..n), laid down in out[0..room). A listing is what showmsg prints of a
+ * message with nothing carried, but that its parameters may pass 255 octets.
+ * 61 is at the first line that no listing has behind the lines before it, be it
+ * one that is not ended, or not there; then 62, the parameters pass 255 octets,
+ * at 0; then 15. With a refusal out stays as it was; with a message the octets
+ * behind it do.
+ */
+struct second_made second_message_of(const char *text, size_t n, uint8_t *out,
+                                     size_t room);
 
 #endif

@@ -1,2 +1,3 @@
--- The root of the proofs: that every public promise settles its answer.
+-- The root of the proofs: when contents fit, and that every public promise settles its answer.
+pub mod Fitting
 pub mod Settled

@@ -1,6 +1,6 @@
 // The octets of contents (document 01, The message; document 02, Q-2, Q-4 and Q-7): whether one may stand where it
-// stands and what is remembered of it, octet by octet; and how many may stand of contents as a whole. Every public
-// function is total.
+// stands and what is remembered of it, octet by octet; how many may stand of contents as a whole, and whether these
+// fit their class. Every public function is total.
 pub mod kinds;
 
 use rules::CHARGE;
@@ -17,7 +17,7 @@ ghost use Prim.Native.Nat.{_+_, _*_, _-_, _≤_};
 ghost use lib.ListN as list;
 ghost use Rattle.rules.specs.Tests.{_≤?_, _=?_, _and_, _or_, pick};
 ghost use Rattle.rules.specs.Contents.{within, inSet, days, monthOf};
-ghost use Rattle.rules.specs.Table.{oldUserSet, timeRanges, secondRange, durationRanges, absentSet, lampSet, identitySet, callTypeSet, forwardedSet, userSet, displaySet, serviceSet};
+ghost use Rattle.rules.specs.Table.{contentsFit, oldUserSet, timeRanges, secondRange, durationRanges, absentSet, lampSet, identitySet, callTypeSet, forwardedSet, userSet, displaySet, serviceSet};
 ghost use Rattle.rules.specs.Charge.{comma, missing, units, amountBy, amountKeep, currencyBy, flagsAt, flagsKeep, chargeBy, chargeKeep};
 ghost use Rattle.rules.specs.Terminal.{terminalBy, terminalKeep};
 ghost use Rattle.rules.specs.Extension.{blank, extensionBy, extensionKeep};
@@ -865,5 +865,21 @@ pub fn first_wrong(c: Class, v: &[u8]) -> usize
         n
     } else {
         0
+    }
+}
+
+// Do contents fit their class (document 01, The message)?
+pub fn fits(c: Class, v: &[u8]) -> bool
+    ensures { λ r. ⌜ r ≡ contentsFit c (now (v .entry)) ⌝ }
+{
+    if rules::LONGEST < v.len() {
+        return false;
+    }
+    let n = v.len() as u8;
+    // in a room that the parameter fills
+    if rules::length_fits(c, n + 2, n) {
+        first_wrong(c, v) == v.len()
+    } else {
+        false
     }
 }

@@ -1,20 +1,23 @@
 -- The constants of the code are document 01's rows: the types in their order, and the keys where they stand. antt
 -- computes one test over all rows.
 -- Assumes nothing.
-use Prim.Native.Nat.{ℕ, _+_, _≤_, _<_}
-use mathlib.Core.Path.{_≡_}
+use Prim.Native.Nat.{ℕ, _+_, _-_, _≤_, _<_}
+use mathlib.Core.Path.{_≡_, refl, ap}
 use mathlib.Core.Bool.{Bool}
 use mathlib.Core.List.{List, [], _∷_, _++_}
-use lib.ListN.{getD}
+use native.Mathlib.Omega.{arith}
+use lib.ListN.{length, length-append, length-drop, getD, drop, List·getD-eq-default}
+use lib.Seq.{length-take-le}
 use lib.Dec.{T}
 use Rattle.rules.specs.Tests.{_≤?_, _=?_, _and_}
 use Rattle.rules.proofs.Tests.{both, le-of, eq-of}
 use Rattle.rules.specs.Table.{rulesOf, ascii}
+use Rattle.rules.specs.declared.Book.the-variants.{PresentLenient}
 use Rattle.rules.specs.Pairwise.{pairwise, sameOctets}
 use Rattle.rules.proofs.Pairwise.{octets-are}
 use Rattle.listing.proofs.Tabled.{below, below-at}
 use Rattle.listing.specs.Put.{part}
-use Rattle.listing.specs.Listing.{rowAt, rowCount}
+use Rattle.listing.specs.Listing.{noRow, rowAt, rowCount, row-count}
 
 unfoldable pub kinds : List ℕ
 kinds =
@@ -53,3 +56,29 @@ key-at i h =
     let e = both _ _ (d .0) in
     let f = both _ _ (e .0) in
     record { kind = eq-of _ _ (f .0); order = le-of _ _ (f .1); ends = le-of _ _ (e .1); key = octets-are _ _ (d .1) }
+
+-- ---- how long a key is
+keys-long : length keys ≡ 255
+unfolding keys ascii
+keys-long = refl
+
+-- the next begins behind it and its `=`
+pub key-spans : (i : ℕ) → i < rowCount → getD starts (i + 1) 0 ≡ getD starts i 0 + (length (rowAt i .key) + 1)
+unfolding ascii
+key-spans i h =
+    let k = key-at i h in
+    let s = getD starts i 0 in
+    let e = getD starts (i + 1) 0 in
+    omega (
+      arith,
+      k .order,
+      k .ends,
+      ap length (k .key),
+      length-append (rowAt i .key) (ascii "="),
+      length-take-le (e - s) (drop s keys) (omega (arith, k .ends, keys-long, length-drop s keys)),
+    )
+
+-- ---- behind the last row
+pub no-row : (i : ℕ) → rowCount ≤ i → rowAt i ≡ noRow
+unfolding rowAt
+no-row i h = List·getD-eq-default ((rulesOf PresentLenient) .rows) noRow (omega (arith, row-count))

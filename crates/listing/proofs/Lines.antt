@@ -25,16 +25,16 @@ use Rattle.listing.specs.Listing.{Line, lineOf, linesFor, rowLines, kind
 
 -- ---- one of some
 module _ {A : Type 0} where
-  has-left : (a b : List A) (x : A) → Has a x → Has (a ++ b) x
+  pub has-left : (a b : List A) (x : A) → Has a x → Has (a ++ b) x
   has-left [] b x h = absurd h
   has-left (y ∷ a) b x (inl e) = inl e
   has-left (y ∷ a) b x (inr h) = inr (has-left a b x h)
 
-  has-right : (a b : List A) (x : A) → Has b x → Has (a ++ b) x
+  pub has-right : (a b : List A) (x : A) → Has b x → Has (a ++ b) x
   has-right [] b x h = h
   has-right (y ∷ a) b x h = inr (has-right a b x h)
 
-  has-split : (a b : List A) (x : A) → Has (a ++ b) x → Has a x ⊎ Has b x
+  pub has-split : (a b : List A) (x : A) → Has (a ++ b) x → Has a x ⊎ Has b x
   has-split [] b x h = inr h
   has-split (y ∷ a) b x (inl e) = inl (inl e)
   has-split (y ∷ a) b x (inr h) = go (has-split a b x h)

@@ -2,7 +2,8 @@
 -- line end; the value is longer than the contents by the surplus of its style at most (Values), and `=` and the line
 -- end are as many octets as type and length took in the message. No parameter counts for two rows, and all parameters
 -- have 255 octets: so the lines of the rows have 255 at most, and their keys (228) and surpluses (47). `kind=notice`
--- has 12 and `carried=` with two digits 11.
+-- has 12 and `carried=` with two digits 11. One line of a row has a key of 254 at most, contents of 253 and a surplus
+-- of 11.
 -- Assumes nothing.
 use Prim.Native.Nat.{ℕ, suc, _+_, _-_, _≤_, _<_}
 use mathlib.Core.Path.{_≡_, refl, sym, _∙_, ap}
@@ -23,14 +24,16 @@ use Rattle.rules.specs.Counting.{firstOf, counted, carriedIn}
 use Rattle.rules.proofs.Counting.{counted-iff, legal-counts}
 use Rattle.rules.specs.declared.Fault.{Fault}
 use Rattle.rules.proofs.Sizes.{few}
+use Rattle.contents.proofs.Fitting.{fits-short}
 use Rattle.listing.specs.declared.ListingText.{ListingText}
 use Rattle.listing.specs.Numerals.{decimal}
-use Rattle.listing.proofs.Numerals.{two-digits, three-digits}
-use Rattle.listing.proofs.Values.{surplus, value}
-use Rattle.listing.specs.Listing.{Line, lineText, written, lineOf, linesFor, rowLines, kindLine, carriedLine, messageLines, refusalLines, bufferOf, written-one, written-append, bufferSize}
+use Rattle.listing.proofs.Numerals.{one-digit, two-digits, three-digits}
+use Rattle.listing.proofs.Values.{surplus, surplus-most, value}
+use Rattle.listing.proofs.Keys.{key-at, key-spans}
+use Rattle.listing.specs.Listing.{Line, lineText, written, lineOf, linesFor, rowLines, kindLine, carriedLine, messageLines, refusalLines, bufferOf, rowAt, rowCount, written-one, written-append, bufferSize}
 
 -- ---- lines
-line-long : (l : Line) → length (lineText l) ≡ length (l .key) + length (l .value) + 2
+pub line-long : (l : Line) → length (lineText l) ≡ length (l .key) + length (l .value) + 2
 unfolding lineText ascii
 line-long l =
     omega (
@@ -238,6 +241,31 @@ refusal-short f a b c =
       three-digits (f .place) b,
       three-digits (f .parameter) c,
     )
+
+-- nor one line of a row with contents that fit
+pub row-short : (i : ℕ) → i < rowCount → (v : List ℕ) → T (contentsFit (classOf R (rowAt i .kind)) v) →
+    length (lineText (lineOf R (rowAt i) v)) ≤ bufferSize
+unfolding lineOf
+row-short i h v f =
+    let c = classOf R (rowAt i .kind) in
+    omega (
+      arith,
+      line-long (lineOf R (rowAt i) v),
+      key-spans i h,
+      key-at i h .ends,
+      value c .wide v f,
+      surplus-most (styleOf c),
+      fits-short c v f,
+    )
+
+-- the line of a kind, and that of no carried parameter
+pub kind-short : (x : ℕ) → length (lineText (kindLine x)) ≤ 12
+unfolding kindLine ascii
+kind-short x = omega (arith, line-long (kindLine x), kind-wide x)
+
+pub end-short : length (lineText (carriedLine 0)) ≤ 12
+unfolding carriedLine ascii
+end-short = omega (arith, line-long (carriedLine 0), one-digit 0 (omega arith))
 
 -- so a listing lies within its buffer
 pub text-inside : (t : ListingText) (v : List ℕ) → t ≡ bufferOf v → t .length ≤ length (t .octets)

@@ -9,7 +9,7 @@ use lib.ListN.{length, length-append, getD}
 use lib.Dec.{T}
 use Rattle.rules.specs.Tests.{_≤?_, pick}
 use Rattle.rules.proofs.Tests.{pick-yes, pick-not, le-of, of-le, not-le, decide}
-use Rattle.listing.specs.Numerals.{digitsBy, decimal, hexDigit, hex}
+use Rattle.listing.specs.Numerals.{digitsBy, decimal, hexDigit, hex, numberFrom, hexValue}
 
 -- ---- the laws of decimal, free of the depth
 digits-enough : (f g n : ℕ) → n < f → n < g → digitsBy f n ≡ digitsBy g n
@@ -53,11 +53,7 @@ by-digits P one more n = go (suc n) n (omega arith)
         at (inl t) r = one k (let z = le-of k 9 t in omega arith)
         at (inr t) r = let z = not-le k 9 t in more k (omega arith) (r (omega arith))
 
--- ---- the number that digits say, after others that say a
-unfoldable pub numberFrom : ℕ → List ℕ → ℕ
-numberFrom a [] = a
-numberFrom a (x ∷ l) = numberFrom (10 * a + (x - 48)) l
-
+-- ---- the number that digits say
 number-snoc : (a : ℕ) (l : List ℕ) (x : ℕ) → numberFrom a (l ++ x ∷ []) ≡ 10 * numberFrom a l + (x - 48)
 unfolding numberFrom
 number-snoc a [] x = refl
@@ -125,11 +121,7 @@ five-digits n h = few-digits 5 n (omega arith) (λ l. omega (arith, four (n / 10
     four n h = few-digits 4 n (omega arith) (λ l. omega (arith, three-digits (n / 10) (omega arith)))
 
 -- ---- hex
--- what a hex digit says
-unfoldable pub hexValue : ℕ → ℕ
-hexValue c = pick (c ≤? 57) (c - 48) (c - 55)
-
-hex-digit-says : (k : ℕ) → k < 16 → hexValue (hexDigit k) ≡ k
+pub hex-digit-says : (k : ℕ) → k < 16 → hexValue (hexDigit k) ≡ k
 unfolding hexDigit hexValue
 hex-digit-says k l = go (decide (k ≤? 9))
   where

@@ -2,18 +2,20 @@
 -- Assumes nothing.
 use Prim.Native.Nat.{ℕ, _+_, _-_, _≤_}
 use mathlib.Core.Path.{_≡_, refl, sym, _∙_, ap}
+use mathlib.Core.Bool.{Bool}
 use mathlib.Core.List.{List, [], _∷_, _++_, append-nil}
 use native.Mathlib.Numerals.{add-one}
 use native.Mathlib.Omega.{arith}
-use lib.ListN.{length, getD, take, drop, set, length-drop, drop-of-length-le}
+use lib.ListN.{length, getD, take, drop, set, replicate, length-drop, length-replicate, drop-of-length-le}
 use lib.Seq.{set-split, take-all}
 use borrow.Rule.Slice.PartMut.{putMid}
 use Rattle.rules.specs.Tests.{_=?_, pick}
 use Rattle.rules.proofs.Tests.{pick-yes, pick-not, of-eq, eq-of}
+use Rattle.rules.specs.Pairwise.{sameOctets}
 use Rattle.rules.specs.Table.{ascii}
 use Rattle.rules.specs.Laying.{laidAt}
 use Rattle.rules.proofs.Laying.{laid-front, laid-behind, laid-length, rest-copied}
-use Rattle.listing.specs.Put.{Room, Put}
+use Rattle.listing.specs.Put.{Room, Put, put-only}
 use Rattle.listing.specs.Numerals.{hex}
 use Rattle.listing.specs.Listing.{seconds, lampWord, stateWord, currency, selectorWord, selected, clock, moment, kindLine, lineText}
 
@@ -45,6 +47,22 @@ stored x at old h =
 pub room-same : (v w : List ℕ) (at : ℕ) (old : List ℕ) → v ≡ w → Room w at old → Room v at old
 unfolding Room
 room-same v w at old e h = omega (arith, ap length e)
+
+-- ---- a text alone in a buffer of zeros, and compared with another
+module _ (v : List ℕ) (k : ℕ) (h : length v ≤ k) where
+  pub alone-room : Room v 0 (replicate k 0)
+  unfolding Room
+  alone-room = omega (arith, length-replicate {A = ℕ} k 0)
+
+  module _ (end : ℕ) (new : List ℕ) (p : Put v 0 (replicate k 0) end new) where
+    pub alone-ends : end ≤ length new
+    alone-ends = omega (arith, p .ends, p .long, length-replicate {A = ℕ} k 0)
+
+    pub alone-long : end ≡ length (take end new)
+    alone-long = omega (arith, p .ends, ap length (put-only v (replicate k 0) end new p))
+
+    pub alone-same : (w : List ℕ) (r : Bool) → r ≡ sameOctets (take end new) w → r ≡ sameOctets v w
+    alone-same w r e = e ∙ ap (λ (x : List ℕ). sameOctets x w) (put-only v (replicate k 0) end new p)
 
 -- ---- words
 pub is-off : (x : ℕ) → x ≡ 0 → ascii "off" ≡ lampWord x

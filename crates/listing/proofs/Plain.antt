@@ -76,13 +76,13 @@ unfolding plain every ascii rulesOf _≤?_ _and_
 words = record { carried = tt; keys = tt }
 
 -- ---- lines of ours
-plain-kind : (x : ℕ) → T (plain (bare (kindLine x)))
+pub plain-kind : (x : ℕ) → T (plain (bare (kindLine x)))
 unfolding bare kindLine plain every ascii _≤?_ _and_
 plain-kind x =
     pick-case (λ (v : List ℕ). T (plain (ascii "kind" ++ ascii "=" ++ v))) (x =? 0x80) (ascii "call")
     (ascii "notice") (λ _. tt) (λ _. tt)
 
-plain-carried : (n : ℕ) → T (plain (bare (carriedLine n)))
+pub plain-carried : (n : ℕ) → T (plain (bare (carriedLine n)))
 unfolding bare carriedLine
 plain-carried n = plain-append (ascii "carried" ++ ascii "=") (decimal n) (words .carried) (plain-decimal n)
 

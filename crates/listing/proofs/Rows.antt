@@ -1,5 +1,5 @@
--- What the functions over rows owe their callers: the line of a row, the lines of the rows so far, and how many
--- parameters are carried.
+-- What the functions over rows owe their callers: the line of a row, one compared with it, the lines of the rows so
+-- far, and how many parameters are carried.
 -- Assumes nothing.
 use Prim.Native.Nat.{ℕ, suc, _+_, _-_, _≤_, _<_}
 use mathlib.Core.Path.{_≡_, refl, sym, _∙_, ap, ap₂}
@@ -9,9 +9,13 @@ use native.Mathlib.Numerals.{add-one}
 use native.Mathlib.Omega.{arith}
 use lib.ListN.{length, length-append, getD, take, drop, take-append-drop}
 use lib.Seq.{take-suc}
+use lib.Dec.{T}
 use Rattle.rules.specs.Message.{most}
-use Rattle.rules.specs.Tests.{pick}
-use Rattle.rules.specs.Table.{Row, rulesOf, listed, ascii}
+use Rattle.rules.specs.Tests.{_≤?_, _and_, pick}
+use Rattle.rules.proofs.Returns.{and-t, and-f, yes-le, no-le, T-of}
+use Rattle.rules.specs.Pairwise.{sameOctets}
+use Rattle.rules.specs.Table.{Row, rulesOf, listed, classOf, contentsFit, ascii}
+use Rattle.rules.specs.declared.Class.{Class}
 use Rattle.rules.specs.declared.Book.the-variants.{PresentLenient}
 use Rattle.rules.specs.Counting.{carriedIn}
 use Rattle.rules.specs.declared.Fault.{Fault}
@@ -22,9 +26,8 @@ use Rattle.message.specs.Parts.{parameterAt, countedAt, partOf}
 use Rattle.message.proofs.Places.{counted-inside}
 use Rattle.message.specs.Parameters.{parametersFrom, parametersIn}
 use Rattle.message.proofs.Parameters.{no-more, none-here, one-here}
-use Rattle.listing.specs.Numerals.{decimal}
 use Rattle.listing.specs.Put.{Room, Put, put-then, put-same, put-none}
-use Rattle.listing.specs.Listing.{lineText, written, written-one, written-append, lineOf, linesFor, partLines, rowsAt, rowAt, kindLine, carriedLine, linesAt, numberLine, refusalLines, rowCount, row-count}
+use Rattle.listing.specs.Listing.{lineText, written, written-one, written-append, lineOf, saysLine, linesFor, partLines, rowsAt, rowAt, kindLine, carriedLine, linesAt, numberLine, refusalLines, rowCount, row-count}
 use Rattle.listing.proofs.Keys.{kinds, key-at}
 
 -- ---- where contents stand, they lie inside
@@ -54,6 +57,36 @@ module _ (o : List ℕ) (i : ℕ) (h : i < rowCount) (p : Part)
   pub row-none : p ≡ Nowhere → [] ≡ written (partLines (rulesOf PresentLenient) o (rowAt i))
   unfolding linesFor partOf written
   row-none q = ap written (sym (stands ∙ ap (λ (x : Part). linesFor (rulesOf PresentLenient) (rowAt i) (partOf o x)) q))
+
+-- ---- a line compared with that of a row
+module _ (i : ℕ) (v l : List ℕ) where
+  abbrev said : Bool
+  said = suc i ≤? rowCount and saysLine (rulesOf PresentLenient) (rowAt i) v l
+
+  pub no-row-says : rowCount ≤ i → false ≡ said
+  no-row-says h = and-f _ _ _ (no-le (suc i) rowCount (omega arith)) refl
+
+  module _ (h : i < rowCount) (c : Class) (e : c ≡ classOf (rulesOf PresentLenient) (getD kinds i 0)) (b : Bool)
+      (q : b ≡ contentsFit c v) where
+    row-fits : b ≡ contentsFit (classOf (rulesOf PresentLenient) (rowAt i .kind)) v
+    row-fits =
+        q ∙ ap (λ (k : Class). contentsFit k v) (e ∙ ap (classOf (rulesOf PresentLenient)) (key-at i h .kind))
+
+    in-rows : (r : Bool) → r ≡ saysLine (rulesOf PresentLenient) (rowAt i) v l → r ≡ said
+    in-rows r z = and-t r _ _ (yes-le (suc i) rowCount (omega arith)) z
+
+    pub row-says-not : b ≡ false → false ≡ said
+    unfolding saysLine
+    row-says-not z = in-rows false (and-f _ _ _ (sym row-fits ∙ z) refl)
+
+    module _ (z : b ≡ true) where
+      pub row-takes : T (contentsFit (classOf (rulesOf PresentLenient) (rowAt i .kind)) v)
+      row-takes = T-of _ (sym row-fits ∙ z)
+
+      pub row-says : (r : Bool) → r ≡ sameOctets (lineText (lineOf (rulesOf PresentLenient) (rowAt i) v)) l →
+          r ≡ said
+      unfolding saysLine
+      row-says r d = in-rows r (and-t r _ _ (sym row-fits ∙ z) d)
 
 -- ---- line after line
 abbrev rows : List Row
@@ -163,22 +196,21 @@ module _ (o : List ℕ) where
     counted-end h = let p = ap (carriedIn (rulesOf PresentLenient)) (no-more turns o at h) in omega (arith, i .0)
 
 -- ---- the whole text
-pub carried-line : (n : ℕ) → numberLine (ascii "carried=") n ≡ written (carriedLine n ∷ [])
-unfolding numberLine written carriedLine lineText ascii
-carried-line n = sym (append-nil (ascii "carried=" ++ decimal n ++ ascii "\n"))
+pub carried-line : (n : ℕ) → numberLine (ascii "carried=") n ≡ lineText (carriedLine n)
+unfolding numberLine carriedLine lineText ascii
+carried-line n = refl
 
 pub message-text : (o : List ℕ) (x n : ℕ) → x ≡ getD o 0 0 →
     n ≡ carriedIn (rulesOf PresentLenient) (parametersIn o) →
-    lineText (kindLine x) ++ written (rowsAt (rulesOf PresentLenient) o rows) ++ numberLine (ascii "carried=") n ≡
+    lineText (kindLine x) ++ written (rowsAt (rulesOf PresentLenient) o rows) ++ lineText (carriedLine n) ≡
     written (linesAt (rulesOf PresentLenient) o)
 unfolding linesAt written
 message-text o x n e d =
-    append-assoc (lineText (kindLine x)) (written (rowsAt (rulesOf PresentLenient) o rows))
-    (numberLine (ascii "carried=") n)
+    append-assoc (lineText (kindLine x)) (written (rowsAt (rulesOf PresentLenient) o rows)) (lineText (carriedLine n))
     ∙ ap₂ (λ (k : ℕ) (v : List ℕ). lineText (kindLine k) ++ v) e
     (ap (λ (v : List ℕ). written (rowsAt (rulesOf PresentLenient) o rows) ++ v)
-    (ap (λ (k : ℕ). numberLine (ascii "carried=") k) d
-    ∙ carried-line (carriedIn (rulesOf PresentLenient) (parametersIn o)))
+    (ap (λ (k : ℕ). lineText (carriedLine k)) d
+    ∙ sym (written-one (carriedLine (carriedIn (rulesOf PresentLenient) (parametersIn o)))))
     ∙ sym (written-append (rowsAt (rulesOf PresentLenient) o rows)
     (carriedLine (carriedIn (rulesOf PresentLenient) (parametersIn o)) ∷ [])))
 

@@ -42,6 +42,21 @@ surplus chargeStyle = 3
 surplus terminalStyle = 11
 surplus displayStyle = 2
 
+pub surplus-most : (s : Style) → surplus s ≤ 11
+unfolding surplus
+surplus-most clockStyle = omega arith
+surplus-most verbatim = omega arith
+surplus-most switch = omega arith
+surplus-most referenceStyle = omega arith
+surplus-most decimalStyle = omega arith
+surplus-most hexStyle = omega arith
+surplus-most numbered = omega arith
+surplus-most momentStyle = omega arith
+surplus-most durationStyle = omega arith
+surplus-most chargeStyle = omega arith
+surplus-most terminalStyle = omega arith
+surplus-most displayStyle = omega arith
+
 -- legal contents have at least as many octets as each of the lengths of their class
 long : (a : ℕ) (c : Class) (v : List ℕ) → T (from a (whole c .lengths)) → T (contentsFit c v) → a ≤ length v
 long a c v p t = set-from a (whole c .lengths) (length v) p (lawful c .fit-length v t)

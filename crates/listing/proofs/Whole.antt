@@ -28,6 +28,7 @@ use Rattle.message.specs.Parameters.{parametersIn, messageIn}
 use Rattle.message.proofs.Parameters.{message-in}
 use Rattle.listing.specs.Put.{Room, Put, put-first}
 use Rattle.listing.specs.Listing.{Line, written, kindLine, carriedLine, linesFor, rowLines, messageLines, partLines, rowsAt, linesAt, verdictLines, refusalLines, listingOf, bufferOf, bufferSize}
+use Rattle.listing.proofs.Pieces.{alone-room}
 use Rattle.listing.proofs.Longest.{longest, refusal-short}
 
 -- ---- the rows from the octets, and from the message
@@ -110,8 +111,7 @@ zeros n k z h =
 
 module _ (o v : List ℕ) (l : Fitting o v) where
   pub listing-room : Room v 0 (replicate bufferSize 0)
-  unfolding Room
-  listing-room = omega (arith, l .short, length-replicate {A = ℕ} bufferSize 0)
+  listing-room = alone-room v bufferSize (l .short)
 
   pub listing-text : (end : ℕ) (new : List ℕ) → Put v 0 (replicate bufferSize 0) end new →
       (record { octets = new; length = end }) ≡ bufferOf (listingOf (rulesOf PresentLenient) o)

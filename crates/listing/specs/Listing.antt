@@ -2,11 +2,13 @@
 -- Assumes nothing.
 use Prim.Native.Nat.{ℕ, _+_, _-_}
 use mathlib.Core.Path.{_≡_, refl, sym, _∙_, ap}
+use mathlib.Core.Bool.{Bool}
 use mathlib.Core.List.{List, [], _∷_, _++_, append-assoc, append-nil}
 use mathlib.Core.Option.{Option, none, some}
 use lib.ListN.{length, getD, drop, replicate}
-use Rattle.rules.specs.Tests.{_=?_, pick}
-use Rattle.rules.specs.Table.{Rules, Row, Style, clock as clockStyle, verbatim, switch, reference as referenceStyle, decimal as decimalStyle, hex as hexStyle, numbered, moment as momentStyle, duration as durationStyle, charge as chargeStyle, terminal as terminalStyle, display as displayStyle, styleOf, classOf, ascii, rulesOf}
+use Rattle.rules.specs.Tests.{_=?_, _and_, pick}
+use Rattle.rules.specs.Pairwise.{sameOctets}
+use Rattle.rules.specs.Table.{Rules, Row, Style, clock as clockStyle, verbatim, switch, reference as referenceStyle, decimal as decimalStyle, hex as hexStyle, numbered, moment as momentStyle, duration as durationStyle, charge as chargeStyle, terminal as terminalStyle, display as displayStyle, styleOf, classOf, contentsFit, ascii, rulesOf}
 use Rattle.rules.specs.declared.Book.the-variants.{PresentLenient}
 use Rattle.rules.specs.Message.{Message}
 use Rattle.rules.specs.Counting.{counted, carriedIn}
@@ -123,6 +125,10 @@ written (l ∷ ls) = lineText l ++ written ls
 -- the line of a row with contents
 unfoldable pub lineOf : Rules → Row → List ℕ → Line
 lineOf R r v = record { key = r .key; value = printed (styleOf (classOf R (r .kind))) v }
+
+-- the line of a row with contents that fit its class is this one
+unfoldable pub saysLine : Rules → Row → List ℕ → List ℕ → Bool
+saysLine R r v l = contentsFit (classOf R (r .kind)) v and sameOctets (lineText (lineOf R r v)) l
 
 -- of contents that count one line, and none where nothing counts
 unfoldable pub linesFor : Rules → Row → Option (List ℕ) → List Line

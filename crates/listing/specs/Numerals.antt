@@ -1,6 +1,7 @@
--- Printed numbers (document 01, What showmsg prints): decimal without leading zeros, and two capital hex digits.
+-- Printed numbers (document 01, What showmsg prints): decimal without leading zeros, and two capital hex digits; and
+-- what digits say.
 -- Assumes nothing.
-use Prim.Native.Nat.{ℕ, zero, suc, _+_, _/_, _%_}
+use Prim.Native.Nat.{ℕ, zero, suc, _+_, _*_, _-_, _/_, _%_}
 use mathlib.Core.List.{List, [], _∷_, _++_}
 use Rattle.rules.specs.Tests.{_≤?_, pick}
 
@@ -20,3 +21,12 @@ hexDigit k = pick (k ≤? 9) (48 + k) (55 + k)
 -- an octet in two hex digits
 unfoldable pub hex : ℕ → List ℕ
 hex n = hexDigit (n / 16) ∷ hexDigit (n % 16) ∷ []
+
+-- the number that digits say, after others that say a
+unfoldable pub numberFrom : ℕ → List ℕ → ℕ
+numberFrom a [] = a
+numberFrom a (x ∷ l) = numberFrom (10 * a + (x - 48)) l
+
+-- what a hex digit says
+unfoldable pub hexValue : ℕ → ℕ
+hexValue c = pick (c ≤? 57) (c - 48) (c - 55)

@@ -61,6 +61,10 @@ put-first v old end new p =
     let z : end ≡ length v = omega (arith, p .ends) in
     sym (take-append-drop end new) ∙ ap₂ _++_ (p .front) (p .behind ∙ ap (λ (n : ℕ). drop n old) z)
 
+-- and nothing else stands before its end
+pub put-only : (v old : List ℕ) (end : ℕ) (new : List ℕ) → Put v 0 old end new → take end new ≡ v
+put-only v old end new p = p .front
+
 -- ---- room for parts
 pub room-left : (v w : List ℕ) (at : ℕ) (old : List ℕ) → Room (v ++ w) at old → Room v at old
 unfolding Room

@@ -1,6 +1,6 @@
 // The listing of a message (document 01, What showmsg prints): a key=value line for each value that counts, in the
 // order of the table; or the three lines of a refusal. It comes back by value, in a buffer of the longest listing, so
-// that it needs no refusal of its own.
+// that it needs no refusal of its own. And whether one line is that of a row with contents.
 use message::Found;
 use message::Part;
 use message::Verdict;
@@ -9,19 +9,24 @@ use rules::Class;
 use rules::Fault;
 ghost use mathlib.Core.Path.{_≡_};
 ghost use mathlib.Core.List.{[], _∷_, _++_};
-ghost use Prim.Native.Nat.{_<_, _≤_};
+ghost use Prim.Native.Nat.{suc, _<_, _≤_};
 ghost use lib.ListN.{length, drop};
-ghost use Rattle.rules.specs.Tests.{pick};
-ghost use Rattle.rules.specs.Table.{rulesOf, listed, styleOf, ascii};
+ghost use lib.Dec.{T};
+ghost use Rattle.rules.specs.Tests.{_≤?_, _and_, pick};
+ghost use Rattle.rules.specs.Pairwise.{sameOctets};
+ghost use Rattle.rules.specs.Table.{rulesOf, listed, classOf, contentsFit, styleOf, ascii};
 ghost use Rattle.rules.specs.declared.Book.the-variants as book;
 ghost use Rattle.rules.specs.Counting.{carriedIn};
 ghost use Rattle.message.specs.Parameters.{parametersIn};
 ghost use Rattle.listing.specs.Numerals.{hexDigit, hex, decimal};
 ghost use Rattle.listing.specs.Put.{Room, Put, part};
-ghost use Rattle.listing.specs.Listing.{half, seconds, coded, clock, lampWord, stateWord, reference, identity, moment, duration, charge, selectorWord, selected, terminal, printed, kindLine, numberLine, lineText, lineOf, rowAt, rowCount, partLines, rowsAt, linesAt, written, refusalLines, listingOf, bufferOf};
+ghost use Rattle.listing.specs.Listing.{half, seconds, coded, clock, lampWord, stateWord, reference, identity, moment, duration, charge, selectorWord, selected, terminal, printed, kindLine, carriedLine, numberLine, lineText, lineOf, saysLine, rowAt, rowCount, partLines, rowsAt, linesAt, written, refusalLines, listingOf, bufferOf};
 
 // No listing is longer.
 const LONGEST: usize = 553;
+
+// No line of a kind is longer, nor that of no carried parameter.
+const SHORT: usize = 12;
 
 // A listing: its first `length` octets; those behind them are 0.
 pub struct ListingText {
@@ -31,7 +36,7 @@ pub struct ListingText {
 
 // The rows of the listing: their types in its order, and where the key of each begins in the row of keys; behind the
 // last, where they end: 255, the most that an octet holds.
-const ROWS: usize = 27;
+pub const ROWS: usize = 27;
 
 const TYPES: [u8; ROWS] = [
     0x01,
@@ -376,6 +381,16 @@ fn put_line(i: usize, contents: &[u8], out: &mut [u8], at: usize) -> usize
     put_octet(b'\n', out, value)
 }
 
+// Is this the line of a row with contents that fit its class?
+fn is_line(i: usize, contents: &[u8], line: &[u8]) -> bool
+    requires { ⌜ (i < rowCount) × T (contentsFit (classOf (rulesOf book.PresentLenient) (rowAt i .kind)) (now contents)) ⌝ }
+    ensures { λ r. ⌜ r ≡ sameOctets (lineText (lineOf (rulesOf book.PresentLenient) (rowAt i) (now (contents .entry)))) (now (line .entry)) ⌝ }
+{
+    let mut text = [0u8; LONGEST];
+    let end = put_line(i, contents, &mut text, 0);
+    rules::same_octets(&text[..end], line)
+}
+
 // The line of a row, if its type counts.
 fn put_row(octets: &[u8], i: usize, out: &mut [u8], at: usize) -> usize
     requires { ⌜ (i < rowCount) × Room (written (partLines (rulesOf book.PresentLenient) (now octets) (rowAt i))) at (now out) ⌝ }
@@ -412,6 +427,14 @@ fn put_number(key: &[u8], n: u16, out: &mut [u8], at: usize) -> usize
     let number = put(key, out, at);
     let end = put_decimal(n, out, number);
     put_octet(b'\n', out, end)
+}
+
+// The line of how many parameters are carried.
+fn put_carried(n: u16, out: &mut [u8], at: usize) -> usize
+    requires { ⌜ Room (lineText (carriedLine n)) at (now out) ⌝ }
+    ensures { λ r. ⌜ Put (lineText (carriedLine n)) at (now (out .entry)) r (now (out .exit)) ⌝ }
+{
+    put_number(b"carried=", n, out, at)
 }
 
 fn put_kind(x: u8, out: &mut [u8], at: usize) -> usize
@@ -470,7 +493,7 @@ fn put_message(octets: &[u8], out: &mut [u8]) -> usize
 {
     let kind = put_kind(message::octet(octets, 0), out, 0);
     let rows = put_rows(octets, out, kind);
-    put_number(b"carried=", carried(octets), out, rows)
+    put_carried(carried(octets), out, rows)
 }
 
 fn put_refusal(fault: Fault, out: &mut [u8]) -> usize
@@ -504,4 +527,59 @@ pub fn listing(octets: &[u8]) -> ListingText
             }
         }
     }
+}
+
+// The parameter type of a row; 0 behind the last.
+pub fn kind_at(i: usize) -> u8
+    ensures { λ r. ⌜ r ≡ rowAt i .kind ⌝ }
+{
+    if i < ROWS { TYPES[i] } else { 0 }
+}
+
+// How many octets the key of a row has; 0 behind the last.
+pub fn key_length(i: usize) -> usize
+    ensures { λ r. ⌜ r ≡ length (rowAt i .key) ⌝ }
+{
+    if i < ROWS {
+        let start = STARTS[i] as usize;
+        let end = STARTS[i + 1] as usize;
+        // `=` stands behind it
+        end - start - 1
+    } else {
+        0
+    }
+}
+
+// Is this the line of a row with these contents, which fit its class?
+pub fn says(i: usize, contents: &[u8], line: &[u8]) -> bool
+    ensures { λ r. ⌜ r ≡ (suc i ≤? rowCount and saysLine (rulesOf book.PresentLenient) (rowAt i) (now (contents .entry)) (now (line .entry))) ⌝ }
+{
+    if i < ROWS {
+        let class = rules::class_of(Book::PresentLenient, TYPES[i]);
+        if contents::fits(class, contents) {
+            is_line(i, contents, line)
+        } else {
+            false
+        }
+    } else {
+        false
+    }
+}
+
+// Is this the line of a message's kind?
+pub fn says_kind(x: u8, line: &[u8]) -> bool
+    ensures { λ r. ⌜ r ≡ sameOctets (lineText (kindLine x)) (now (line .entry)) ⌝ }
+{
+    let mut text = [0u8; SHORT];
+    let end = put_kind(x, &mut text, 0);
+    rules::same_octets(&text[..end], line)
+}
+
+// Is this the line that no parameter is carried?
+pub fn says_end(line: &[u8]) -> bool
+    ensures { λ r. ⌜ r ≡ sameOctets (lineText (carriedLine 0)) (now (line .entry)) ⌝ }
+{
+    let mut text = [0u8; SHORT];
+    let end = put_carried(0, &mut text, 0);
+    rules::same_octets(&text[..end], line)
 }

@@ -14,7 +14,7 @@ use Rattle.rules.specs.Tests.{every}
 use Rattle.rules.proofs.Tests.{both, le-of}
 use Rattle.rules.specs.Octets.{total, checksum}
 use Rattle.rules.proofs.Octets.{total-append}
-use Rattle.rules.specs.Message.{body, front, octets, most}
+use Rattle.rules.specs.Message.{Message, body, front, octets, most}
 use Rattle.rules.specs.Laying.{laid, laidAt}
 use Rattle.rules.proofs.Laying.{laid-then, rest-laid, rest-copied, part-is}
 use Rattle.draft.specs.Draft.{inside, allInside, parameterOf, parametersOf, used, messageOf}
@@ -267,14 +267,13 @@ set-behind v old x h =
     ∙ ap (λ (k : ℕ). (v ++ x ∷ []) ++ drop k old)
     (let n : suc (length v) ≡ length (v ++ x ∷ []) = omega (arith, length-append v (x ∷ [])) in n)
 
-module _ (d : Draft) (texts old out : List ℕ) (end : ℕ)
-    (q : (out ≡ laid (front (messageOf d texts)) old) × (end ≡ length (front (messageOf d texts))))
+module _ (m : Message) (old out : List ℕ) (end : ℕ) (q : (out ≡ laid (front m) old) × (end ≡ length (front m)))
     (h : end < length old) where
   pub sealed : (sum r : ℕ) → sum ≡ total (take end out) % 256 → r < 256 → (r + sum) % 256 ≡ 0 →
-      set out end r ≡ laid (octets (messageOf d texts)) old
+      set out end r ≡ laid (octets m) old
   unfolding octets laid
   sealed sum r e l s =
-      let v = front (messageOf d texts) in
+      let v = front m in
       let t : take end out ≡ v = ap (take end) (q .0) ∙ take-at v (drop (length v) old) end (sym (q .1)) in
       let c : r ≡ checksum (total v) = checksum-is (total v) sum r (e ∙ ap (λ (l : List ℕ). total l % 256) t) l s in
       ap (λ (x : List ℕ). set x end r) (q .0)

@@ -1,5 +1,5 @@
--- The promise of `write` settles its outcome: two that it allows are equal, the answer and what the output holds
--- afterwards.
+-- Every public promise settles its outcome: two that it allows are equal, the answer and, of `write`, what the output
+-- holds afterwards.
 -- Assumes nothing.
 use mathlib.Core.Path.{_≡_, sym, _∙_, ap}
 use Rattle.rules.specs.Message.{octets}
@@ -7,6 +7,14 @@ use Rattle.draft.specs.Draft.{messageOf}
 use Rattle.writer.specs.Writing.{outputAfter}
 use Rattle.writer.specs.declared.Writing.{Writing}
 use Rattle.writer.proofs.write.Reads as write
+use Rattle.writer.proofs.sum_of.Reads as sum-of
+use Rattle.writer.proofs.refusal.Reads as refusal
+
+pub refusal-settled : (κs : _) (a : _) (r r' : _) (s s' : _) → refusal.Post κs a r s → refusal.Post κs a r' s' → r ≡ r'
+refusal-settled κs a r r' s s' p q = p ∙ sym q
+
+pub sum-of-settled : (κs : _) (a : _) (r r' : _) (s s' : _) → sum-of.Post κs a r s → sum-of.Post κs a r' s' → r ≡ r'
+sum-of-settled κs a r r' s s' p q = p ∙ sym q
 
 pub write-settled : (κs : _) (a : _) (r r' : _) (s s' : _) → write.Post κs a r s → write.Post κs a r' s' →
     (r ≡ r') × (s .1 .1 .1 .0 .now ≡ s' .1 .1 .1 .0 .now)

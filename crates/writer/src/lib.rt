@@ -27,7 +27,7 @@ pub enum Written {
     Declined { fault: Fault },
 }
 
-// What a write answers, and the edition that it names: the draft's.
+// What a write answers, and the edition that it names: the draft's; of a listing that comes back, the present one.
 pub struct Writing {
     pub edition: u8,
     pub answer: Written,
@@ -183,17 +183,8 @@ fn put_both(out: &mut [u8], head: &[u8], text: &[u8])
 fn fitting_length(class: Class, part: &[u8]) -> u8
     ensures { λ r. ⌜ r ≡ fitting class (now (part .entry)) ⌝ }
 {
-    if rules::LONGEST < part.len() {
-        return 0;
-    }
-    let n = part.len() as u8;
-    // in a room that the parameter fills
-    if rules::length_fits(class, n + 2, n) {
-        if contents::first_wrong(class, part) == part.len() {
-            n
-        } else {
-            0
-        }
+    if contents::fits(class, part) {
+        part.len() as u8
     } else {
         0
     }
@@ -277,7 +268,8 @@ fn measure_entries(book: Book, draft: Draft, texts: &[u8]) -> Measure
     Measure::Size(size)
 }
 
-fn refusal(number: u8, place: u16) -> Written
+// A refusal with its number and place.
+pub fn refusal(number: u8, place: u16) -> Written
     ensures { λ r. ⌜ r ≡ unwritten number place ⌝ }
 {
     Written::Declined {
@@ -376,18 +368,6 @@ fn put_front(draft: Draft, texts: &[u8], out: &mut [u8], size: u8) -> usize
     at
 }
 
-fn sum_of(s: &[u8]) -> u8
-    ensures { λ r. ⌜ r ≡ total (now (s .entry)) % 256 ⌝ }
-{
-    let mut sum: u8 = 0;
-    let mut i = 0;
-    while i < s.len() {
-        sum = std::num::wrapping_add_u8(sum, s[i]);
-        i += 1;
-    }
-    sum
-}
-
 // The whole message: the checksum makes the sum of all octets 0 modulo 256 (000, section 2).
 fn put_message(draft: Draft, texts: &[u8], out: &mut [u8], size: u8)
     requires { ⌜ Layable draft (now texts) (list.length (now out)) size ⌝ }
@@ -412,6 +392,19 @@ fn write_by(book: Book, draft: Draft, texts: &[u8], out: &mut [u8]) -> Written
         }
         Written::Declined { fault } => Written::Declined { fault },
     }
+}
+
+// The sum of octets modulo 256 (000, section 2).
+pub fn sum_of(s: &[u8]) -> u8
+    ensures { λ r. ⌜ r ≡ total (now (s .entry)) % 256 ⌝ }
+{
+    let mut sum: u8 = 0;
+    let mut i = 0;
+    while i < s.len() {
+        sum = std::num::wrapping_add_u8(sum, s[i]);
+        i += 1;
+    }
+    sum
 }
 
 // Writes the message that a draft stands for, by the draft's edition: 16 where that or the way is unknown, and the

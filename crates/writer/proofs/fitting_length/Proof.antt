@@ -1,49 +1,28 @@
--- `writer::fitting_length` meets its contract: the length is one of the class's, and each octet may stand where it
--- stands.
+-- `writer::fitting_length` meets its contract: contents that fit have at most 253 octets, so their length is an octet.
 -- Assumes nothing.
-use mathlib.Core.Path.{sym, _∙_}
-use Rattle.rules.proofs.Returns.{via}
-use Rattle.writer.proofs.Contents.{too-long, length-not, octets-not, both-fit}
+use mathlib.Core.Path.{refl}
+use native.Mathlib.Omega.{arith}
+use Rattle.rules.proofs.Returns.{T-of, via, pick-t, pick-f}
+use Rattle.contents.proofs.Fitting.{fits-short}
+use Rattle.writer.specs.Judging.{fitting}
 use borrow.Author.Needs.{needs}
 use Rattle.writer.proofs.fitting_length.Statement.{statement}
 use Rattle.writer.proofs.fitting_length.Tie as tie
 
+fits-requires : tie.Need-fits-requires
+fits-requires c κs = search needs
+
+cast-result : tie.Need-cast-result
+cast-result c =
+    omega (arith, fits-short _ _ (T-of _ (via _ _ _ (c .before .fits2 .ensures) (c .if1 .taken))))
+
 returns : tie.Need-returns
-returns c = too-long _ _ (c .if1 .taken)
-
-cast-n : tie.Need-cast-n
-cast-n c = search needs
-
-add-length-fits : tie.Need-add-length-fits
-add-length-fits c = search needs
-
-length-fits-requires : tie.Need-length-fits-requires
-length-fits-requires c κs = search needs
-
-first-wrong-requires : tie.Need-first-wrong-requires
-first-wrong-requires c κs = search needs
+unfolding fitting
+returns c = pick-t _ _ _ _ (via _ _ _ (c .before .fits2 .ensures) (c .if1 .taken)) refl
 
 returns-2 : tie.Need-returns-2
-returns-2 c =
-    let p = c .before .before in
-    both-fit _ _ (via _ _ _ (p .before .length-fits .ensures) (p .if2 .taken))
-    (sym (c .before .first-wrong .ensures) ∙ c .if3 .taken)
-
-returns-3 : tie.Need-returns-3
-returns-3 c = octets-not _ _ (λ e. c .if3 .left (c .before .first-wrong .ensures ∙ e))
-
-returns-4 : tie.Need-returns-4
-returns-4 c = length-not _ _ (via _ _ _ (c .before .length-fits .ensures) (c .if2 .left))
+unfolding fitting
+returns-2 c = pick-f _ _ _ _ (via _ _ _ (c .before .fits2 .ensures) (c .if1 .left)) refl
 
 pub fitting-length-spec : {M : Type 1} → statement M
-fitting-length-spec =
-    tie.close
-    (tie.spec
-    returns
-    cast-n
-    add-length-fits
-    length-fits-requires
-    first-wrong-requires
-    returns-2
-    returns-3
-    returns-4)
+fitting-length-spec = tie.close (tie.spec fits-requires cast-result returns returns-2)

@@ -57,7 +57,7 @@ returns : tie.Need-returns
 returns c =
     let after-put-front = c .before .before .before .before .before in
     let start = after-put-front .before .before .before .before in
-    sealed _ _ _ _ _ (after-put-front .put-front .ensures)
+    sealed _ _ _ _ (after-put-front .put-front .ensures)
     (omega (
       arith,
       after-put-front .put-front .ensures .1,

@@ -1,0 +1,20 @@
+-- The root of why it holds.
+pub mod Text
+pub mod Values
+pub mod Said
+pub mod Digits
+pub mod Reading
+pub mod Sealing
+pub mod Rows
+pub mod Answering
+pub mod Chosen
+pub mod Orderly
+pub mod Ends
+pub mod Valid
+pub mod Spoilt
+pub mod One
+pub mod RoundTrips
+pub mod Answers
+pub mod Enough
+pub mod Promised
+pub mod Settled
