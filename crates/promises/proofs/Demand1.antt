@@ -65,6 +65,7 @@ use Rattle.writer.specs.declared.Written.the-variants.{Declined}
 use Rattle.writer.specs.Reasons.{Went, kind-is-none, no-entries, many-entries, bad-entry, too-long, too-tight, fits}
 use Rattle.writer.proofs.Reasons.{answer-iff}
 use Rattle.writer.proofs.Promised as writer
+use Rattle.relist.proofs.Promised as relist
 use Rattle.desk.specs.declared.Desk.{Desk}
 use Rattle.desk.specs.declared.Settling.{Settling}
 use Rattle.desk.specs.declared.Answer as settled-answer
@@ -237,6 +238,12 @@ fits-refuses b o old w h q f e =
     let x = reader.fits-so b o old w h q in
     let y = read-so b o old (x .0) (x .2 .0) (x .2 .1) q f (sym (refused-fitting (x .0 .answer) f (sym (x .1 ∙ e)))) in
     subst (Unread b o old f) (y .stays) y
+
+-- a listing that comes back: 61, 62 or 15, in no parameter, and the output stays
+pub message-of-refuses : (t old : List ℕ) (w : Writing) (out : List ℕ) → relist.message-of-gives t old w out →
+    (f : Fault) → w .answer ≡ Declined f →
+    (((f .number ≡ 61) ⊎ (f .number ≡ 62) ⊎ (f .number ≡ 15)) × (f .parameter ≡ 0)) × (out ≡ old)
+message-of-refuses t old w out h f e = relist.refuses t old w out h f e
 
 -- the writer: 11 to 15, in no parameter; or 16 at 0, where the draft's edition or the way is unknown; the output stays
 pub write-refuses : (w : ℕ) (d : Draft) (t old : List ℕ) (r : Writing) (out : List ℕ) →

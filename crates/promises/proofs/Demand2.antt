@@ -1,5 +1,6 @@
 -- Demand 2: reading, writing and settling follow the rules, and invert each other. Over the promises of `read_way` and
--- `read`, `write` and `settle` and of the exports, by every edition and way, whatever outcomes they allow.
+-- `read`, `write` and `settle` and of the exports, by every edition and way, whatever outcomes they allow. So do
+-- listings and listings that come back, over the promises of `listing` and `message_of` (document 02, Q-1).
 -- Assumes nothing.
 use Prim.Native.Nat.{ℕ, _≤_, _<_}
 use mathlib.Core.Path.{_≡_, refl, sym, _∙_, ap, subst}
@@ -16,7 +17,7 @@ use Rattle.rules.specs.Editions.{known, bookOf}
 use Rattle.rules.specs.Table.{rulesOf, oldBook, rowIn, rowOf, listedIn, listed, rivalOf}
 use Rattle.rules.specs.declared.Book.{Book}
 use Rattle.rules.specs.declared.Book.the-variants.{PresentStrict, PresentLenient, OldStrict, OldLenient}
-use Rattle.rules.specs.Message.{Message, octets, LegalMessage}
+use Rattle.rules.specs.Message.{Parameter, Message, octets, LegalMessage}
 use Rattle.rules.specs.Counting.{counted}
 use Rattle.rules.proofs.Counting.{one-of-pair}
 use Rattle.rules.proofs.Unique.{unique-in}
@@ -37,6 +38,12 @@ use Rattle.writer.specs.Told as tells
 use Rattle.writer.specs.declared.Written.the-variants as written
 use Rattle.writer.specs.Reasons.{WritesBy}
 use Rattle.writer.proofs.Promised as writer
+use Rattle.listing.specs.declared.ListingText.{ListingText}
+use Rattle.listing.specs.Lists.{Has}
+use Rattle.listing.proofs.Promised as listing
+use Rattle.relist.specs.Relist.{limit}
+use Rattle.relist.specs.Sentences.{RisingKinds, Returned, Relists}
+use Rattle.relist.proofs.Promised as relist
 use Rattle.desk.specs.declared.Desk.{Desk}
 use Rattle.desk.specs.declared.Settling.{Settling}
 use Rattle.desk.specs.Settles.{SettlesBy}
@@ -96,6 +103,11 @@ anthercup-open-by-last r c q t xs c' h = firmware.open-by-last r c q t xs c' h
 pub anthercup-says : (r : ℕ) (c : List ℕ) → Octets c → T (isRecord c) → (x : RecordCall) →
     firmware.settle-gives (x .edition) (x .way) c (x .octets) (x .word) (x .cells) → Octets (x .octets) → SaysIn r x
 anthercup-says r c k t x h q = firmware.says r c k t x h q
+
+-- listings that come back: each answer exactly where the rules have it, and what the output then holds
+pub relisting-follows : (t old : List ℕ) (w : Writing) (out : List ℕ) → relist.message-of-gives t old w out →
+    Relists (rulesOf PresentLenient) t old w out
+relisting-follows t old w out h = relist.follows t old w out h
 
 -- ---- of each pair one counts at most, by every book; in the old edition 08H has no row, and 07H no rival (`one-pair`)
 pub record Pairs (b : Book) (m : Message) : Type 0 where
@@ -239,3 +251,24 @@ pub anthercup-settled-twice : (e y : ℕ) (c o : List ℕ) (w : ℕ) (c' : List 
     firmware.settle-gives e y c o w c' → firmware.settle-gives e y c' o w' c'' → Octets c → Octets o →
     (w' ≡ w) × (c'' ≡ c')
 anthercup-settled-twice e y c o w c' w' c'' h k p q = firmware.settled-twice e y c o w c' h w' c'' k p q
+
+-- ---- listings, there and back
+-- what showmsg prints of the message that a text becomes is the text
+pub relisted-shown : (t old : List ℕ) (w : Writing) (out : List ℕ) → relist.message-of-gives t old w out → (n : ℕ) →
+    tells.told (w .answer) ≡ tells.success n → (r : ListingText) → listing.listing-gives (take n out) r →
+    listing.shown r ≡ t
+relisted-shown t old w out h n e r g = relist.shown-again t old w out h n e r g
+
+-- what showmsg prints of a message with each type once, in order, of which each counts, becomes exactly its octets
+pub shown-relisted : (m : Message) → LegalMessage (rulesOf PresentLenient) m → RisingKinds 0 (m .parameters) →
+    ((p : Parameter) → Has (m .parameters) p → counted (rulesOf PresentLenient) m (p .kind) ≡ some (p .contents)) →
+    (r : ListingText) → listing.listing-gives (octets m) r → (old : List ℕ) (w : Writing) (out : List ℕ) →
+    relist.message-of-gives (listing.shown r) old w out → length (octets m) ≤ length old →
+    (tells.told (w .answer) ≡ tells.success (length (octets m)))
+    × Returned (rulesOf PresentLenient) old out m (length (octets m))
+shown-relisted m l u c r g old w out h k = relist.made-again m l u c r g old w out h k
+
+-- what the first 8,192 octets of a text get, the whole text gets
+pub relisting-enough : (t old : List ℕ) (w w' : Writing) (out out' : List ℕ) →
+    relist.message-of-gives (take limit t) old w out → relist.message-of-gives t old w' out' → (w ≡ w') × (out ≡ out')
+relisting-enough t old w w' out out' h h' = relist.reads-enough t old w w' out out' h h'

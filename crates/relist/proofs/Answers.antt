@@ -9,10 +9,12 @@ use lib.ListN.{length, take, drop, take-append-drop}
 use lib.Seq.{take-at, drop-at}
 use lib.Dec.{T}
 use Rattle.rules.specs.Tests.{_≤?_}
-use Rattle.rules.proofs.Tests.{decide, le-of, not-le, of-le, pick-yes, pick-not}
+use Rattle.rules.proofs.Tests.{decide, le-of, not-le, of-le, pick-yes, pick-not, clash}
 use Rattle.rules.specs.Message.{Message, body, octets, Accepts}
 use Rattle.rules.proofs.Sizes.{octets-length}
 use Rattle.rules.specs.Laying.{laid}
+use Rattle.rules.specs.Refusals.{noted}
+use Rattle.rules.specs.declared.Fault.{Fault}
 use Rattle.writer.specs.declared.Written.{Written}
 use Rattle.writer.specs.declared.Written.the-variants.{Message as Wrote, Declined}
 use Rattle.writer.specs.declared.Writing.{Writing}
@@ -152,6 +154,26 @@ module _ (t : List ℕ) (room : ℕ) where
       go : Read t room → (numberOf answer ≡ 61) ⊎ (numberOf answer ≡ 62) ⊎ (numberOf answer ≡ 15)
       go (valid m s) = of-fit m s (fit _ room)
       go (spoilt j q s) = inl (ap numberOf q)
+
+-- a refusal has one of three numbers, and names no parameter
+abbrev pub Refusal : Fault → Type 0
+Refusal f = ((f .number ≡ 61) ⊎ (f .number ≡ 62) ⊎ (f .number ≡ 15)) × (f .parameter ≡ 0)
+
+pub refusals : (t : List ℕ) (room : ℕ) (f : Fault) → relisted R t room ≡ Declined f → Refusal f
+refusals t room f e = go (reads t room)
+  where
+    is : (k p : ℕ) → relisted R t room ≡ unwritten k p → (k ≡ 61) ⊎ (k ≡ 62) ⊎ (k ≡ 15) → Refusal f
+    is k p q n =
+        let z : noted k p ≡ f = cc (sym q ∙ e) in subst Refusal z (n, refl)
+
+    of-fit : (m : Message) → Says R m t → Fit (length (body (m .parameters))) room → Refusal f
+    of-fit m s (over x q) = is 62 0 (is-62 t room m s x) (inr (inl refl))
+    of-fit m s (short x g q) = is 15 _ (is-15 t room m s x g) (inr (inr refl))
+    of-fit m s (fits x g q) = clash (cc (sym e ∙ is-message t room m s x g))
+
+    go : Read t room → Refusal f
+    go (valid m s) = of-fit m s (fit _ room)
+    go (spoilt j q s) = is 61 j q (inl refl)
 
 number-told : (w : Written) → told w .number ≡ numberOf w
 unfolding told

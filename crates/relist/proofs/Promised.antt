@@ -14,13 +14,16 @@ use Rattle.listing.specs.declared.ListingText.{ListingText}
 use Rattle.listing.specs.Listing.{listingOf}
 use Rattle.listing.specs.Lists.{Has}
 use Rattle.listing.proofs.Promised.{listing-gives, shown, lists}
+use Rattle.rules.specs.declared.Fault.{Fault}
+use Rattle.writer.specs.declared.Written.{Written}
+use Rattle.writer.specs.declared.Written.the-variants.{Declined}
 use Rattle.writer.specs.declared.Writing.{Writing}
 use Rattle.writer.specs.Writing.{outputAfter}
 use Rattle.writer.specs.Told.{told, success, refusal}
 use Rattle.relist.specs.Relist.{messageFor, relisted, relisting, limit}
 use Rattle.relist.specs.Sentences.{RisingKinds, Says, Returned, Relists}
 use Rattle.relist.proofs.Valid.{R}
-use Rattle.relist.proofs.Answers.{relists}
+use Rattle.relist.proofs.Answers.{Refusal, refusals, relists}
 use Rattle.relist.proofs.RoundTrips.{said-listing, listing-says}
 use Rattle.relist.proofs.Enough.{enough, enough-output}
 use Rattle.relist.proofs.message_of.Reads as message-of
@@ -42,24 +45,33 @@ module _ (t old : List ℕ) (w : Writing) (out : List ℕ) (h : message-of-gives
       ∙ ap (λ (x : Writing). outputAfter (x .answer) (octets (messageFor R t)) old) answer-is
 
   -- each answer exactly where the sentences have it, and what the output then holds
-  pub relisting-follows : Relists R t old w out
-  relisting-follows =
+  pub follows : Relists R t old w out
+  follows =
       subst (λ (x : Writing). Relists R t old x out) (sym answer-is)
       (subst (Relists R t old (relisting R t (length old))) (sym output-is) (relists t old))
 
   -- what showmsg prints of the message is the text
-  pub relisted-shown : (n : ℕ) → told (w .answer) ≡ success n → (r : ListingText) → listing-gives (take n out) r →
+  pub shown-again : (n : ℕ) → told (w .answer) ≡ success n → (r : ListingText) → listing-gives (take n out) r →
       shown r ≡ t
-  relisted-shown n e r g =
-      let m = relisting-follows .message n .0 e in
+  shown-again n e r g =
+      let m = follows .message n .0 e in
       lists (take n out) r g
-      ∙ ap (listingOf R) (relisting-follows .lays (m .0) n (m .1) e .begins)
+      ∙ ap (listingOf R) (follows .lays (m .0) n (m .1) e .begins)
       ∙ said-listing t (m .0) (m .1) (m .2)
+
+  -- a refusal has one of three numbers, names no parameter, and leaves the output
+  pub refuses : (f : Fault) → w .answer ≡ Declined f → Refusal f × (out ≡ old)
+  unfolding relisting outputAfter
+  refuses f e =
+      let q : relisted R t (length old) ≡ Declined f = sym (ap (λ (x : Writing). x .answer) answer-is) ∙ e in (
+        refusals t (length old) f q,
+        output-is ∙ ap (λ (x : Written). outputAfter x (octets (messageFor R t)) old) q,
+      )
 
   -- 258 octets are always enough
   pub room-enough : 258 ≤ length old → (p : ℕ) → told (w .answer) ≡ refusal 15 p → ⊥
   room-enough k p e =
-      let m = relisting-follows .fifteen p .0 e in absurd (omega (arith, octets-length (m .0), m .2, m .3, m .4))
+      let m = follows .fifteen p .0 e in absurd (omega (arith, octets-length (m .0), m .2, m .3, m .4))
 
 -- ---- the listing of a message with each type once, in order, of which each counts, gives exactly its octets
 module _ (m : Message) (l : LegalMessage R m) (rising : RisingKinds 0 (m .parameters))
@@ -69,9 +81,9 @@ module _ (m : Message) (l : LegalMessage R m) (rising : RisingKinds 0 (m .parame
   says : Says R m (shown r)
   says = subst (Says R m) (sym (lists (octets m) r g)) (listing-says m l rising counts)
 
-  pub shown-relisted : (told (w .answer) ≡ success (length (octets m))) × Returned R old out m (length (octets m))
-  shown-relisted =
-      let f = relisting-follows (shown r) old w out h in
+  pub made-again : (told (w .answer) ≡ success (length (octets m))) × Returned R old out m (length (octets m))
+  made-again =
+      let f = follows (shown r) old w out h in
       let e = f .message (length (octets m)) .1 (m, says, (let z = l .short in omega arith), refl, room) in
       (e, f .lays m (length (octets m)) says e)
 

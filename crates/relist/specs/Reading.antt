@@ -9,6 +9,7 @@ use Rattle.rules.specs.Tests.{pick}
 use Rattle.rules.specs.Table.{Rules, Row}
 use Rattle.rules.specs.Message.{Message, body, octets}
 use Rattle.rules.specs.Laying.{laid}
+use Rattle.listing.specs.Listing.{rowCount}
 use Rattle.relist.specs.Relist.{rowSays, comes, rowContents, Lined}
 use Rattle.relist.specs.declared.Taken.{Taken}
 
@@ -44,7 +45,7 @@ pub record TookRows (s : Lined) (t area : List ℕ) (k : Taken) : Type 0 where
   pub inside : k .at ≤ length t
   pub rest : drop (k .at) t ≡ s .rest
   pub count : k .count ≡ length (s .parameters)
-  pub few : k .count ≤ 27
+  pub few : k .count ≤ rowCount
   pub size : k .size ≡ length (body (s .parameters))
   pub front : k .size ≤ 255 → take (k .size) area ≡ body (s .parameters)
 

@@ -359,7 +359,7 @@ fn with_room(size: usize, room: usize) -> Written
 
 // What follows the value lines: the last line, and nothing behind it.
 fn close(text: &[u8], lines: Taken, room: usize) -> Written
-    requires { ⌜ (lines .at ≤ list.length (now text)) × (lines .count ≤ 27) ⌝ }
+    requires { ⌜ (lines .at ≤ list.length (now text)) × (lines .count ≤ rowCount) ⌝ }
     ensures { λ r. ⌜ r ≡ closed (lines .count) (list.drop (lines .at) (now (text .entry))) (lines .size) room ⌝ }
 {
     let at = lines.at;
