@@ -16,8 +16,8 @@ use Rattle.rules.specs.Message.{octets}
 use Rattle.rules.specs.Laying.{laid}
 use Rattle.writer.specs.declared.Written.{Written}
 use Rattle.writer.specs.declared.Written.the-variants as written
-use Rattle.writer.specs.Writing.{unwritten, outputAfter}
-use Rattle.relist.specs.Relist.{Lined, lineIn, taken, kindIn, fitted, closed, linedIn, messageFor, relisted}
+use Rattle.writer.specs.Writing.{sized, unwritten, outputAfter}
+use Rattle.relist.specs.Relist.{Lined, lineIn, taken, kindIn, closed, linedIn, messageFor, relisted}
 use Rattle.relist.specs.Reading.{TookRows, Sealed}
 use Rattle.relist.specs.declared.Taken.{Taken}
 use Rattle.relist.proofs.Reading.{line-within, line-part, line-rest}
@@ -28,7 +28,7 @@ R = rulesOf PresentLenient
 -- ---- what follows the value lines
 closed-fits : (n : ℕ) (t : List ℕ) (l room whole : ℕ) → closed n t l room ≡ written.Message whole →
     (l ≤ 255) × (l + 3 ≤ room)
-unfolding closed fitted
+unfolding closed sized
 closed-fits n t l room whole e =
     picked-by Fits _ _ _ _ e (λ _ q. clash (cc))
     (λ _ e. picked-by Fits _ _ _ _ e

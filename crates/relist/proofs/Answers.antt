@@ -18,10 +18,10 @@ use Rattle.rules.specs.declared.Fault.{Fault}
 use Rattle.writer.specs.declared.Written.{Written}
 use Rattle.writer.specs.declared.Written.the-variants.{Message as Wrote, Declined}
 use Rattle.writer.specs.declared.Writing.{Writing}
-use Rattle.writer.specs.Writing.{unwritten, outputAfter}
+use Rattle.writer.specs.Writing.{sized, unwritten, outputAfter}
 use Rattle.writer.specs.Told.{Told, told, success, refusal}
 use Rattle.writer.proofs.Told.{unwritten-is, message-is}
-use Rattle.relist.specs.Relist.{fitted, messageFor, relisted, relisting}
+use Rattle.relist.specs.Relist.{messageFor, relisted, relisting}
 use Rattle.relist.specs.Sentences.{Says, SpoiltAt, Returned, Relists}
 use Rattle.relist.proofs.Valid.{R, says-message, says-answer}
 use Rattle.relist.proofs.Spoilt.{Read, valid, spoilt, reads}
@@ -39,12 +39,12 @@ valueOf (Declined f) = f .place
 
 -- ---- what a valid listing is answered
 data Fit (l room : ℕ) : Type 0 where
-  over : 256 ≤ l → fitted l room ≡ unwritten 62 0 → Fit l room
-  short : l ≤ 255 → room < l + 3 → fitted l room ≡ unwritten 15 (l + 3) → Fit l room
-  fits : l ≤ 255 → l + 3 ≤ room → fitted l room ≡ Wrote (l + 3) → Fit l room
+  over : 256 ≤ l → sized 62 l room ≡ unwritten 62 0 → Fit l room
+  short : l ≤ 255 → room < l + 3 → sized 62 l room ≡ unwritten 15 (l + 3) → Fit l room
+  fits : l ≤ 255 → l + 3 ≤ room → sized 62 l room ≡ Wrote (l + 3) → Fit l room
 
 fit : (l room : ℕ) → Fit l room
-unfolding fitted
+unfolding sized
 fit l room = go (decide (256 ≤? l)) (decide (suc room ≤? l + 3))
   where
     go : T (256 ≤? l) ⊎ (T (256 ≤? l) → ⊥) → T (suc room ≤? l + 3) ⊎ (T (suc room ≤? l + 3) → ⊥) → Fit l room
@@ -93,17 +93,17 @@ module _ (t : List ℕ) (room : ℕ) where
     l = length (body (m .parameters))
 
     is-62 : 256 ≤ l → answer ≡ unwritten 62 0
-    unfolding fitted
+    unfolding sized
     is-62 h = says-answer m t s room ∙ pick-yes _ _ _ (of-le _ _ h)
 
     is-15 : l ≤ 255 → room < l + 3 → answer ≡ unwritten 15 (l + 3)
-    unfolding fitted
+    unfolding sized
     is-15 h g =
         says-answer m t s room ∙ pick-not _ _ _ (λ x. let z = le-of _ _ x in omega arith)
         ∙ pick-yes _ _ _ (of-le _ _ (let z : suc room ≤ l + 3 = omega arith in z))
 
     is-message : l ≤ 255 → l + 3 ≤ room → answer ≡ Wrote (l + 3)
-    unfolding fitted
+    unfolding sized
     is-message h g =
         says-answer m t s room ∙ pick-not _ _ _ (λ x. let z = le-of _ _ x in omega arith)
         ∙ pick-not _ _ _ (λ x. let z = le-of _ _ x in omega arith)
@@ -206,8 +206,8 @@ module _ (t old : List ℕ) where
   new = outputAfter given (octets (messageFor R t)) old
 
   -- a size is that of a message
-  sized : (n : ℕ) → told given ≡ success n → given ≡ Wrote n
-  sized n e = go (reads t room)
+  a-message : (n : ℕ) → told given ≡ success n → given ≡ Wrote n
+  a-message n e = go (reads t room)
     where
       of-fit : (m : Message) → Says R m t → Fit (length (body (m .parameters))) room → given ≡ Wrote n
       of-fit m s (over x q) = no-size given n 62 0 (omega arith) (is-62 t room m s x) e
@@ -221,7 +221,7 @@ module _ (t old : List ℕ) where
   returned : (m : Message) (n : ℕ) → Says R m t → told given ≡ success n → Returned R old new m n
   unfolding outputAfter laid
   returned m n s e =
-      let g = sized n e in
+      let g = a-message n e in
       let w = to-message t room n g in
       let d : n ≡ length (octets m) = w .3 ∙ ap (λ (x : Message). length (octets x)) (says-one t (w .0) m (w .1) s) in
       let l : length (body (m .parameters)) ≤ 255 =
@@ -258,7 +258,7 @@ module _ (t old : List ℕ) where
               ∙ ap (unwritten 15) (sym (octets-length (x .0)) ∙ sym (x .3)))),
         );
         message = λ n. (
-          (λ e. to-message t room n (sized n e)),
+          (λ e. to-message t room n (a-message n e)),
           (λ x. ap told
               (is-message t room (x .0) (x .1) (x .2) (let z = octets-length (x .0) in omega (arith, x .3, x .4))
               ∙ ap Wrote (sym (octets-length (x .0)) ∙ sym (x .3)))),
@@ -297,7 +297,8 @@ module _ (t old : List ℕ) (w : Writing) (out : List ℕ) (r : Relists R t old 
       go (valid m s) = of-fit m s (fit _ _)
       go (spoilt k q s) = unwritten-is (w .answer) 61 k (omega arith) (r .sixty-one k .1 s) ∙ sym q
 
-module _ (t old : List ℕ) (w w' : Writing) (out out' : List ℕ) (r : Relists R t old w out) (r' : Relists R t old w' out')
+module _ (t old : List ℕ) (w w' : Writing) (out out' : List ℕ) (r : Relists R t old w out)
+    (r' : Relists R t old w' out')
   where
     answers-one : w .answer ≡ w' .answer
     answers-one = answer-is t old w out r ∙ sym (answer-is t old w' out' r')

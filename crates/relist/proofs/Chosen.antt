@@ -20,7 +20,7 @@ use Rattle.rules.specs.Message.{Parameter}
 use Rattle.listing.specs.Listing.{Line, lineText, written, lineOf, carriedLine}
 use Rattle.listing.proofs.Characters.{plain}
 use Rattle.listing.proofs.Plain.{bare, Plain, plain-carried}
-use Rattle.relist.specs.Relist.{lineIn, behind, rowContents, rowSays, kindsOf, among, comes, parameterOf, Lined, taken}
+use Rattle.relist.specs.Relist.{lineIn, behind, rowContents, rowSays, typesOf, among, comes, rowParameter, Lined, taken}
 use Rattle.relist.proofs.Text.{line-split, line-first, line-behind}
 use Rattle.relist.specs.Sentences.{Unended}
 use Rattle.relist.proofs.Said.{Row-is, row-is, other, tabled, first-line, first-behind, row-plain, own-contents, own-says, says-fit, says-text, comes-both, says-not, carried-cut}
@@ -44,7 +44,7 @@ Chosen R (r ∷ rs) ps qs ls =
     × (qs ≡ said r v ∷ more)
     × (ls ≡ lineOf R r v ∷ later)
     × T (contentsFit (classOf R (r .kind)) v)
-    × (T (among (rivalOf R (r .kind)) (kindsOf ps)) → ⊥)
+    × (T (among (rivalOf R (r .kind)) (typesOf ps)) → ⊥)
     × Chosen R rs (ps ++ said r v ∷ []) more later)
 
 -- what a table's test tells of its first row
@@ -83,18 +83,18 @@ module _ (R : Rules) where
 
   -- one row, as the next line goes
   module _ (r : Row) (rs : List Row) (ps : List Parameter) (t l : List ℕ) (e : lineIn t ≡ l) where
-    takes : T (comes R r (kindsOf ps) l) → taken R (r ∷ rs) ps t ≡ taken R rs (ps ++ parameterOf R r l ∷ []) (behind t)
+    takes : T (comes R r (typesOf ps) l) → taken R (r ∷ rs) ps t ≡ taken R rs (ps ++ rowParameter R r l ∷ []) (behind t)
     unfolding taken
     takes y =
-        ap₂ (taken R rs) (pick-yes (comes R r (kindsOf ps) (lineIn t)) _ _ (rw e y))
-        (pick-yes (comes R r (kindsOf ps) (lineIn t)) _ _ (rw e y))
-        ∙ ap (λ (x : List ℕ). taken R rs (ps ++ parameterOf R r x ∷ []) (behind t)) e
+        ap₂ (taken R rs) (pick-yes (comes R r (typesOf ps) (lineIn t)) _ _ (rw e y))
+        (pick-yes (comes R r (typesOf ps) (lineIn t)) _ _ (rw e y))
+        ∙ ap (λ (x : List ℕ). taken R rs (ps ++ rowParameter R r x ∷ []) (behind t)) e
 
-    leaves : (T (comes R r (kindsOf ps) l) → ⊥) → taken R (r ∷ rs) ps t ≡ taken R rs ps t
+    leaves : (T (comes R r (typesOf ps) l) → ⊥) → taken R (r ∷ rs) ps t ≡ taken R rs ps t
     unfolding taken
     leaves n =
-        ap₂ (taken R rs) (pick-not (comes R r (kindsOf ps) (lineIn t)) _ _ (rw e n))
-        (pick-not (comes R r (kindsOf ps) (lineIn t)) _ _ (rw e n))
+        ap₂ (taken R rs) (pick-not (comes R r (typesOf ps) (lineIn t)) _ _ (rw e n))
+        (pick-not (comes R r (typesOf ps) (lineIn t)) _ _ (rw e n))
 
   -- ---- from any text
   pub record Took (rs : List Row) (ps : List Parameter) (t : List ℕ) : Type 0 where
@@ -110,19 +110,19 @@ module _ (R : Rules) where
       record { more = []; lines = []; chosen = (refl, refl); parameters = sym (append-nil ps); text = refl }
   took (r ∷ rs) n z ps t =
       let f = first-is R n r rs z in
-      go f (took rs (suc (r .kind)) (f .later)) (decide (comes R r (kindsOf ps) (lineIn t)))
+      go f (took rs (suc (r .kind)) (f .later)) (decide (comes R r (typesOf ps) (lineIn t)))
     where
       l : List ℕ
       l = lineIn t
 
-      yes : First-is R n r rs → T (comes R r (kindsOf ps) l) →
-          Took rs (ps ++ parameterOf R r l ∷ []) (behind t) → Took (r ∷ rs) ps t
+      yes : First-is R n r rs → T (comes R r (typesOf ps) l) →
+          Took rs (ps ++ rowParameter R r l ∷ []) (behind t) → Took (r ∷ rs) ps t
       yes f y w =
-          let e : taken R (r ∷ rs) ps t ≡ taken R rs (ps ++ parameterOf R r l ∷ []) (behind t) =
+          let e : taken R (r ∷ rs) ps t ≡ taken R rs (ps ++ rowParameter R r l ∷ []) (behind t) =
           takes r rs ps t l refl y in
-          let s = comes-both R r l (kindsOf ps) y in
+          let s = comes-both R r l (typesOf ps) y in
           record {
-            more = parameterOf R r l ∷ w .more;
+            more = rowParameter R r l ∷ w .more;
             lines = lineOf R r (rowContents R r l) ∷ w .lines;
             chosen = inr (
               rowContents R r l,
@@ -135,14 +135,14 @@ module _ (R : Rules) where
               w .chosen,
             );
             parameters = ap (λ (x : Lined). x .parameters) e ∙ w .parameters
-                ∙ append-assoc ps (parameterOf R r l ∷ []) (w .more);
+                ∙ append-assoc ps (rowParameter R r l ∷ []) (w .more);
             text = ap (λ (x : Lined). (lineText (lineOf R r (rowContents R r l)) ++ written (w .lines)) ++ x .rest) e
                 ∙ append-assoc (lineText (lineOf R r (rowContents R r l))) (written (w .lines)) _
                 ∙ ap₂ (λ (a b : List ℕ). a ++ b) (says-text R r l (s .1)) (w .text)
                 ∙ line-split t;
           }
 
-      no : (T (comes R r (kindsOf ps) l) → ⊥) → Took rs ps t → Took (r ∷ rs) ps t
+      no : (T (comes R r (typesOf ps) l) → ⊥) → Took rs ps t → Took (r ∷ rs) ps t
       no x w =
           let e : taken R (r ∷ rs) ps t ≡ taken R rs ps t = leaves r rs ps t l refl x in
           record {
@@ -154,8 +154,8 @@ module _ (R : Rules) where
           }
 
       go : First-is R n r rs → ((ps : List Parameter) (t : List ℕ) → Took rs ps t) →
-          T (comes R r (kindsOf ps) l) ⊎ (T (comes R r (kindsOf ps) l) → ⊥) → Took (r ∷ rs) ps t
-      go f w (inl y) = yes f y (w (ps ++ parameterOf R r l ∷ []) (behind t))
+          T (comes R r (typesOf ps) l) ⊎ (T (comes R r (typesOf ps) l) → ⊥) → Took (r ∷ rs) ps t
+      go f w (inl y) = yes f y (w (ps ++ rowParameter R r l ∷ []) (behind t))
       go f w (inr x) = no x (w ps t)
 
   -- ---- from the lines of a choice, with the last line behind them
@@ -205,20 +205,20 @@ module _ (R : Rules) where
 
   -- one row and the line that it takes
   module _ (r : Row) (q : Row-is R r) (rs : List Row) (ps : List Parameter) (v : List ℕ)
-      (f : T (contentsFit (classOf R (r .kind)) v)) (n : T (among (rivalOf R (r .kind)) (kindsOf ps)) → ⊥) where
+      (f : T (contentsFit (classOf R (r .kind)) v)) (n : T (among (rivalOf R (r .kind)) (typesOf ps)) → ⊥) where
     row-taken : (t : List ℕ) → taken R (r ∷ rs) ps (lineText (lineOf R r v) ++ t) ≡ taken R rs (ps ++ said r v ∷ []) t
     row-taken t =
         let l = lineOf R r v in
         let p = row-plain R r q v f in
         takes r rs ps (lineText l ++ t) (lineText l) (first-line l p t)
-        (comes-yes r (kindsOf ps) (lineText l) n (own-says R r q v f))
-        ∙ ap (taken R rs (ps ++ parameterOf R r (lineText l) ∷ [])) (first-behind l p t)
+        (comes-yes r (typesOf ps) (lineText l) n (own-says R r q v f))
+        ∙ ap (taken R rs (ps ++ rowParameter R r (lineText l) ∷ [])) (first-behind l p t)
         ∙ ap (λ (x : List ℕ). taken R rs (ps ++ said r x ∷ []) t) (own-contents R r q v f)
 
   -- one row and a line that is another's
   row-skipped : (r : Row) (rs : List Row) (ps : List Parameter) (t : List ℕ) → (T (rowSays R r (lineIn t)) → ⊥) →
       taken R (r ∷ rs) ps t ≡ taken R rs ps t
-  row-skipped r rs ps t n = leaves r rs ps t (lineIn t) refl (comes-not r (kindsOf ps) (lineIn t) n)
+  row-skipped r rs ps t n = leaves r rs ps t (lineIn t) refl (comes-not r (typesOf ps) (lineIn t) n)
 
   pub chosen-taken : (rs : List Row) (n : ℕ) → T (tabled R n rs) → (ps qs : List Parameter) (ls : List Line) →
       Chosen R rs ps qs ls → taken R rs ps (written ls ++ last) ≡ lined (ps ++ qs) last
@@ -248,12 +248,12 @@ module _ (R : Rules) where
   unfolding taken behind
   rest-short [] ps t = omega arith
   rest-short (r ∷ rs) ps t =
-      let c = comes R r (kindsOf ps) (lineIn t) in
+      let c = comes R r (typesOf ps) (lineIn t) in
       let b = suc (indexOf 0x0A t) in
       let u = pick c (drop b t) t in
       omega (
         arith,
-        rest-short rs (pick c (ps ++ parameterOf R r (lineIn t) ∷ []) ps) u,
+        rest-short rs (pick c (ps ++ rowParameter R r (lineIn t) ∷ []) ps) u,
         pick-case (λ (x : List ℕ). length x ≤ length t) c (drop b t) t (λ _. omega (arith, length-drop b t))
             (λ _. omega arith),
       )
@@ -272,14 +272,14 @@ module _ (R : Rules) where
         omega (arith, ap (λ (x : Lined). length (x .rest)) e, length-append (written ls) (l ++ 0x0A ∷ a)) in
         ap₂ (λ (x : List Parameter) (y : List ℕ). lined x (y ++ (l ++ 0x0A ∷ b)))
         (ap (λ (x : Lined). x .parameters) e) (empty (written ls) h)
-    again (r ∷ rs) ps [] p qs e = go (decide (comes R r (kindsOf ps) (l ++ 0x0A ∷ []))) (again rs ps [] p qs)
+    again (r ∷ rs) ps [] p qs e = go (decide (comes R r (typesOf ps) (l ++ 0x0A ∷ []))) (again rs ps [] p qs)
       where
-        go : T (comes R r (kindsOf ps) (l ++ 0x0A ∷ [])) ⊎ (T (comes R r (kindsOf ps) (l ++ 0x0A ∷ [])) → ⊥) →
+        go : T (comes R r (typesOf ps) (l ++ 0x0A ∷ [])) ⊎ (T (comes R r (typesOf ps) (l ++ 0x0A ∷ [])) → ⊥) →
             (taken R rs ps (l ++ 0x0A ∷ a) ≡ upTo qs a → taken R rs ps (l ++ 0x0A ∷ b) ≡ upTo qs b) →
             taken R (r ∷ rs) ps (l ++ 0x0A ∷ b) ≡ upTo qs b
         go (inl y) f =
             let w = takes r rs ps (l ++ 0x0A ∷ a) (l ++ 0x0A ∷ []) (line-first l a u) y in
-            let ps' = ps ++ parameterOf R r (l ++ 0x0A ∷ []) ∷ [] in
+            let ps' = ps ++ rowParameter R r (l ++ 0x0A ∷ []) ∷ [] in
             absurd
             (omega (
               arith,
@@ -292,8 +292,8 @@ module _ (R : Rules) where
             leaves r rs ps (l ++ 0x0A ∷ b) (l ++ 0x0A ∷ []) (line-first l b u) n
             ∙ f (sym (leaves r rs ps (l ++ 0x0A ∷ a) (l ++ 0x0A ∷ []) (line-first l a u) n) ∙ e)
     again (r ∷ rs) ps (k ∷ ls) p qs e =
-        go (decide (comes R r (kindsOf ps) (lineText k)))
-        (again rs (ps ++ parameterOf R r (lineText k) ∷ []) ls (p .1) qs) (again rs ps (k ∷ ls) p qs)
+        go (decide (comes R r (typesOf ps) (lineText k)))
+        (again rs (ps ++ rowParameter R r (lineText k) ∷ []) ls (p .1) qs) (again rs ps (k ∷ ls) p qs)
       where
         at : (c : List ℕ) → written (k ∷ ls) ++ (l ++ 0x0A ∷ c) ≡ lineText k ++ (written ls ++ (l ++ 0x0A ∷ c))
         at c = append-assoc (lineText k) (written ls) (l ++ 0x0A ∷ c)
@@ -304,14 +304,14 @@ module _ (R : Rules) where
         then : (c : List ℕ) → behind (written (k ∷ ls) ++ (l ++ 0x0A ∷ c)) ≡ written ls ++ (l ++ 0x0A ∷ c)
         then c = ap behind (at c) ∙ first-behind k (p .0) (written ls ++ (l ++ 0x0A ∷ c))
 
-        go : T (comes R r (kindsOf ps) (lineText k)) ⊎ (T (comes R r (kindsOf ps) (lineText k)) → ⊥) →
-            (taken R rs (ps ++ parameterOf R r (lineText k) ∷ []) (written ls ++ (l ++ 0x0A ∷ a)) ≡ upTo qs a →
-            taken R rs (ps ++ parameterOf R r (lineText k) ∷ []) (written ls ++ (l ++ 0x0A ∷ b)) ≡ upTo qs b) →
+        go : T (comes R r (typesOf ps) (lineText k)) ⊎ (T (comes R r (typesOf ps) (lineText k)) → ⊥) →
+            (taken R rs (ps ++ rowParameter R r (lineText k) ∷ []) (written ls ++ (l ++ 0x0A ∷ a)) ≡ upTo qs a →
+            taken R rs (ps ++ rowParameter R r (lineText k) ∷ []) (written ls ++ (l ++ 0x0A ∷ b)) ≡ upTo qs b) →
             (taken R rs ps (written (k ∷ ls) ++ (l ++ 0x0A ∷ a)) ≡ upTo qs a →
             taken R rs ps (written (k ∷ ls) ++ (l ++ 0x0A ∷ b)) ≡ upTo qs b) →
             taken R (r ∷ rs) ps (written (k ∷ ls) ++ (l ++ 0x0A ∷ b)) ≡ upTo qs b
         go (inl y) f g =
-            let ps' = ps ++ parameterOf R r (lineText k) ∷ [] in
+            let ps' = ps ++ rowParameter R r (lineText k) ∷ [] in
             takes r rs ps _ (lineText k) (first b) y ∙ ap (taken R rs ps') (then b)
             ∙ f (sym (takes r rs ps _ (lineText k) (first a) y ∙ ap (taken R rs ps') (then a)) ∙ e)
         go (inr n) f g =

@@ -24,7 +24,8 @@ ended-cons l n t u e = (bare l, t, u, sym (append-assoc (bare l) (0x0A ∷ []) t
 pub ended-written : (ls : List Line) → Plain ls → Ended (length ls) (written ls)
 unfolding written
 ended-written [] p = refl
-ended-written (l ∷ ls) p = ended-cons l (length ls) (written ls) (plain-unended (bare l) (p .0)) (ended-written ls (p .1))
+ended-written (l ∷ ls) p =
+    ended-cons l (length ls) (written ls) (plain-unended (bare l) (p .0)) (ended-written ls (p .1))
 
 -- ---- the octet of a line end
 unended-at : (v : List ℕ) (i : ℕ) → Unended v → i < length v → getD v i 0 ≡ 0x0A → ⊥

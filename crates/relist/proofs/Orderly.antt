@@ -21,7 +21,7 @@ use Rattle.listing.specs.Listing.{Line, lineText, written, lineOf, linesFor, ro
 use Rattle.listing.specs.Lists.{Has}
 use Rattle.listing.proofs.Lines.{has-right, has-split}
 use Rattle.listing.proofs.Plain.{Plain}
-use Rattle.relist.specs.Relist.{kindsOf, among}
+use Rattle.relist.specs.Relist.{typesOf, among}
 use Rattle.relist.specs.Sentences.{RisingKinds, Orderly}
 use Rattle.relist.proofs.Text.{index-le}
 use Rattle.relist.proofs.Said.{Row-is, tabled, row-plain}
@@ -88,25 +88,25 @@ rising-has n (q ∷ qs) r p (inl e) = omega (arith, r .0, ap (λ (x : Parameter)
 rising-has n (q ∷ qs) r p (inr h) = let z = rising-has (suc (q .kind)) qs (r .1) p h in omega (arith, r .0)
 
 -- none of a type, nor of its rival
-none-of : (t u : ℕ) (ps : List Parameter) → Below t ps → (T (among u (kindsOf ps)) → ⊥) → NoneOf t u ps
-unfolding kindsOf
+none-of : (t u : ℕ) (ps : List Parameter) → Below t ps → (T (among u (typesOf ps)) → ⊥) → NoneOf t u ps
+unfolding typesOf
 none-of t u [] b n = tt
 none-of t u (p ∷ ps) b n = (
   (λ e. let z = b .0 in omega (arith, e)),
-  (λ e. n (among-head u (p .kind) (kindsOf ps) e)),
-  none-of t u ps (b .1) (λ x. n (among-tail u (p .kind) (kindsOf ps) x)),
+  (λ e. n (among-head u (p .kind) (typesOf ps) e)),
+  none-of t u ps (b .1) (λ x. n (among-tail u (p .kind) (typesOf ps) x)),
 )
 
 -- where a type counts behind some below it, its rival is none of them
 unshut : (t u : ℕ) (ps rest : List Parameter) (v : List ℕ) → Below t ps → firstOf t u (ps ++ rest) ≡ some v →
-    T (among u (kindsOf ps)) → ⊥
-unfolding kindsOf firstOf among indexOf
+    T (among u (typesOf ps)) → ⊥
+unfolding typesOf firstOf among indexOf
 unshut t u [] rest v b e a = let z = le-of 1 0 a in absurd (omega arith)
 unshut t u (p ∷ ps) rest v b e a =
-    go (picked _ _ _ _ e) (unshut t u ps rest v (b .1)) (among-either u (p .kind) (kindsOf ps) a)
+    go (picked _ _ _ _ e) (unshut t u ps rest v (b .1)) (among-either u (p .kind) (typesOf ps) a)
   where
     later : (T (p .kind =? u) × (none ≡ some v)) ⊎ ((T (p .kind =? u) → ⊥) × (firstOf t u (ps ++ rest) ≡ some v)) →
-        (firstOf t u (ps ++ rest) ≡ some v → T (among u (kindsOf ps)) → ⊥) → (p .kind ≡ u) ⊎ T (among u (kindsOf ps)) →
+        (firstOf t u (ps ++ rest) ≡ some v → T (among u (typesOf ps)) → ⊥) → (p .kind ≡ u) ⊎ T (among u (typesOf ps)) →
         ⊥
     later (inl q) f x = clash (cc (q .1))
     later (inr q) f (inl x) = q .0 (of-eq _ _ x)
@@ -114,7 +114,7 @@ unshut t u (p ∷ ps) rest v b e a =
 
     go : (T (p .kind =? t) × (some (p .contents) ≡ some v))
         ⊎ ((T (p .kind =? t) → ⊥) × (pick (p .kind =? u) none (firstOf t u (ps ++ rest)) ≡ some v)) →
-        (firstOf t u (ps ++ rest) ≡ some v → T (among u (kindsOf ps)) → ⊥) → (p .kind ≡ u) ⊎ T (among u (kindsOf ps)) →
+        (firstOf t u (ps ++ rest) ≡ some v → T (among u (typesOf ps)) → ⊥) → (p .kind ≡ u) ⊎ T (among u (typesOf ps)) →
         ⊥
     go (inl q) f x = let z = b .0 in absurd (omega (arith, eq-of _ _ (q .0)))
     go (inr q) f x = later (picked _ _ _ _ (q .1)) f x
@@ -179,12 +179,13 @@ module _ (R : Rules) (m : Message) where
       go none e = refl
       go (some v) e =
           let f = counted-iff R m t v .0 (sym e) .first in
-          absurd (n (f .p) (subst (λ (ps : List Parameter). Has ps (f .p)) (f .is) (has-mid (f .before) (f .p) (f .after)))
+          absurd (n (f .p)
+          (subst (λ (ps : List Parameter). Has ps (f .p)) (f .is) (has-mid (f .before) (f .p) (f .after)))
           (f .kind))
 
   -- the first parameter of a choice counts
   module _ (r : Row) (q : Row-is R r) (ps : List Parameter) (b : Below (r .kind) ps) (v : List ℕ)
-      (n : T (among (rivalOf R (r .kind)) (kindsOf ps)) → ⊥) (more : List Parameter)
+      (n : T (among (rivalOf R (r .kind)) (typesOf ps)) → ⊥) (more : List Parameter)
       (e : m .parameters ≡ ps ++ said r v ∷ more) where
     row-counts : counted R m (r .kind) ≡ some v
     row-counts =
@@ -284,12 +285,12 @@ module _ (R : Rules) (z : T (tabled R 0 (R .rows))) (k : ℕ) (qs : List Paramet
       }
 
 -- ---- from an orderly message
-abbrev AllListed : List Row → List Parameter → Type 0
-AllListed rs [] = Unit {0}
-AllListed rs (q ∷ qs) = T (listedIn rs (q .kind)) × AllListed rs qs
+abbrev AllAmong : List Row → List Parameter → Type 0
+AllAmong rs [] = Unit {0}
+AllAmong rs (q ∷ qs) = T (listedIn rs (q .kind)) × AllAmong rs qs
 
 all-listed : (rs : List Row) (qs : List Parameter) → ((p : Parameter) → Has qs p → T (listedIn rs (p .kind))) →
-    AllListed rs qs
+    AllAmong rs qs
 all-listed rs [] f = tt
 all-listed rs (q ∷ qs) f = (f q (inl refl), all-listed rs qs (λ p i. f p (inr i)))
 
@@ -302,15 +303,15 @@ listed-later r rs t n l = go (either _ _ l)
     go (inl e) = absurd (n (eq-of _ _ e))
     go (inr x) = x
 
-all-later : (r : Row) (rs : List Row) (qs : List Parameter) → RisingKinds (suc (r .kind)) qs → AllListed (r ∷ rs) qs →
-    AllListed rs qs
+all-later : (r : Row) (rs : List Row) (qs : List Parameter) → RisingKinds (suc (r .kind)) qs → AllAmong (r ∷ rs) qs →
+    AllAmong rs qs
 all-later r rs [] h a = tt
 all-later r rs (q ∷ qs) h a = (
   listed-later r rs (q .kind) (λ e. let z = h .0 in omega (arith, e)) (a .0),
   all-later r rs qs (rising-less (suc (r .kind)) (suc (q .kind)) qs (let z = h .0 in omega arith) (h .1)) (a .1),
 )
 
-none-carried : (R : Rules) (qs : List Parameter) → AllListed (R .rows) qs → carriedIn R qs ≡ 0
+none-carried : (R : Rules) (qs : List Parameter) → AllAmong (R .rows) qs → carriedIn R qs ≡ 0
 unfolding carriedIn listed
 none-carried R [] a = refl
 none-carried R (q ∷ qs) a = pick-yes _ _ _ (a .0) ∙ none-carried R qs (a .1)
@@ -331,7 +332,7 @@ module _ (R : Rules) where
   module _ (m : Message) (counts : (p : Parameter) → Has (m .parameters) p → counted R m (p .kind) ≡ some (p .contents))
     where
       choose : (rs : List Row) (n : ℕ) → T (tabled R n rs) → (ps qs : List Parameter) → Below n ps →
-          m .parameters ≡ ps ++ qs → RisingKinds n qs → AllLegal R qs → AllListed rs qs →
+          m .parameters ≡ ps ++ qs → RisingKinds n qs → AllLegal R qs → AllAmong rs qs →
           (ls : List Line) × Chosen R rs ps qs ls
       unfolding listedIn
       choose [] n z ps [] b e h l a = ([], (refl, refl))
@@ -339,7 +340,8 @@ module _ (R : Rules) where
       choose (r ∷ rs) n z ps [] b e h l a =
           let f = first-is R n r rs z in
           let g = le-of _ _ (f .from) in
-          let w = choose rs (suc (r .kind)) (f .later) ps [] (below-more n (suc (r .kind)) ps (omega arith) b) e tt tt tt in
+          let w = choose rs (suc (r .kind)) (f .later) ps []
+          (below-more n (suc (r .kind)) ps (omega arith) b) e tt tt tt in
           (w .0, inl (w .1))
       choose (r ∷ rs) n z ps (q ∷ qs) b e h l a =
           let f = first-is R n r rs z in
@@ -348,7 +350,7 @@ module _ (R : Rules) where
           (choose rs (suc (r .kind)) (f .later) (ps ++ q ∷ []) qs)
           (choose rs (suc (r .kind)) (f .later) ps (q ∷ qs) (below-more n (suc (r .kind)) ps (omega arith) b) e)
         where
-          rival-free : T (among (rivalOf R (q .kind)) (kindsOf ps)) → ⊥
+          rival-free : T (among (rivalOf R (q .kind)) (typesOf ps)) → ⊥
           rival-free =
               unshut (q .kind) (rivalOf R (q .kind)) ps (q ∷ qs) (q .contents)
               (below-more n (q .kind) ps (h .0) b)
@@ -358,16 +360,17 @@ module _ (R : Rules) where
 
           go : First-is R n r rs → T (q .kind =? r .kind) ⊎ (T (q .kind =? r .kind) → ⊥) →
               (Below (suc (r .kind)) (ps ++ q ∷ []) → m .parameters ≡ (ps ++ q ∷ []) ++ qs →
-              RisingKinds (suc (r .kind)) qs → AllLegal R qs → AllListed rs qs →
+              RisingKinds (suc (r .kind)) qs → AllLegal R qs → AllAmong rs qs →
               (ls : List Line) × Chosen R rs (ps ++ q ∷ []) qs ls) →
-              (RisingKinds (suc (r .kind)) (q ∷ qs) → AllLegal R (q ∷ qs) → AllListed rs (q ∷ qs) →
+              (RisingKinds (suc (r .kind)) (q ∷ qs) → AllLegal R (q ∷ qs) → AllAmong rs (q ∷ qs) →
               (ls : List Line) × Chosen R rs ps (q ∷ qs) ls) → (ls : List Line) × Chosen R (r ∷ rs) ps (q ∷ qs) ls
           go f (inl y) take skip =
               let k : q .kind ≡ r .kind = eq-of _ _ y in
               let g = le-of _ _ (f .from) in
               let s : q ≡ said r (q .contents) = λ i. record { kind = k i; contents = q .contents } in
               let up = subst (λ (x : ℕ). RisingKinds (suc x) qs) k (h .1) in
-              let w = take (below-snoc (suc (r .kind)) ps q (below-more n (suc (r .kind)) ps (omega arith) b) (omega arith))
+              let w = take
+              (below-snoc (suc (r .kind)) ps q (below-more n (suc (r .kind)) ps (omega arith) b) (omega arith))
               (e ∙ sym (append-assoc ps (q ∷ []) qs)) up (l .1) (all-later r rs qs up (a .1)) in (
                 lineOf R r (q .contents) ∷ w .0,
                 inr (
@@ -377,7 +380,7 @@ module _ (R : Rules) where
                   ap (λ (x : Parameter). x ∷ qs) s,
                   refl,
                   subst (λ (x : ℕ). T (contentsFit (classOf R x) (q .contents))) k (l .0 .fits),
-                  subst (λ (x : ℕ). T (among (rivalOf R x) (kindsOf ps)) → ⊥) k rival-free,
+                  subst (λ (x : ℕ). T (among (rivalOf R x) (typesOf ps)) → ⊥) k rival-free,
                   subst (λ (x : Parameter). Chosen R rs (ps ++ x ∷ []) qs (w .0)) s (w .1),
                 ),
               )
@@ -392,7 +395,7 @@ module _ (R : Rules) where
               (w .0, inl (w .1))
 
   module _ (z : T (tabled R 0 (R .rows))) (m : Message) (o : Orderly R m) where
-    listed-all : AllListed (R .rows) (m .parameters)
+    listed-all : AllAmong (R .rows) (m .parameters)
     unfolding listed
     listed-all =
         all-listed (R .rows) (m .parameters)
@@ -423,7 +426,7 @@ none-chosen R (r ∷ rs) ps = inl (none-chosen R rs ps)
 -- the first of them alone
 pub one-chosen : (R : Rules) (r : Row) (rs : List Row) (v : List ℕ) → T (contentsFit (classOf R (r .kind)) v) →
     Chosen R (r ∷ rs) [] (said r v ∷ []) (lineOf R r v ∷ [])
-unfolding among kindsOf indexOf _≤?_
+unfolding among typesOf indexOf _≤?_
 one-chosen R r rs v f = inr (v, [], [], refl, refl, f, (λ a. a), none-chosen R rs (said r v ∷ []))
 
 -- as many lines as parameters
@@ -432,4 +435,5 @@ pub chosen-long : (R : Rules) (rs : List Row) (ps qs : List Parameter) (ls : Lis
 chosen-long R [] ps qs ls c = ap length (c .1) ∙ ap length (sym (c .0))
 chosen-long R (r ∷ rs) ps qs ls (inl c) = chosen-long R rs ps qs ls c
 chosen-long R (r ∷ rs) ps qs ls (inr c) =
-    ap length (c .4) ∙ ap suc (chosen-long R rs (ps ++ said r (c .0) ∷ []) (c .1) (c .2) (c .7)) ∙ sym (ap length (c .3))
+    ap length (c .4) ∙ ap suc (chosen-long R rs (ps ++ said r (c .0) ∷ []) (c .1) (c .2) (c .7))
+    ∙ sym (ap length (c .3))

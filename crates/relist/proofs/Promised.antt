@@ -1,5 +1,5 @@
--- What the promise of `message_of` says of any text, over the written rules; and, with that of `listing`, there and back
--- (demand 2).
+-- What the promise of `message_of` says of any text, over the written rules; and, with that of `listing`, there and
+-- back (demand 2).
 -- Assumes nothing.
 use Prim.Native.Nat.{ℕ, _≤_}
 use mathlib.Core.Path.{_≡_, refl, sym, _∙_, ap, subst}

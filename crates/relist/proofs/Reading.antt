@@ -22,7 +22,7 @@ use Rattle.rules.proofs.ContentLaw.{lawful}
 use Rattle.listing.specs.Listing.{lineOf, saysLine, rowAt, rowCount}
 use Rattle.listing.proofs.Values.{value, surplus-most}
 use Rattle.listing.proofs.Longest.{line-long}
-use Rattle.relist.specs.Back.{backOf, contentsOf, back}
+use Rattle.relist.specs.Back.{backOf, readOff, back}
 use Rattle.relist.specs.Relist.{lineIn, behind, valueIn, rowContents, rowSays, among, comes}
 use Rattle.relist.specs.Reading.{longestValue, Holds, LineRead, RowRead}
 use Rattle.relist.proofs.Text.{index-le, line-split}
@@ -83,11 +83,13 @@ module _ (R : Rules) (r : Row) (l : List ℕ) (s : T (rowSays R r l)) where
   -- its contents
   pub says-some : 1 ≤ length (rowContents R r l)
   says-some =
-      lawful (classOf R (r .kind)) .least _ (lawful (classOf R (r .kind)) .fit-length (rowContents R r l) (says-fit R r l s))
+      lawful (classOf R (r .kind)) .least _
+      (lawful (classOf R (r .kind)) .fit-length (rowContents R r l) (says-fit R r l s))
 
   pub says-few : length (rowContents R r l) ≤ 253
   says-few =
-      lawful (classOf R (r .kind)) .most _ (lawful (classOf R (r .kind)) .fit-length (rowContents R r l) (says-fit R r l s))
+      lawful (classOf R (r .kind)) .most _
+      (lawful (classOf R (r .kind)) .fit-length (rowContents R r l) (says-fit R r l s))
 
   -- its length
   says-long : (n : ℕ) × (n ≤ longestValue) × (length l ≡ length (r .key) + n + 2)
@@ -137,11 +139,11 @@ module _ (R : Rules) (r : Row) (l area : List ℕ) where
         ap₂ (λ (n m : ℕ). take n (drop (m + 1) l)) n e
 
     pub read-value : (n : ℕ) →
-        Holds (contentsOf (backOf (styleOf c) (take (length l - 1 - (k + 1)) (drop (k + 1) l)))
+        Holds (readOff (backOf (styleOf c) (take (length l - 1 - (k + 1)) (drop (k + 1) l)))
         (take (length l - 1 - (k + 1)) (drop (k + 1) l))) area n → Holds (rowContents R r l) area n
     unfolding rowContents back
     read-value n h =
-        let q = ap₂ (λ (c : Class) (v : List ℕ). contentsOf (backOf (styleOf c) v) v) d value-is in
+        let q = ap₂ (λ (c : Class) (v : List ℕ). readOff (backOf (styleOf c) v) v) d value-is in
         record { long = h .long ∙ ap length q; octets = h .octets ∙ q }
 
 -- ---- the test of a line, by the number of its row

@@ -20,7 +20,7 @@ use Rattle.rules.specs.declared.Book.the-variants.{PresentLenient}
 use Rattle.rules.specs.Message.{Parameter, body}
 use Rattle.rules.proofs.Unlisted.{body-append}
 use Rattle.listing.specs.Listing.{noRow, rowAt, rowCount, row-count}
-use Rattle.relist.specs.Relist.{lineIn, behind, rowContents, rowSays, kindsOf, among, comes, parameterOf, Lined, taken}
+use Rattle.relist.specs.Relist.{lineIn, behind, rowContents, rowSays, typesOf, among, comes, rowParameter, Lined, taken}
 use Rattle.relist.specs.Reading.{RowRead, LaidBehind, TookRows}
 use Rattle.relist.proofs.Reading.{line-within, line-part, line-rest, says-some, says-few}
 use Rattle.relist.proofs.Said.{comes-both}
@@ -32,8 +32,8 @@ abbrev rows : List Row
 rows = R .rows
 
 -- ---- parameters behind parameters
-kinds-append : (ps qs : List Parameter) → kindsOf (ps ++ qs) ≡ kindsOf ps ++ kindsOf qs
-unfolding kindsOf
+kinds-append : (ps qs : List Parameter) → typesOf (ps ++ qs) ≡ typesOf ps ++ typesOf qs
+unfolding typesOf
 kinds-append [] qs = refl
 kinds-append (p ∷ ps) qs = ap (λ (l : List ℕ). p .kind ∷ l) (kinds-append ps qs)
 
@@ -44,10 +44,10 @@ body-one p = ap (λ (l : List ℕ). p .kind ∷ length (p .contents) ∷ l) (app
 -- ---- the next row
 module _ (i : ℕ) (h : i < rowCount) (ps : List Parameter) (d : List ℕ) where
   abbrev next : Parameter
-  next = parameterOf R (rowAt i) (lineIn d)
+  next = rowParameter R (rowAt i) (lineIn d)
 
   abbrev comesNext : Bool
-  comesNext = comes R (rowAt i) (kindsOf ps) (lineIn d)
+  comesNext = comes R (rowAt i) (typesOf ps) (lineIn d)
 
   step : taken R (drop i rows) ps d ≡ taken R (drop (i + 1) rows) (pick comesNext (ps ++ next ∷ []) ps)
       (pick comesNext (behind d) d)
@@ -67,7 +67,7 @@ module _ (i : ℕ) (h : i < rowCount) (ps : List Parameter) (d : List ℕ) where
 pub record AfterRows (t : List ℕ) (first : ℕ) (area kinds : List ℕ) (at count size i : ℕ) : Type 0 where
   pub parameters : List Parameter
   pub goes : taken R rows [] (drop first t) ≡ taken R (drop i rows) parameters (drop at t)
-  pub among : take count kinds ≡ kindsOf parameters
+  pub among : take count kinds ≡ typesOf parameters
   pub many : count ≡ length parameters
   pub few : count ≤ i
   pub below : i ≤ rowCount
@@ -80,7 +80,7 @@ pub record AfterRows (t : List ℕ) (first : ℕ) (area kinds : List ℕ) (at co
 
 pub took-nothing : (t : List ℕ) (first : ℕ) (area kinds : List ℕ) → first ≤ length t → length area ≡ 255 →
     length kinds ≡ rowCount → AfterRows t first area kinds first 0 0 0
-unfolding kindsOf body
+unfolding typesOf body
 took-nothing t first area kinds h l k =
     record {
       parameters = [];
@@ -109,9 +109,9 @@ module _ (t : List ℕ) (first : ℕ) (area kinds : List ℕ) (at count size i :
     abbrev line : List ℕ
     line = lineIn (drop at t)
 
-    read : RowRead R (rowAt i) (kindsOf (w .parameters)) line new n
+    read : RowRead R (rowAt i) (typesOf (w .parameters)) line new n
     read =
-        subst (λ (l : List ℕ). RowRead R (rowAt i) (kindsOf (w .parameters)) l new n)
+        subst (λ (l : List ℕ). RowRead R (rowAt i) (typesOf (w .parameters)) l new n)
         (line-part t at (w .inside) end e)
         (subst (λ (ks : List ℕ). RowRead R (rowAt i) ks (take (end - at) (drop at t)) new n) (w .among) q)
 
@@ -119,7 +119,7 @@ module _ (t : List ℕ) (first : ℕ) (area kinds : List ℕ) (at count size i :
     comes-now = comesNext i h (w .parameters) (drop at t)
 
     says : T comes-now → T (rowSays R (rowAt i) line)
-    says c = comes-both R (rowAt i) line (kindsOf (w .parameters)) c .1
+    says c = comes-both R (rowAt i) line (typesOf (w .parameters)) c .1
 
     comes-long : T comes-now → n ≡ length (rowContents R (rowAt i) line)
     comes-long c = read .size ∙ pick-yes _ _ _ c
@@ -172,7 +172,7 @@ module _ (t : List ℕ) (first : ℕ) (area kinds : List ℕ) (at count size i :
       pub took-more : (kind : ℕ) → kind ≡ rowAt i .kind → (last : List ℕ) (to : ℕ) →
           LaidBehind kind (take n new) area size last to → length last ≡ length area →
           AfterRows t first last (set kinds count kind) end (count + 1) to (i + 1)
-      unfolding kindsOf
+      unfolding typesOf
       took-more kind k last to l m =
           let ps = w .parameters in
           let b : body (ps ++ more ∷ []) ≡ body ps ++ kind ∷ length (take n new) ∷ take n new =

@@ -174,14 +174,16 @@ module _ (R : Rules) (r : Row) (q : Row-is R r) where
   says-value l t =
       let e : printed (styleOf (classOf R (r .kind))) (rowContents R r l) ≡ valueIn r l =
       sym (value-in (rowContents R r l)) ∙ ap (valueIn r) (says-text R r l t) in
-      pick-yes _ _ _ (subst (λ (v : List ℕ). T (sameOctets (printed (styleOf (classOf R (r .kind))) (rowContents R r l)) v)) e
+      pick-yes _ _ _
+      (subst (λ (v : List ℕ). T (sameOctets (printed (styleOf (classOf R (r .kind))) (rowContents R r l)) v)) e
       (octets-self _))
 
   -- a line with another key is not its own
   pub says-not : (l : Line) → indexOf 0x3D (l .key) ≡ length (l .key) → (r .key ≡ l .key → ⊥) →
       T (rowSays R r (lineText l)) → ⊥
   unfolding lineOf
-  says-not l c n t = n (same-key (lineOf R r (rowContents R r (lineText l))) l (q .cut) c (says-text R r (lineText l) t))
+  says-not l c n t =
+      n (same-key (lineOf R r (rowContents R r (lineText l))) l (q .cut) c (says-text R r (lineText l) t))
 
 -- the last line
 pub carried-cut : indexOf 0x3D (carriedLine 0 .key) ≡ length (carriedLine 0 .key)

@@ -18,7 +18,7 @@ use Rattle.rules.specs.Laying.{laid, laidAt}
 use Rattle.rules.proofs.Laying.{laid-front, laid-then, rest-whole, rest-copied}
 use Rattle.rules.specs.Table.{Style, clock, verbatim, switch, reference, decimal, hex, numbered, moment, duration, charge, terminal, display}
 use Rattle.writer.proofs.Laying.{sealed}
-use Rattle.relist.specs.Back.{pairsBack, headBack, oneBack, switchBack, stateBack, referenceBack, momentBack, terminalBack, backOf, contentsOf}
+use Rattle.relist.specs.Back.{pairsBack, headBack, oneBack, switchBack, stateBack, referenceBack, momentBack, terminalBack, backOf, readOff}
 use Rattle.relist.specs.Reading.{Holds, LaidBehind, Sealed}
 use Rattle.relist.specs.declared.Back.{Back}
 
@@ -67,11 +67,11 @@ module _ (s : Style) (t : List ℕ) (b : Back) (e : b ≡ backOf s t) where
     head-laid = q ∙ ap (λ (v : List ℕ). v ++ drop (length head) old) (take-length head)
 
     -- and are all
-    pub read-head : length t ≤ b .from → Holds (contentsOf (backOf s t) t) out (b .length)
-    unfolding contentsOf laid
+    pub read-head : length t ≤ b .from → Holds (readOff (backOf s t) t) out (b .length)
+    unfolding readOff laid
     read-head h =
-        let z : contentsOf (backOf s t) t ≡ head =
-        ap (λ (b : Back). contentsOf b t) (sym e)
+        let z : readOff (backOf s t) t ≡ head =
+        ap (λ (b : Back). readOff b t) (sym e)
         ∙ ap (λ (v : List ℕ). head ++ v) (drop-of-length-le t {i = b .from} h) ∙ append-nil head in
         record {
           long = sym head-long ∙ ap length (sym z);
@@ -83,13 +83,13 @@ module _ (s : Style) (t : List ℕ) (b : Back) (e : b ≡ backOf s t) where
     pub read-both : b .from < length t → (last : List ℕ) →
         (let w = take (length t - b .from) (drop (b .from) t) in
         last ≡ take (length w) w ++ drop (length w) (take (length out - b .length) (drop (b .length) out))) →
-        Holds (contentsOf (backOf s t) t) (putMid (b .length) (length out - b .length) out last)
+        Holds (readOff (backOf s t) t) (putMid (b .length) (length out - b .length) out last)
         (b .length + (length t - b .from))
-    unfolding contentsOf laid
+    unfolding readOff laid
     read-both h last p =
         let w = take (length t - b .from) (drop (b .from) t) in
-        let z : contentsOf (backOf s t) t ≡ head ++ w =
-        ap (λ (b : Back). contentsOf b t) (sym e) ∙ ap (λ (v : List ℕ). head ++ v) (sym (rest-whole (b .from) t)) in
+        let z : readOff (backOf s t) t ≡ head ++ w =
+        ap (λ (b : Back). readOff b t) (sym e) ∙ ap (λ (v : List ℕ). head ++ v) (sym (rest-whole (b .from) t)) in
         let n : length (head ++ w) ≡ b .length + (length t - b .from) =
         omega (
           arith,

@@ -16,6 +16,7 @@ message-of-settled κs a r r' s s' p q =
     let e = p .0 ∙ sym (q .0) in (
       e,
       p .1
-          ∙ ap (λ (w : Writing). outputAfter (w .answer) (octets (messageFor (rulesOf PresentLenient) (a .0 .now))) (a .1 .0 .now)) e
+          ∙ ap (λ (w : Writing). outputAfter (w .answer) (octets (messageFor (rulesOf PresentLenient) (a .0 .now)))
+          (a .1 .0 .now)) e
           ∙ sym (q .1),
     )

@@ -1,6 +1,6 @@
--- Every text is a valid listing or is spoilt at a line. That a line spoils: a valid listing that has the lines before it
--- and this one would have been taken up to this line as the text was, since what rows take hangs on the lines so far
--- alone; and then this line is its last, with a value line before it.
+-- Every text is a valid listing or is spoilt at a line. That a line spoils: a valid listing that has the lines before
+-- it and this one would have been taken up to this line as the text was, since what rows take hangs on the lines so
+-- far alone; and then this line is its last, with a value line before it.
 -- Assumes nothing.
 use Prim.Native.Nat.{ℕ, zero, suc, _+_, _≤_}
 use mathlib.Core.Path.{_≡_, refl, sym, _∙_, ap, ap₂, subst}
@@ -188,7 +188,8 @@ module _ (t : List ℕ) (n : kindIn (lineIn t) ≡ 0 → ⊥) where
   unfolding linedIn
   nothing-left e v =
       let q : before ≡ t = sym (append-nil before) ∙ ap (λ (x : List ℕ). before ++ x) (sym e) ∙ whole-text in
-      let d : left ≡ last = ap (λ (x : Lined). x .rest) (says-lined (v .0) t (subst (λ (x : List ℕ). Says R (v .0) x) q (v .1))) in
+      let d : left ≡ last =
+      ap (λ (x : Lined). x .rest) (says-lined (v .0) t (subst (λ (x : List ℕ). Says R (v .0) x) q (v .1))) in
       absurd (omega (arith, ap length (sym e ∙ d), last-long))
 
   -- no value line
@@ -198,7 +199,8 @@ module _ (t : List ℕ) (n : kindIn (lineIn t) ≡ 0 → ⊥) where
       let q : ls ≡ [] = empty ls (long ∙ z) in
       subst (SpoiltAt R t) (ap (λ (x : List Line). suc (suc (length x))) q)
       (spoilt-from t before left (suc (length ls)) whole-text ended
-      (subst (Begins R) (sym (append-nil (first k)) ∙ ap (λ (x : List Line). first k ++ written x) (sym q)) (shortest k kind))
+      (subst (Begins R) (sym (append-nil (first k)) ∙ ap (λ (x : List Line). first k ++ written x) (sym q))
+      (shortest k kind))
       nothing-left
       (λ l more u e c. let s = subst (λ (x : List ℕ). Says R (c .1 .0) x) (line-then before l (c .0)) (c .1 .1) in
       let h = s .0 .one in
@@ -240,7 +242,8 @@ module _ (t : List ℕ) (n : kindIn (lineIn t) ≡ 0 → ⊥) where
       -- nothing behind it
       pub all-said : behind left ≡ [] → Says R m t
       all-said e =
-          subst (Says R m) (sym (append-nil (before ++ last)) ∙ ap (λ (x : List ℕ). (before ++ last) ++ x) (sym e) ∙ all-text)
+          subst (Says R m)
+          (sym (append-nil (before ++ last)) ∙ ap (λ (x : List ℕ). (before ++ last) ++ x) (sym e) ∙ all-text)
           says
 
       -- or something
@@ -257,7 +260,8 @@ module _ (t : List ℕ) (n : kindIn (lineIn t) ≡ 0 → ⊥) where
           beyond l b m' s =
               let v = l ++ 0x0A ∷ b in
               let q : ((before ++ last) ++ l ++ 0x0A ∷ []) ++ b ≡ before ++ (end ++ 0x0A ∷ v) =
-              line-then (before ++ last) l b ∙ append-assoc before last v ∙ ap (λ (x : List ℕ). before ++ x) (last-is v) in
+              line-then (before ++ last) l b ∙ append-assoc before last v
+              ∙ ap (λ (x : List ℕ). before ++ x) (last-is v) in
               let d = stuck-last end (behind left) end-unended (left-is ∙ last-is (behind left)) v m'
               (subst (Says R m') q s) in
               absurd (omega (arith, ap length d, last-long, length-append end (0x0A ∷ v), length-append l (0x0A ∷ b)))
@@ -279,7 +283,8 @@ module _ (t : List ℕ) (room : ℕ) where
           (length (body (taken R (R .rows) [] (behind t) .parameters))) room
       begun n =
           pick-not _ _ _ (λ e. n (eq-of _ _ e))
-          ∙ ap (λ (x : ℕ). closed x (left t n) (length (body (taken R (R .rows) [] (behind t) .parameters))) room) (told n)
+          ∙ ap (λ (x : ℕ). closed x (left t n) (length (body (taken R (R .rows) [] (behind t) .parameters))) room)
+          (told n)
 
       after : (n : kindIn (lineIn t) ≡ 0 → ⊥) (h : 1 ≤ length (ps t n)) (c : T (length (ps t n) =? 0) → ⊥)
           (y : T (sameOctets last (lineIn (left t n)))) →
@@ -296,7 +301,8 @@ module _ (t : List ℕ) (room : ℕ) where
       valued n c (inr x) =
           spoilt (length (ps t n) + 2) (begun n ∙ pick-not _ _ _ c ∙ pick-not _ _ _ x) (no-last t n (not-zero _ c) x)
 
-      counted : (n : kindIn (lineIn t) ≡ 0 → ⊥) → T (length (ps t n) =? 0) ⊎ (T (length (ps t n) =? 0) → ⊥) → Read t room
+      counted : (n : kindIn (lineIn t) ≡ 0 → ⊥) → T (length (ps t n) =? 0) ⊎ (T (length (ps t n) =? 0) → ⊥) →
+          Read t room
       counted n (inl z) = spoilt 2 (begun n ∙ pick-yes _ _ _ z) (no-value t n (eq-of _ _ z))
       counted n (inr c) = valued n c (decide (sameOctets last (lineIn (left t n))))
 

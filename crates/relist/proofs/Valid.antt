@@ -17,7 +17,8 @@ use Rattle.rules.specs.declared.Book.the-variants.{PresentLenient}
 use Rattle.rules.specs.Message.{Parameter, Message, body, messageKind}
 use Rattle.listing.specs.Listing.{Line, lineText, written, kindLine, carriedLine}
 use Rattle.listing.proofs.Plain.{bare, plain-kind, plain-carried}
-use Rattle.relist.specs.Relist.{lineIn, behind, Lined, taken, kindIn, fitted, closed, linedIn, messageFor, relisted}
+use Rattle.writer.specs.Writing.{sized}
+use Rattle.relist.specs.Relist.{lineIn, behind, Lined, taken, kindIn, closed, linedIn, messageFor, relisted}
 use Rattle.relist.specs.Sentences.{Orderly, Says, Valid, Unended}
 use Rattle.relist.proofs.Text.{plain-unended}
 use Rattle.relist.proofs.Said.{tested, first-line, first-behind}
@@ -141,7 +142,7 @@ module _ (m : Message) (t : List ℕ) (s : Says R m t) where
   unfolding messageFor
   says-message i = record { kind = says-kind i; parameters = says-lined i .parameters }
 
-  pub says-answer : (room : ℕ) → relisted R t room ≡ fitted (length (body (m .parameters))) room
+  pub says-answer : (room : ℕ) → relisted R t room ≡ sized 62 (length (body (m .parameters))) room
   unfolding relisted closed
   says-answer room =
       pick-not _ _ _ (λ e. kind-some (m .kind) (o .kind) (sym says-kind ∙ eq-of _ _ e))

@@ -29,7 +29,7 @@ use Rattle.listing.specs.Numerals.{decimal, hex, numberFrom}
 use Rattle.listing.proofs.Numerals.{decimal-says, hex-digit-says}
 use Rattle.listing.specs.Listing.{half, seconds, coded, lampWord, stateWord, reference, currency, selectorWord, selected, clock, identity, moment, duration, charge, terminal, display, printed}
 use Rattle.listing.proofs.Pieces.{with-seconds, no-seconds, is-connection, is-number, is-subaddress, is-code, is-digits}
-use Rattle.relist.specs.Back.{hexAt, numberAt, pairsBack, headBack, oneBack, switchBack, stateBack, referenceBack, momentBack, terminalBack, backOf, contentsOf, back, unprinted}
+use Rattle.relist.specs.Back.{hexAt, numberAt, pairsBack, headBack, oneBack, switchBack, stateBack, referenceBack, momentBack, terminalBack, backOf, readOff, back, unprinted}
 
 -- ---- any text
 -- a text that is read back prints as it was, in every style
@@ -103,15 +103,15 @@ decimal-number w n h =
 -- ---- two octets and a mark, again and again
 module _ (v : List ℕ) where
   clock-back : length v ≡ 8 → back clockStyle (clock v) ≡ v
-  unfolding back contentsOf backOf pairsBack clock half ascii
+  unfolding back readOff backOf pairsBack clock half ascii
   clock-back e = first-all v 8 e
 
   duration-back : length v ≡ 6 → back durationStyle (duration v) ≡ v
-  unfolding back contentsOf backOf pairsBack duration half seconds
+  unfolding back readOff backOf pairsBack duration half seconds
   duration-back e = first-all v 6 e
 
   moment-back : T (inSet (only 8 ++ only 10) (length v)) → back momentStyle (moment v) ≡ v
-  unfolding back contentsOf backOf momentBack pairsBack pick _=?_ clock half seconds ascii
+  unfolding back readOff backOf momentBack pairsBack pick _=?_ clock half seconds ascii
   moment-back =
       among 8 _ (length v)
       (λ e. ap (back momentStyle) (sym (no-seconds v (λ d. omega arith))) ∙ first-all v 8 e)
@@ -120,13 +120,13 @@ module _ (v : List ℕ) where
 
 -- ---- words
 lamp-said : (x : ℕ) → T (inSet lampSet x) → back switch (lampWord x) ≡ x ∷ []
-unfolding back contentsOf backOf switchBack oneBack headBack pick _=?_ lampWord ascii
+unfolding back readOff backOf switchBack oneBack headBack pick _=?_ lampWord ascii
 lamp-said x = among 0x00 _ x (λ e. rw e) (among 0xFF _ x (λ e. rw e) (nowhere x))
 
 -- a state and its reference, behind any word
 word-said : (w : List ℕ) (x n : ℕ) → n < 65536 →
-    contentsOf (stateBack x (w ++ decimal n) (length w)) (w ++ decimal n) ≡ x ∷ n / 256 ∷ n % 256 ∷ []
-unfolding contentsOf stateBack headBack
+    readOff (stateBack x (w ++ decimal n) (length w)) (w ++ decimal n) ≡ x ∷ n / 256 ∷ n % 256 ∷ []
+unfolding readOff stateBack headBack
 word-said w x n h =
     ap₂ (λ (m : ℕ) (r : List ℕ). x ∷ m / 256 ∷ m % 256 ∷ r) (decimal-number w n h) (drop-length (w ++ decimal n))
 
@@ -152,7 +152,7 @@ module _ (v : List ℕ) (o : Octets v) where
       ∙ ap₂ (λ (b c : ℕ). getD v 0 0 ∷ b ∷ c ∷ []) (omega arith) (omega arith) ∙ first-all v 3 e
 
   decimal-back : length v ≡ 1 → back decimalStyle (decimal (getD v 0 0)) ≡ v
-  unfolding back contentsOf backOf oneBack headBack
+  unfolding back readOff backOf oneBack headBack
   decimal-back e =
       let l = octet-at v o 0 in
       ap₂ (λ (m : ℕ) (r : List ℕ). m % 256 ∷ r) (decimal-number [] (getD v 0 0) (omega arith))
@@ -160,17 +160,17 @@ module _ (v : List ℕ) (o : Octets v) where
       ∙ ap (λ (x : ℕ). x ∷ []) (omega arith) ∙ first-all v 1 e
 
   hex-back : length v ≡ 1 → back hexStyle (hex (getD v 0 0)) ≡ v
-  unfolding back contentsOf backOf oneBack headBack hex
+  unfolding back readOff backOf oneBack headBack hex
   hex-back e = ap (λ (x : ℕ). x ∷ []) (hex-octet (getD v 0 0) (octet-at v o 0)) ∙ first-all v 1 e
 
   charge-back : 4 ≤ length v → back chargeStyle (charge v) ≡ v
-  unfolding back contentsOf backOf headBack hexAt charge currency coded hex ascii
+  unfolding back readOff backOf headBack hexAt charge currency coded hex ascii
   charge-back h =
       ap (λ (f : ℕ). getD v 0 0 ∷ getD v 1 0 ∷ getD v 2 0 ∷ f ∷ drop 4 v) (hex-octet (getD v 3 0) (octet-at v o 3))
       ∙ first-rest v 4 h
 
   display-back : 1 ≤ length v → back displayStyle (display v) ≡ v
-  unfolding back contentsOf backOf headBack hexAt display coded hex ascii
+  unfolding back readOff backOf headBack hexAt display coded hex ascii
   display-back = head-is v _ (sym (hex-octet (getD v 0 0) (octet-at v o 0)))
 
 -- ---- what a terminal is selected by
@@ -211,7 +211,7 @@ unfolding terminal
 parts-back v a b d e r = ap₂ (λ (a b : List ℕ). back terminalStyle (a ++ b)) (sym d) (sym e) ∙ r
 
 terminal-back : (v : List ℕ) → Octets v → 1 ≤ length v → Selects v → back terminalStyle (terminal v) ≡ v
-unfolding back contentsOf backOf terminalBack headBack hexAt pick _=?_ hex ascii
+unfolding back readOff backOf terminalBack headBack hexAt pick _=?_ hex ascii
 terminal-back v o h (connection d e) =
     parts-back v _ _ (is-connection _ d) (is-code v d)
     (ap₂ (λ (a b : ℕ). a ∷ b ∷ []) (sym d) (hex-octet (getD v 1 0) (octet-at v o 1)) ∙ first-all v 2 e)
@@ -228,7 +228,7 @@ Returns c = (v : List ℕ) → T (contentsFit c v) → back (styleOf c) (printed
 
 -- classes as they are
 same-value : (c : Class) → styleOf c ≡ verbatim → Returns c
-unfolding back contentsOf backOf headBack printed
+unfolding back readOff backOf headBack printed
 same-value c e v t = subst (λ (s : Style). back s (printed s v) ≡ v) (sym e) refl
 
 -- classes in two hex digits

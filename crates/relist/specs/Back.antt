@@ -84,11 +84,11 @@ backOf terminal t = terminalBack t
 backOf display t = headBack (hexAt t 0) 0 0 0 1 3
 
 -- what was read off: octets, and the text behind a place
-unfoldable pub contentsOf : Back → List ℕ → List ℕ
-contentsOf b t = take (b .length) (b .octets) ++ drop (b .from) t
+unfoldable pub readOff : Back → List ℕ → List ℕ
+readOff b t = take (b .length) (b .octets) ++ drop (b .from) t
 
 unfoldable pub back : Style → List ℕ → List ℕ
-back s t = contentsOf (backOf s t) t
+back s t = readOff (backOf s t) t
 
 -- the contents that print as a text in a style, if there are any
 unfoldable pub unprinted : Style → List ℕ → Option (List ℕ)

@@ -12,9 +12,8 @@ use Rattle.rules.specs.Table.{Rules, Row, styleOf, classOf, rivalOf}
 use Rattle.rules.specs.Message.{Parameter, Message, body}
 use Rattle.listing.specs.Listing.{lineText, kindLine, carriedLine, saysLine}
 use Rattle.writer.specs.declared.Written.{Written}
-use Rattle.writer.specs.declared.Written.the-variants as written
 use Rattle.writer.specs.declared.Writing.{Writing}
-use Rattle.writer.specs.Writing.{unwritten}
+use Rattle.writer.specs.Writing.{unwritten, sized}
 use Rattle.relist.specs.Back.{back}
 
 -- ---- the lines of a text
@@ -38,9 +37,9 @@ rowContents R r l = back (styleOf (classOf R (r .kind))) (valueIn r l)
 unfoldable pub rowSays : Rules → Row → List ℕ → Bool
 rowSays R r l = saysLine R r (rowContents R r l) l
 
-unfoldable pub kindsOf : List Parameter → List ℕ
-kindsOf [] = []
-kindsOf (p ∷ ps) = p .kind ∷ kindsOf ps
+unfoldable pub typesOf : List Parameter → List ℕ
+typesOf [] = []
+typesOf (p ∷ ps) = p .kind ∷ typesOf ps
 
 -- a type is among some
 unfoldable pub among : ℕ → List ℕ → Bool
@@ -50,8 +49,8 @@ among t ks = suc (indexOf t ks) ≤? length ks
 unfoldable pub comes : Rules → Row → List ℕ → List ℕ → Bool
 comes R r ks l = pick (among (rivalOf R (r .kind)) ks) false (rowSays R r l)
 
-abbrev pub parameterOf : Rules → Row → List ℕ → Parameter
-parameterOf R r l = record { kind = r .kind; contents = rowContents R r l }
+abbrev pub rowParameter : Rules → Row → List ℕ → Parameter
+rowParameter R r l = record { kind = r .kind; contents = rowContents R r l }
 
 -- ---- all value lines
 -- the parameters that lines said, and the text behind these lines
@@ -63,8 +62,8 @@ pub record Lined : Type 0 where
 unfoldable pub taken : Rules → List Row → List Parameter → List ℕ → Lined
 taken R [] ps t = record { parameters = ps; rest = t }
 taken R (r ∷ rs) ps t =
-    taken R rs (pick (comes R r (kindsOf ps) (lineIn t)) (ps ++ parameterOf R r (lineIn t) ∷ []) ps)
-    (pick (comes R r (kindsOf ps) (lineIn t)) (behind t) t)
+    taken R rs (pick (comes R r (typesOf ps) (lineIn t)) (ps ++ rowParameter R r (lineIn t) ∷ []) ps)
+    (pick (comes R r (typesOf ps) (lineIn t)) (behind t) t)
 
 -- ---- the answer
 -- the message type that the first line says, 0 for none
@@ -72,17 +71,13 @@ unfoldable pub kindIn : List ℕ → ℕ
 kindIn l =
     pick (sameOctets (lineText (kindLine 0x80)) l) 0x80 (pick (sameOctets (lineText (kindLine 0x82)) l) 0x82 0)
 
--- parameters of L octets: over 255 is 62; an output shorter than L + 3 is 15 there; else a message of L + 3
-unfoldable pub fitted : ℕ → ℕ → Written
-fitted l room =
-    pick (256 ≤? l) (unwritten 62 0) (pick (suc room ≤? l + 3) (unwritten 15 (l + 3)) (written.Message (l + 3)))
-
--- n value lines, then the last line, which needs one of them at least, and then nothing
+-- n value lines, then the last line, which needs one of them at least, and then nothing; parameters of l octets, over
+-- 255 of which are 62
 unfoldable pub closed : ℕ → List ℕ → ℕ → ℕ → Written
 closed n t l room =
     pick (n =? 0) (unwritten 61 2)
     (pick (sameOctets (lineText (carriedLine 0)) (lineIn t))
-    (pick (length (behind t) =? 0) (fitted l room) (unwritten 61 (n + 3)))
+    (pick (length (behind t) =? 0) (sized 62 l room) (unwritten 61 (n + 3)))
     (unwritten 61 (n + 2)))
 
 -- the value lines of a text

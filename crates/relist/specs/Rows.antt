@@ -21,9 +21,9 @@ use Rattle.listing.specs.Numerals.{digitsBy, decimal, hexDigit, hex, numberFrom
 use Rattle.listing.specs.Listing.{half, seconds, coded, lampWord, stateWord, reference, currency, selectorWord, selected, clock, identity, moment, duration, charge, terminal, display, printed, lineText, lineOf, kindLine, carriedLine, saysLine}
 use Rattle.writer.specs.declared.Written.{Written}
 use Rattle.writer.specs.declared.Written.the-variants.{Message}
-use Rattle.writer.specs.Writing.{unwritten}
-use Rattle.relist.specs.Back.{hexAt, numberAt, pairsBack, headBack, oneBack, switchBack, stateBack, referenceBack, momentBack, terminalBack, backOf, contentsOf, back}
-use Rattle.relist.specs.Relist.{lineIn, behind, valueIn, rowContents, rowSays, kindsOf, among, comes, taken, kindIn, fitted, closed, linedIn, messageFor, relisted}
+use Rattle.writer.specs.Writing.{sized, unwritten}
+use Rattle.relist.specs.Back.{hexAt, numberAt, pairsBack, headBack, oneBack, switchBack, stateBack, referenceBack, momentBack, terminalBack, backOf, readOff, back}
+use Rattle.relist.specs.Relist.{lineIn, behind, valueIn, rowContents, rowSays, typesOf, among, comes, taken, kindIn, closed, linedIn, messageFor, relisted}
 
 -- a text, the room of the output, and the answer
 pub record Example : Type 0 where
@@ -99,5 +99,5 @@ pub record Claim : Type 0 where
       []
 
 pub claim : Claim
-unfolding ascii _≤?_ _=?_ _and_ _or_ pick indexOf indexAfter pairwise within inSet digit pairFits pairsFit shortMonth days monthOf columnsFit allIn headFits dash comma missing units run amount after costs chargeFits terminalFits blank countryFits extensionFits rulesOf rowIn rowOf classOf rivalOf styleOf whole body octets total checksum digitsBy decimal hexDigit hex numberFrom hexValue half seconds coded lampWord stateWord reference currency selectorWord selected clock identity moment duration charge terminal display printed lineText lineOf kindLine carriedLine saysLine hexAt numberAt pairsBack headBack oneBack switchBack stateBack referenceBack momentBack terminalBack backOf contentsOf back lineIn behind valueIn rowContents rowSays kindsOf among comes taken kindIn fitted closed linedIn messageFor relisted answers outcomes
+unfolding ascii _≤?_ _=?_ _and_ _or_ pick indexOf indexAfter pairwise within inSet digit pairFits pairsFit shortMonth days monthOf columnsFit allIn headFits dash comma missing units run amount after costs chargeFits terminalFits blank countryFits extensionFits rulesOf rowIn rowOf classOf rivalOf styleOf whole body octets total checksum digitsBy decimal hexDigit hex numberFrom hexValue half seconds coded lampWord stateWord reference currency selectorWord selected clock identity moment duration charge terminal display printed lineText lineOf kindLine carriedLine saysLine hexAt numberAt pairsBack headBack oneBack switchBack stateBack referenceBack momentBack terminalBack backOf readOff back lineIn behind valueIn rowContents rowSays typesOf among comes taken kindIn sized closed linedIn messageFor relisted answers outcomes
 claim = record { answered = refl; made = refl }

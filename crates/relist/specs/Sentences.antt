@@ -23,9 +23,9 @@ abbrev pub RisingKinds : ℕ → List Parameter → Type 0
 RisingKinds n [] = Unit {0}
 RisingKinds n (p ∷ ps) = (n ≤ p .kind) × RisingKinds (suc (p .kind)) ps
 
--- a message that a listing says whole: a legal type and legal parameters, one at least, types rising, so that each stands
--- once and in the order of the table, and each counts: none is carried, none shut out. How many octets it has is not
--- asked here
+-- a message that a listing says whole: a legal type and legal parameters, one at least, types rising, so that each
+-- stands once and in the order of the table, and each counts: none is carried, none shut out. How many octets it has
+-- is not asked here
 pub record Orderly (R : Rules) (m : Message) : Type 0 where
   pub kind : T (messageKind (m .kind))
   pub legal : AllLegal R (m .parameters)

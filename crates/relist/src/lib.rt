@@ -16,8 +16,8 @@ ghost use Rattle.rules.specs.Message.{octets};
 ghost use Rattle.listing.specs.Numerals.{hexValue};
 ghost use Rattle.listing.specs.Listing.{rowAt, rowCount};
 ghost use Rattle.writer.specs.Writing.{outputAfter};
-ghost use Rattle.relist.specs.Back.{hexAt, numberAt, pairsBack, headBack, oneBack, switchBack, stateBack, referenceBack, momentBack, terminalBack, backOf, contentsOf};
-ghost use Rattle.relist.specs.Relist.{lineIn, taken, kindIn, fitted, closed, messageFor, relisted, relisting};
+ghost use Rattle.relist.specs.Back.{hexAt, numberAt, pairsBack, headBack, oneBack, switchBack, stateBack, referenceBack, momentBack, terminalBack, backOf, readOff};
+ghost use Rattle.relist.specs.Relist.{lineIn, taken, kindIn, closed, messageFor, relisted, relisting};
 ghost use Rattle.relist.specs.Reading.{longestValue, readSize, Holds, LineRead, RowRead, LaidBehind, TookRows, Sealed};
 
 // The octets of parameters that a message holds.
@@ -227,7 +227,7 @@ fn back_of(class: Class, text: &[u8]) -> Back
 // The contents that a value says in the style of a class, laid down: how many octets.
 fn lay_contents(class: Class, value: &[u8], out: &mut [u8]) -> usize
     requires { ⌜ (list.length (now value) ≤ longestValue) × (list.length (now out) ≡ readSize) ⌝ }
-    ensures { λ r. ⌜ Holds (contentsOf (backOf (styleOf class) (now (value .entry))) (now (value .entry))) (now (out .exit)) r ⌝ }
+    ensures { λ r. ⌜ Holds (readOff (backOf (styleOf class) (now (value .entry))) (now (value .entry))) (now (out .exit)) r ⌝ }
 {
     let back = back_of(class, value);
     let n = back.length;
@@ -342,21 +342,6 @@ fn kind_in(line: &[u8]) -> u8
     }
 }
 
-// Parameters of so many octets in an output with so much room.
-fn with_room(size: usize, room: usize) -> Written
-    ensures { λ r. ⌜ r ≡ fitted size room ⌝ }
-{
-    if BODY < size {
-        return writer::refusal(62, 0);
-    }
-    let whole = size as u16 + 3;
-    if room < whole as usize {
-        writer::refusal(15, whole)
-    } else {
-        Written::Message { size: whole }
-    }
-}
-
 // What follows the value lines: the last line, and nothing behind it.
 fn close(text: &[u8], lines: Taken, room: usize) -> Written
     requires { ⌜ (lines .at ≤ list.length (now text)) × (lines .count ≤ rowCount) ⌝ }
@@ -372,7 +357,7 @@ fn close(text: &[u8], lines: Taken, room: usize) -> Written
         if end < text.len() {
             writer::refusal(61, count + 3)
         } else {
-            with_room(lines.size, room)
+            writer::with_room(62, lines.size, room)
         }
     } else {
         writer::refusal(61, count + 2)

@@ -208,7 +208,7 @@ module _ (R : Rules) where
 -- what the writer makes of how the entries went
 unfoldable pub onMeasure : Measure → ℕ → Written
 onMeasure (Bad i) room = unwritten 12 i
-onMeasure (Size l) room = sized l room
+onMeasure (Size l) room = sized 13 l room
 
 module _ (R : Rules) (d : Draft) (texts : List ℕ) (room : ℕ) (e : length (used d) ≡ d .count) where
   went : T (suc (legalBefore R texts (used d)) ≤? d .count)

@@ -135,7 +135,7 @@ module _ (book : Book) where
         ∙ pick-not _ _ _ (λ t. omega (arith, le-of _ _ t, a .few))
         ∙ e)
 
-    made-is : (x : Written) → Asked d → AllMake (rulesOf book) d texts → sized (lengthOf d texts) room ≡ x →
+    made-is : (x : Written) → Asked d → AllMake (rulesOf book) d texts → sized 13 (lengthOf d texts) room ≡ x →
         x ≡ writeOf (rulesOf book) d texts room
     unfolding measuredOf
     made-is x a m e = asked-is x a (pick-not _ _ _ (λ t. omega (arith, le-of _ _ t, make-all d texts m)) ∙ e)

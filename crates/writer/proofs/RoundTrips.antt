@@ -170,7 +170,7 @@ module _ (R : Rules) where
       let k = e .kind in
       let c = e .count in
       λ i. pick (messageKind (k i)) (pick (c i =? 0) (unwritten 14 0)
-      (pick (suc most ≤? c i) (unwritten 13 0) (pick (suc (n i) ≤? c i) (unwritten 12 (n i)) (sized (l i) room))))
+      (pick (suc most ≤? c i) (unwritten 13 0) (pick (suc (n i) ≤? c i) (unwritten 12 (n i)) (sized 13 (l i) room))))
       (unwritten 11 0)
 
 round-trips : (R : Rules) → SoundRules R → RoundTrips R

@@ -8,10 +8,15 @@ use Rattle.writer.specs.Writing.{outputAfter}
 use Rattle.writer.specs.declared.Writing.{Writing}
 use Rattle.writer.proofs.write.Reads as write
 use Rattle.writer.proofs.sum_of.Reads as sum-of
+use Rattle.writer.proofs.with_room.Reads as with-room
 use Rattle.writer.proofs.refusal.Reads as refusal
 
 pub refusal-settled : (κs : _) (a : _) (r r' : _) (s s' : _) → refusal.Post κs a r s → refusal.Post κs a r' s' → r ≡ r'
 refusal-settled κs a r r' s s' p q = p ∙ sym q
+
+pub with-room-settled : (κs : _) (a : _) (r r' : _) (s s' : _) → with-room.Post κs a r s → with-room.Post κs a r' s' →
+    r ≡ r'
+with-room-settled κs a r r' s s' p q = p ∙ sym q
 
 pub sum-of-settled : (κs : _) (a : _) (r r' : _) (s s' : _) → sum-of.Post κs a r s → sum-of.Post κs a r' s' → r ≡ r'
 sum-of-settled κs a r r' s s' p q = p ∙ sym q

@@ -41,16 +41,17 @@ legalBefore R texts [] = 0
 legalBefore R texts (e ∷ es) = pick (legalEntry R texts e) (suc (legalBefore R texts es)) 0
 
 -- ---- the answer
--- parameters of L octets: over 255 is 13; an output shorter than L + 3 is 15 there; else a message of L + 3
-unfoldable pub sized : ℕ → ℕ → Written
-sized l room = pick (256 ≤? l) (unwritten 13 0) (pick (suc room ≤? l + 3) (unwritten 15 (l + 3)) (Message (l + 3)))
+-- parameters of L octets: over 255 is refused with the number k; an output shorter than L + 3 is 15 there; else a
+-- message of L + 3
+unfoldable pub sized : ℕ → ℕ → ℕ → Written
+sized k l room = pick (256 ≤? l) (unwritten k 0) (pick (suc room ≤? l + 3) (unwritten 15 (l + 3)) (Message (l + 3)))
 
 -- 12 at the first entry that makes no legal parameter
 unfoldable pub measuredOf : Rules → Draft → List ℕ → ℕ → Written
 measuredOf R d texts room =
     pick (suc (legalBefore R texts (used d)) ≤? d .count)
     (unwritten 12 (legalBefore R texts (used d)))
-    (sized (length (body (parametersOf texts (used d)))) room)
+    (sized 13 (length (body (parametersOf texts (used d)))) room)
 
 -- in document 01's order: 11, 14, the 85 entries of 13, 12, the 255 octets of 13, 15
 unfoldable pub writeOf : Rules → Draft → List ℕ → ℕ → Written

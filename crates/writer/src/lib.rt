@@ -277,12 +277,12 @@ pub fn refusal(number: u8, place: u16) -> Written
     }
 }
 
-// A body of so many octets in an output with so much room.
-fn with_room(size: usize, room: usize) -> Written
-    ensures { λ r. ⌜ r ≡ sized size room ⌝ }
+// Parameters of so many octets in an output with so much room; the number is that of more than a message holds.
+pub fn with_room(number: u8, size: usize, room: usize) -> Written
+    ensures { λ r. ⌜ r ≡ sized number size room ⌝ }
 {
     if 255 < size {
-        return refusal(13, 0);
+        return refusal(number, 0);
     }
     let whole = size as u16 + 3;
     if room < whole as usize {
@@ -299,7 +299,7 @@ fn with_entries(book: Book, draft: Draft, texts: &[u8], room: usize) -> Written
     let measured = measure_entries(book, draft, texts);
     match measured {
         Measure::Bad(i) => refusal(12, i),
-        Measure::Size(size) => with_room(size, room),
+        Measure::Size(size) => with_room(13, size, room),
     }
 }
 

@@ -1,4 +1,4 @@
--- `writer::with_room` meets its contract: 13, 15 or a message.
+-- `writer::with_room` meets its contract: the number of more than a message holds, 15, or a message.
 -- Assumes nothing.
 use mathlib.Core.Path.{refl, _∙_}
 use native.Mathlib.Omega.{arith}
