@@ -1,5 +1,7 @@
 // The caption of a message (document 01, The caption): a part of the message or a part of a lent directory. `find`
 // says which, where and how long, or a refusal; `caption` returns that part itself, and which in a lent code.
+#![tactic(auto)]
+
 ghost use Rattle.std.specs.Prelude.{◌≡◌, ◌+◌, ◌≤◌, ◌<◌, length, take, drop};
 ghost use Rattle.rules.specs.Table.{rules_of};
 ghost use Rattle.message.specs.Parts.{counted_at};
@@ -10,7 +12,7 @@ use message::{Part, Verdict};
 use rules::{Book, Fault};
 
 // Where the caption stands, or a refusal.
-#[derive(Drop)]
+#[derive(Clone, Copy)]
 pub enum Shown {
     InMessage { start: usize, length: usize },
     InDirectory { start: usize, length: usize },
@@ -18,21 +20,21 @@ pub enum Shown {
 }
 
 // What is shown, and the edition that the answer names: 0 with 16 (document 02, Q-5).
-#[derive(Drop)]
+#[derive(Clone, Copy)]
 pub struct Finding {
     pub edition: u8,
     pub shown: Shown,
 }
 
 // How long a line is, and whether it is for the caller.
-#[derive(Drop)]
+#[derive(Clone, Copy)]
 struct CutLine {
     size: usize,
     named: bool,
 }
 
 // Where the text for a caller stands in the directory.
-#[derive(Drop)]
+#[derive(Clone, Copy)]
 enum CallerText {
     Text { start: usize, length: usize },
     Missing,

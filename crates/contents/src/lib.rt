@@ -1,6 +1,8 @@
 // The octets of contents (document 01, The message; document 02, Q-2, Q-4 and Q-7): whether one may stand where it
 // stands and what is remembered of it, octet by octet; how many may stand of contents as a whole, and whether these
 // fit their class. Every public function is total.
+#![tactic(auto)]
+
 pub mod kinds;
 
 ghost use Rattle.std.specs.Prelude.{◌≡◌, true, [], ◌∷◌, ◌++◌, ◌+◌, ◌*◌, ◌-◌, ◌≤◌};

@@ -1,7 +1,7 @@
 -- Which messages are still open on a desk (document 02, Q-6): sixteen places, each 0, free, or one more than the
 -- reference that it holds.
 -- Assumes nothing.
-use Rattle.std.specs.Prelude.{ℕ, suc, ◌+◌, ◌*◌, Bool, true, false, List, [], ◌∷◌, length, set}
+use Rattle.std.specs.Prelude.{ℕ, suc, Bool, true, false, List, [], ◌∷◌, length, set}
 use Rattle.rules.specs.Tests.{◌≤?◌, ◌=?◌, ◌and◌, pick}
 use Rattle.desk.specs.declared.Change.{Change}
 use Rattle.desk.specs.declared.Change.TheVariants.{Nothing, Adds, Removes}

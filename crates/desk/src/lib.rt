@@ -1,5 +1,7 @@
 // The desk on which notices are settled (document 01, The desk; document 02, Q-6). It goes in by value and comes back
 // by value.
+#![tactic(auto)]
+
 ghost use Rattle.std.specs.Prelude.{◌≡◌, suc, ◌+◌, ◌≤◌, ◌<◌};
 ghost use Rattle.std.proofs.Math.ListN as list;
 ghost use Rattle.rules.specs.Table.{rules_of};
@@ -19,13 +21,13 @@ const FREE: u32 = 0;
 
 const LAST: u32 = 65536;
 
-#[derive(Drop)]
+#[derive(Clone, Copy)]
 pub enum Waiting {
     Unknown,
     Number(u8),
 }
 
-#[derive(Drop)]
+#[derive(Clone, Copy)]
 pub enum Lamp {
     Unknown,
     Off,
@@ -33,35 +35,35 @@ pub enum Lamp {
 }
 
 // In a place 0 is free; else it is one more than the reference that it holds.
-#[derive(Drop)]
+#[derive(Clone, Copy)]
 pub struct Desk {
     pub waiting: Waiting,
     pub lamp: Lamp,
     pub places: [u32; PLACES],
 }
 
-#[derive(Drop)]
+#[derive(Clone, Copy)]
 pub enum Answer {
     Done,
     Refused(Fault),
 }
 
 // The desk as it then stands, and the answer.
-#[derive(Drop)]
+#[derive(Clone, Copy)]
 pub struct Outcome {
     pub desk: Desk,
     pub answer: Answer,
 }
 
 // An outcome, and the edition that its answer names: 0 with 16 and 17 (document 02, Q-5).
-#[derive(Drop)]
+#[derive(Clone, Copy)]
 pub struct Settling {
     pub edition: u8,
     pub outcome: Outcome,
 }
 
 // What a notice does to a reference.
-#[derive(Drop)]
+#[derive(Clone, Copy)]
 enum Change {
     Nothing,
     Adds(u16),

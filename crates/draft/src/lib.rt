@@ -1,5 +1,7 @@
 // Drafts (document 01, Drafts; document 02, Q-4 and Q-5): an edition, a message type and up to 85 entries, each a
 // parameter type with its value.
+#![tactic(auto)]
+
 ghost use Rattle.std.specs.Prelude.{◌≡◌, ◌+◌, ◌≤◌};
 ghost use Rattle.std.proofs.Math.ListN as list;
 ghost use Rattle.rules.specs.Tests.{◌≤?◌};
@@ -13,7 +15,7 @@ ghost use Rattle.draft.specs.Same.{flat_of, flat_numbers, flat_text, same_text, 
 
 use rules::{Class, Form, MOST};
 
-#[derive(Drop)]
+#[derive(Clone, Copy)]
 pub enum Value {
     Date {
         month: u8,
@@ -55,14 +57,14 @@ pub enum Value {
     },
 }
 
-#[derive(Drop)]
+#[derive(Clone, Copy)]
 pub struct Entry {
     pub kind: u8,
     pub value: Value,
 }
 
 // A message type, the entries, and the number of the edition by which they are written (document 02, Q-5).
-#[derive(Drop)]
+#[derive(Clone, Copy)]
 pub struct Draft {
     pub kind: u8,
     pub count: usize,
@@ -148,7 +150,7 @@ pub fn form_of(class: Class) -> u8
 
 // A value laid flat: the number of its kind, its numbers (0 where it has fewer than five; the mark of a marked text is
 // its first), and where its text lies (0 and 0 where it has none).
-#[derive(Drop)]
+#[derive(Clone, Copy)]
 pub struct Flat {
     pub form: u8,
     pub first: u16,

@@ -1,7 +1,7 @@
 -- The codes that a record of an edition and a way may hold are exactly those of the classes of its book that some type
 -- has and that can stand: all of the lenient way, and those of the rows by the strict one.
 -- Assumes nothing.
-use Prim.Native.Nat.{ℕ, zero, suc, ◌≤◌}
+use Prim.Native.Nat.{ℕ, zero, suc}
 use mathlib.Core.Path.{◌≡◌, refl, subst}
 use mathlib.Core.Bool.{Bool, true, false}
 use mathlib.Core.Logic.{◌↔◌}

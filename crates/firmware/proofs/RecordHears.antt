@@ -27,7 +27,7 @@ use Rattle.listener.specs.declared.Answer.{Answer}
 use Rattle.listener.specs.declared.Answer.TheVariants.{Waits, Message, Refused}
 use Rattle.listener.specs.declared.Heard.{Heard}
 use Rattle.listener.specs.Told.{told}
-use Rattle.listener.specs.Heard.{stepped, unknown_numbers, heard_of, new_listener}
+use Rattle.listener.specs.Heard.{stepped, heard_of, new_listener}
 use Rattle.listener.specs.Answers.{InRange}
 use Rattle.listener.specs.Answers as answers
 use Rattle.listener.proofs.Hears as listening

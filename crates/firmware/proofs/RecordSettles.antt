@@ -20,7 +20,6 @@ use Rattle.rules.specs.declared.Book.{Book}
 use Rattle.message.specs.Judges.{verdict_number}
 use Rattle.message.proofs.Judges.{told_small, near_declined, few_declined}
 use Rattle.rules.specs.declared.Fault.{Fault}
-use Rattle.rules.specs.Refusals.{noted}
 use Rattle.rules.specs.Language.{language_of}
 use Rattle.rules.proofs.Grammar.{spoken_of}
 use Rattle.desk.specs.declared.Desk.{Desk}

@@ -15,7 +15,7 @@ use reader::Taken;
 use rules::Book;
 
 // The kind of a value and its numbers.
-#[derive(Drop)]
+#[derive(Clone, Copy)]
 struct Numbers {
     form: u8,
     a: u8,
@@ -134,10 +134,21 @@ fn clear(cells: &mut [u8])
 }
 
 // How many entries were laid down, and how many text octets.
-#[derive(Drop)]
+#[derive(Clone, Copy)]
 struct Filled {
     count: usize,
     used: usize,
+}
+
+// Octets over the first of others. A loop of its own, since std's copy would have the archive ask for memmove, which the
+// header does not name.
+fn copy(from: &[u8], to: &mut [u8])
+    requires { length from.now ≤ length to.old }
+    ensures { to.new ≡ laid from.now to.old }
+{
+    for (i, x) in from.iter().enumerate() {
+        to[i] = *x;
+    }
 }
 
 // The entries of the message's parameters, each at its place, and their texts one behind the other, in one walk.
@@ -158,7 +169,7 @@ fn lay_entries(book: Book, octets: &[u8], cells: &mut [u8], texts: &mut [u8]) ->
                 lay_entry(&mut cells[8 + 8 * count..], entry);
                 let start = place - text;
                 let end = start + text;
-                bytes::copy(&octets[start..end], &mut texts[used..]);
+                copy(&octets[start..end], &mut texts[used..]);
                 used += text;
                 at = place;
                 count += 1;

@@ -1,5 +1,7 @@
 // The listener, the reader, the desk, what counts and the caption for the boxes' firmware, which is C: records of
 // octets, and answers packed into one word (include/anthercup.h says the same to C).
+#![tactic(auto)]
+
 mod desks;
 mod drafts;
 mod parts;
@@ -32,7 +34,7 @@ const LISTENER: usize = 16;
 const DRAFT: usize = 688;
 
 // The numbers that a listener's record holds; what a state does not use is 0.
-#[derive(Drop)]
+#[derive(Clone, Copy)]
 struct Fields {
     stage: u8,
     sum: u8,
@@ -47,7 +49,7 @@ struct Fields {
     parameter: u8,
 }
 
-#[derive(Drop)]
+#[derive(Clone, Copy)]
 enum Decoded {
     Known(Listener),
     Unknown,
@@ -389,7 +391,7 @@ fn plain(number: u8) -> u64
 }
 
 // What a call leaves: the listener, and the answer as a word.
-#[derive(Drop)]
+#[derive(Clone, Copy)]
 struct HeardWord {
     listener: Listener,
     word: u64,
@@ -486,8 +488,7 @@ fn caption_into(edition: u8, way: u8, octets: &[u8], directory: &[u8], cells: &m
 
 // Makes the record that of a new listener of an edition and a way, whatever it holds; another size than 16 is 17, an
 // unknown edition or way 16, and the record stays.
-#[unsafe(no_mangle)]
-pub extern "C" fn anthercup_reset_way(edition: u8, way: u8, cells: &mut [u8]) -> u64
+pub fn anthercup_reset_way(edition: u8, way: u8, cells: &mut [u8]) -> u64
     ensures { (result ≡ exports.reset_answer edition way cells.old) × (cells.new ≡ exports.reset_record edition way cells.old) }
 {
     if cells.len() == LISTENER {
@@ -504,8 +505,7 @@ pub extern "C" fn anthercup_reset_way(edition: u8, way: u8, cells: &mut [u8]) ->
 
 // The same in the strict way: where no way is named, types that the edition does not list are refused (document 02,
 // Q-11).
-#[unsafe(no_mangle)]
-pub extern "C" fn anthercup_reset(edition: u8, cells: &mut [u8]) -> u64
+pub fn anthercup_reset(edition: u8, cells: &mut [u8]) -> u64
     ensures { (result ≡ exports.reset_answer edition strict cells.old) × (cells.new ≡ exports.reset_record edition strict cells.old) }
 {
     anthercup_reset_way(edition, rules::STRICT, cells)
@@ -513,8 +513,7 @@ pub extern "C" fn anthercup_reset(edition: u8, cells: &mut [u8]) -> u64
 
 // Takes a run of octets. A record of another size, or with a code or number out of range, is 17, one of an unknown
 // edition or way 16; both stay as they are.
-#[unsafe(no_mangle)]
-pub extern "C" fn anthercup_listen(cells: &mut [u8], octets: &[u8]) -> u64
+pub fn anthercup_listen(cells: &mut [u8], octets: &[u8]) -> u64
     ensures { (result ≡ exports.listen_answer cells.old octets.now) × (cells.new ≡ exports.listen_record cells.old octets.now) }
 {
     let got = decode(cells);
@@ -531,8 +530,7 @@ pub extern "C" fn anthercup_listen(cells: &mut [u8], octets: &[u8]) -> u64
 
 // A whole read: the draft's record and the texts, or one of 1 to 10 with its place and both as they were; a record of
 // another size than 688 is 17, then an unknown edition or way 16.
-#[unsafe(no_mangle)]
-pub extern "C" fn anthercup_read_way(
+pub fn anthercup_read_way(
     edition: u8,
     way: u8,
     octets: &[u8],
@@ -556,13 +554,7 @@ pub extern "C" fn anthercup_read_way(
 
 // The same in the strict way: where no way is named, types that the edition does not list are refused (document 02,
 // Q-11).
-#[unsafe(no_mangle)]
-pub extern "C" fn anthercup_read(
-    edition: u8,
-    octets: &[u8],
-    cells: &mut [u8],
-    texts: &mut [u8],
-) -> u64
+pub fn anthercup_read(edition: u8, octets: &[u8], cells: &mut [u8], texts: &mut [u8]) -> u64
     ensures answer { result ≡ exports.read_answer edition strict octets.now cells.old texts.old }
     ensures cells { cells.new ≡ exports.read_record edition strict octets.now cells.old texts.old }
     ensures texts { texts.new ≡ exports.read_texts edition strict octets.now cells.old texts.old }
@@ -571,8 +563,7 @@ pub extern "C" fn anthercup_read(
 }
 
 // Clears a desk: makes the record that of a new one, whatever it holds; another size than 52 is 17.
-#[unsafe(no_mangle)]
-pub extern "C" fn anthercup_new_desk(cells: &mut [u8]) -> u64
+pub fn anthercup_new_desk(cells: &mut [u8]) -> u64
     ensures { (result ≡ exports.new_desk_answer cells.old) × (cells.new ≡ exports.new_desk_record cells.old) }
 {
     if cells.len() == DESK {
@@ -586,8 +577,7 @@ pub extern "C" fn anthercup_new_desk(cells: &mut [u8]) -> u64
 // Settles a whole message on a desk. A record of another size, with a code or number out of range or with a reference
 // twice is 17; an unknown edition or way 16; with these, with 1 to 8 and 10 and with 21, where a reference has no
 // place, the record stays.
-#[unsafe(no_mangle)]
-pub extern "C" fn anthercup_settle(edition: u8, way: u8, cells: &mut [u8], octets: &[u8]) -> u64
+pub fn anthercup_settle(edition: u8, way: u8, cells: &mut [u8], octets: &[u8]) -> u64
     ensures { (result ≡ exports.settle_answer edition way cells.old octets.now) × (cells.new ≡ exports.settle_record edition way cells.old octets.now) }
 {
     if desks::is_record(cells) {
@@ -606,8 +596,7 @@ pub extern "C" fn anthercup_settle(edition: u8, way: u8, cells: &mut [u8], octet
 
 // Where the contents of a type that count stand in a whole message, or one of 1 to 8 and 10 with its place; an unknown
 // edition or way is 16.
-#[unsafe(no_mangle)]
-pub extern "C" fn anthercup_counted(edition: u8, way: u8, octets: &[u8], kind: u8) -> u64
+pub fn anthercup_counted(edition: u8, way: u8, octets: &[u8], kind: u8) -> u64
     ensures { result ≡ exports.counted_answer edition way octets.now kind }
 {
     if rules::is_known(edition, way) {
@@ -619,8 +608,7 @@ pub extern "C" fn anthercup_counted(edition: u8, way: u8, octets: &[u8], kind: u
 
 // The caption of a whole message: the part's record, or one of 1 to 8 and 10 with its place and the record as it was; a
 // record of another size than 24 is 17, then an unknown edition or way 16.
-#[unsafe(no_mangle)]
-pub extern "C" fn anthercup_caption(
+pub fn anthercup_caption(
     edition: u8,
     way: u8,
     octets: &[u8],

@@ -1,6 +1,6 @@
 -- Any answer of any listener: it is the machine's, whose numbers are at most 10, or 16 or 17, which take nothing.
 -- Assumes nothing.
-use Rattle.std.proofs.Common.{◌≡◌, ℕ, ◌≤◌, T, ◌⊎◌, ◌↔◌, List, sym, refl, ap, ◌∙◌, subst, inl, inr, arith}
+use Rattle.std.proofs.Common.{◌≡◌, ℕ, ◌≤◌, T, ◌⊎◌, List, sym, refl, ap, ◌∙◌, subst, inl, inr, arith}
 use Rattle.rules.specs.Octets.{Octets}
 use Rattle.rules.specs.Language.{Language}
 use Rattle.rules.proofs.Language.{Spoken, in_range-run}

@@ -6,7 +6,6 @@ use Rattle.rules.specs.Machine.{Machine, step, run, place}
 use Rattle.rules.proofs.Listening.{stepped, placed, message_stays, refused_stays}
 use Rattle.rules.specs.declared.State.{State}
 use Rattle.rules.specs.declared.State.TheVariants.{Waiting, Message, Refused}
-use Rattle.listener.specs.declared.Ran.{Ran}
 use Rattle.listener.specs.Heard.{stopped, taken, run_of, run_from}
 
 module _ (M : Machine) where

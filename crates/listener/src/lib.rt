@@ -1,5 +1,7 @@
 // The listener: it takes octets in runs of any cut, and waits, has a message of a stated size, or refuses (document
 // 01, Listening). It goes in by value and comes back by value, and keeps no octets.
+#![tactic(auto)]
+
 ghost use Rattle.std.specs.Prelude.{◌≡◌, ◌<◌, ◌≤◌, T};
 ghost use Rattle.std.proofs.Math.ListN as list;
 ghost use Rattle.rules.specs.Contents.{within};
@@ -18,14 +20,14 @@ ghost use Rattle.listener.specs.Heard as heard;
 use rules::{Book, Class, Fault, Spot, Stage, State};
 
 // Edition and way are the numbers told at its reset, known or not (document 02, Q-5 and Q-11).
-#[derive(Drop)]
+#[derive(Clone, Copy)]
 pub struct Listener {
     pub edition: u8,
     pub way: u8,
     pub state: State,
 }
 
-#[derive(Drop)]
+#[derive(Clone, Copy)]
 pub enum Answer {
     Waits,
     Message(u16),
@@ -34,7 +36,7 @@ pub enum Answer {
 
 // The listener as it then stands, its answer, how many octets of the run it took, the spoiling one counted, and the
 // edition that the answer names: 0 with 16 and 17.
-#[derive(Drop)]
+#[derive(Clone, Copy)]
 pub struct Heard {
     pub listener: Listener,
     pub answer: Answer,
@@ -43,14 +45,14 @@ pub struct Heard {
 }
 
 // Where a run left a state, and how many octets it took.
-#[derive(Drop)]
+#[derive(Clone, Copy)]
 struct Ran {
     state: State,
     taken: usize,
 }
 
 // What stays while contents come: their class, their length, and the room after them.
-#[derive(Drop)]
+#[derive(Clone, Copy)]
 struct Frame {
     class: Class,
     length: u8,
@@ -58,7 +60,7 @@ struct Frame {
 }
 
 // What moves with each octet of contents: the index of the one to come, what is remembered, and the spot.
-#[derive(Drop)]
+#[derive(Clone, Copy)]
 struct Inside {
     index: u8,
     memory: u8,

@@ -10,7 +10,7 @@ use mathlib.Core.Option.{Option, none, some}
 use native.Mathlib.Omega.{arith}
 use lib.ListN.{length, get_or}
 use lib.Dec.{T}
-use Rattle.rules.specs.Tests.{◌=?◌, ◌and◌, ◌or◌, pick}
+use Rattle.rules.specs.Tests.{◌=?◌, ◌and◌, pick}
 use Rattle.rules.proofs.Tests.{pick_yes, both, eq_of}
 use Rattle.rules.specs.Table.{Rules, Row, rules_of, ascii}
 use Rattle.rules.specs.declared.Book.{Book}

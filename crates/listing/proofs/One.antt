@@ -34,7 +34,8 @@ module _ (R : Rules) where
   rising_one n k (x ∷ a) [] r s f g = absurd (f x (inl refl))
   rising_one n k (x ∷ a) (y ∷ b) r s f g =
       ap₂ ◌∷◌ first
-      (rising_one _ _ a b r.1 s.1 (λ l h. behind_x l h (f l (inr h))) (λ l h. behind_y l h (g l (inr h))))
+      (rising_one (suc (line_place R x)) (suc (line_place R y)) a b r.1 s.1 (λ l h. behind_x l h (f l (inr h)))
+      (λ l h. behind_y l h (g l (inr h))))
     where
       first : x ≡ y
       first = go (f x (inl refl)) (g y (inl refl))

@@ -14,7 +14,7 @@ use Rattle.rules.proofs.Tests.{pick_yes, pick_not, of_eq, eq_of}
 use Rattle.rules.specs.Pairwise.{same_octets}
 use Rattle.rules.specs.Table.{ascii}
 use Rattle.rules.specs.Laying.{laid_at}
-use Rattle.rules.proofs.Laying.{laid_front, laid_behind, laid_length, rest_copied}
+use Rattle.rules.proofs.Laying.{laid_front, laid_behind, laid_length, part_over}
 use Rattle.listing.specs.Put.{Room, Put, put_only}
 use Rattle.listing.specs.Numerals.{hex}
 use Rattle.listing.specs.Listing.{seconds, lamp_word, state_word, currency, selector_word, selected, clock, moment, kind_line, line_text}
@@ -30,11 +30,12 @@ put_whole v at old new h e = record {
   behind = ap (drop (at + length v)) e ∙ laid_behind v at old h;
 }
 
--- ---- a text copied over the rest of the area, from a place on
-pub copied : (v old last : List ℕ) (at : ℕ) → Room v at old →
-    last ≡ take (length v) v ++ drop (length v) (take (length old - at) (drop at old)) →
-    Put v at old (at + length v) (put_mid at (length old - at) old last)
-copied v old last at h e = put_whole v at old (put_mid at (length old - at) old last) h (rest_copied v old last at e)
+-- ---- a text copied over the area, from a place on
+pub copied : (v old last : List ℕ) (at : ℕ) → Room v at old → last ≡ v →
+    Put v at old (at + length v) (put_mid at (at + length v - at) old last)
+copied v old last at h e =
+    put_whole v at old (put_mid at (at + length v - at) old last) h
+    (part_over v old last at (at + length v - at) (omega arith) e)
 
 -- one octet stored
 pub stored : (x at : ℕ) (old : List ℕ) → Room (x ∷ []) at old → Put (x ∷ []) at old (at + 1) (set old at x)

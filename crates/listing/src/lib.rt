@@ -1,6 +1,8 @@
 // The listing of a message (document 01, What showmsg prints): a key=value line for each value that counts, in the
 // order of the table; or the three lines of a refusal. It comes back by value, in a buffer of the longest listing, so
 // that it needs no refusal of its own. And whether one line is that of a row with contents.
+#![tactic(auto)]
+
 ghost use Rattle.std.specs.Prelude.{◌≡◌, [], ◌∷◌, ◌++◌, suc, ◌<◌, ◌≤◌, length, drop, T};
 ghost use Rattle.rules.specs.Tests.{◌≤?◌, ◌and◌, pick};
 ghost use Rattle.rules.specs.Pairwise.{same_octets};
@@ -22,7 +24,7 @@ const LONGEST: usize = 553;
 const SHORT: usize = 12;
 
 // A listing: its first `length` octets; those behind them are 0.
-#[derive(Drop)]
+#[derive(Clone, Copy)]
 pub struct ListingText {
     pub octets: [u8; LONGEST],
     pub length: usize,
@@ -48,8 +50,9 @@ fn put(text: &[u8], out: &mut [u8], at: usize) -> usize
     requires { Room text.now at out.old }
     ensures { Put text.now at out.old result out.new }
 {
-    bytes::copy(text, &mut out[at..]);
-    at + text.len()
+    let end = at + text.len();
+    out[at..end].copy_from_slice(text);
+    end
 }
 
 fn put_part(text: &[u8], start: usize, end: usize, out: &mut [u8], at: usize) -> usize

@@ -1,8 +1,13 @@
 // makemsg (document 02, Q-1): reads one listing from standard input, 8192 octets at most, put together from as many
 // reads as it takes, and writes the octets of the message that it says, or the two lines of a refusal. What the first
 // 8192 octets give, all would give: no valid listing has as many (`relisting_enough` on the page of demand 2).
-use libc::{STDIN_FILENO, STDOUT_FILENO};
+#![tactic(auto)]
+
+ghost use Rattle.std.specs.Prelude.{◌≤◌, length, IfOk};
+
 use rules::Fault;
+use std::io;
+use std::io::{Read, Write};
 use writer::Written;
 
 // The most octets that are read of a listing, and the most that a message has (document 01, The message).
@@ -10,32 +15,47 @@ const TEXT: usize = 8192;
 
 const LONGEST: usize = 258;
 
-fn say(key: &[u8], n: u64) {
-    io::write_all(STDOUT_FILENO, key);
-    io::print_decimal(STDOUT_FILENO, n);
-    io::write_all(STDOUT_FILENO, b"\n");
+fn say(out: &mut impl Write, key: &[u8], n: u64) -> io::Result<()> {
+    out.write_all(key)?;
+    writeln!(out, "{n}")
 }
 
-fn say_fault(fault: Fault) {
-    say(b"refused=", fault.number as u64);
-    say(b"at=", fault.place as u64);
+fn say_fault(out: &mut impl Write, fault: Fault) -> io::Result<()> {
+    say(out, b"refused=", fault.number as u64)?;
+    say(out, b"at=", fault.place as u64)
 }
 
-fn make(text: &[u8]) {
-    let mut out = [0u8; LONGEST];
-    let writing = relist::message_of(text, &mut out);
+fn make(out: &mut impl Write, text: &[u8]) -> io::Result<()> {
+    let mut message = [0u8; LONGEST];
+    let writing = relist::message_of(text, &mut message);
     let answer = writing.answer;
     match answer {
         Written::Message { size } => {
             let n = size as usize;
-            io::write_all(STDOUT_FILENO, &out[..n]);
+            out.write_all(&message[..n])
         }
-        Written::Declined { fault } => say_fault(fault),
+        Written::Declined { fault } => say_fault(out, fault),
     }
 }
 
-fn main() {
+// Fills octets from the first on, put together from as many reads as it takes, and says how many there were.
+fn fill(input: &mut impl Read, octets: &mut [u8], n: usize) -> io::Result<usize>
+    requires { n ≤ length octets.old }
+    ensures { IfOk result (λ got. got ≤ n) }
+{
+    let mut filled = 0;
+    while filled < n {
+        let got = input.read(&mut octets[filled..n])?;
+        if got == 0 {
+            return Ok(filled);
+        }
+        filled += got;
+    }
+    Ok(filled)
+}
+
+fn main(rt: HostRuntime) -> io::Result<()> {
     let mut buffer = [0u8; TEXT];
-    let n = io::read_full(STDIN_FILENO, &mut buffer);
-    make(&buffer[..n]);
+    let n = fill(&mut rt.stdin(), &mut buffer, TEXT)?;
+    make(&mut io::writer(&rt), &buffer[..n])
 }

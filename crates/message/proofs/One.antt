@@ -9,8 +9,7 @@ use Rattle.rules.specs.Counting.{counted}
 use Rattle.rules.proofs.Counting.{counted_iff}
 use Rattle.rules.specs.Octets.{Octets}
 use Rattle.rules.specs.Judge.{named}
-use Rattle.rules.proofs.Tests.{right}
-use Rattle.rules.proofs.InRange.{inside, no_parameter}
+use Rattle.rules.proofs.InRange.{no_parameter}
 use Rattle.rules.proofs.Grammar.{spoilt_named}
 use Rattle.rules.specs.Refusals.{noted}
 use Rattle.rules.specs.declared.Book.{Book}

@@ -1,5 +1,7 @@
 // Whole messages on a slice: the verdict on any octets (document 01, The message and Numbers), whose parameters
 // `turns` goes along; what stands at a place; and where what counts stands.
+#![tactic(auto)]
+
 ghost use Rattle.std.specs.Prelude.{◌≡◌, ◌<◌, ◌≤◌, true, length, slice_index};
 ghost use Rattle.rules.specs.Table.{rules_of};
 ghost use Rattle.rules.specs.Message.{message_kind};
@@ -8,7 +10,7 @@ ghost use Rattle.message.specs.Verdict.{verdict_at, verdict_of};
 
 use rules::{Book, Fault};
 
-#[derive(Drop)]
+#[derive(Clone, Copy)]
 pub enum Verdict {
     Accepted { size: u16 },
     Declined { fault: Fault },
@@ -86,14 +88,14 @@ pub fn judge(book: Book, s: &[u8]) -> Verdict
 
 // What stands at a place of a message: the type of a parameter, where its contents start and how long they are; the
 // next place is behind them.
-#[derive(Drop)]
+#[derive(Clone, Copy)]
 pub enum Found {
     Parameter { kind: u8, start: usize, length: u8 },
     Nothing,
 }
 
 // Where contents stand.
-#[derive(Drop)]
+#[derive(Clone, Copy)]
 pub enum Part {
     At { start: usize, length: u8 },
     Nowhere,

@@ -4,14 +4,17 @@
 // `writer::write` answer, with the edition that each names, and whether the message comes back from its draft; by the
 // strict way also what `reader::read` answers. What it must print was written by the second reader, some rows by hand
 // (tools/replay).
-ghost use Rattle.std.specs.Prelude.{◌≡◌, ◌≤◌, length};
+#![tactic(auto)]
+
+ghost use Rattle.std.specs.Prelude.{◌≡◌, ◌≤◌, IfOk, length};
 ghost use Rattle.walker.specs.Moves.{begun, seen, advanced};
 
 use caption::Shown;
 use draft::{Draft, Entry, Flat, Value};
-use libc::{STDIN_FILENO, STDOUT_FILENO};
 use reader::Packed;
 use rules::{Fault, MOST};
+use std::io;
+use std::io::{Read, Write};
 use walker::{Step, Stepped, Walker};
 use writer::Written;
 
@@ -31,106 +34,106 @@ const UNKNOWN: u8 = 2;
 // A code that is no side: with a refusal `caption` leaves it (document 01, The caption).
 const LENT_CODE: u8 = 7;
 
-fn say(text: &[u8]) {
-    io::write_all(STDOUT_FILENO, text);
+fn say(out: &mut impl Write, text: &[u8]) -> io::Result<()> {
+    out.write_all(text)
 }
 
-fn say_number(text: &[u8], n: u64) {
-    say(text);
-    io::print_decimal(STDOUT_FILENO, n);
+fn say_number(out: &mut impl Write, text: &[u8], n: u64) -> io::Result<()> {
+    say(out, text)?;
+    write!(out, "{n}")
 }
 
-fn say_octet(x: u8) {
-    io::print_hex(STDOUT_FILENO, x as u64, 2);
+fn say_octet(out: &mut impl Write, x: u8) -> io::Result<()> {
+    write!(out, "{x:02x}")
 }
 
-fn say_octets(octets: &[u8]) {
-    let mut i: usize = 0;
-    while i < octets.len() {
-        say_octet(octets[i]);
-        i += 1;
+fn say_octets(out: &mut impl Write, octets: &[u8]) -> io::Result<()> {
+    for x in octets {
+        say_octet(out, *x)?;
     }
-    say(b"\n");
+    say(out, b"\n")
 }
 
-fn say_fault(text: &[u8], fault: Fault) {
-    say_number(text, fault.number as u64);
-    say_number(b" at ", fault.place as u64);
-    say_number(b" in ", fault.parameter as u64);
+fn say_fault(out: &mut impl Write, text: &[u8], fault: Fault) -> io::Result<()> {
+    say_number(out, text, fault.number as u64)?;
+    say_number(out, b" at ", fault.place as u64)?;
+    say_number(out, b" in ", fault.parameter as u64)
 }
 
 // The edition that an answer names ends its line.
-fn say_edition(edition: u8) {
-    say_number(b" edition ", edition as u64);
-    say(b"\n");
+fn say_edition(out: &mut impl Write, edition: u8) -> io::Result<()> {
+    say_number(out, b" edition ", edition as u64)?;
+    say(out, b"\n")
 }
 
-fn say_whether(text: &[u8], same: bool) {
-    say(text);
+fn say_whether(out: &mut impl Write, text: &[u8], same: bool) -> io::Result<()> {
+    say(out, text)?;
     if same {
-        say(b" same\n");
+        say(out, b" same\n")
     } else {
-        say(b" other\n");
+        say(out, b" other\n")
     }
 }
 
 // The text of a value, which lies in the area (document 01, Drafts).
-fn say_text(texts: &[u8], start: usize, size: usize) {
+fn say_text(out: &mut impl Write, texts: &[u8], start: usize, size: usize) -> io::Result<()> {
     if draft::lies(texts, start, size) {
         let end = start + size;
-        say_octets(&texts[start..end]);
+        say_octets(out, &texts[start..end])
     } else {
-        say(b"outside\n");
+        say(out, b"outside\n")
     }
 }
 
 // Four numbers, 0 where the value has fewer; of a moment five (document 02, Q-4).
-fn say_numbers(value: Flat) {
-    say_number(b"", value.first as u64);
-    say_number(b" ", value.second as u64);
-    say_number(b" ", value.third as u64);
-    say_number(b" ", value.fourth as u64);
+fn say_numbers(out: &mut impl Write, value: Flat) -> io::Result<()> {
+    say_number(out, b"", value.first as u64)?;
+    say_number(out, b" ", value.second as u64)?;
+    say_number(out, b" ", value.third as u64)?;
+    say_number(out, b" ", value.fourth as u64)?;
     if value.form == draft::MOMENT_FORM {
-        say_number(b" ", value.fifth as u64);
+        say_number(out, b" ", value.fifth as u64)?;
     }
-    say(b"\n");
+    say(out, b"\n")
 }
 
 // The first octet of the contents stands ahead of a marked text (document 02, Q-4).
-fn say_mark(value: Flat) {
+fn say_mark(out: &mut impl Write, value: Flat) -> io::Result<()> {
     if value.form == draft::MARKED_FORM {
-        say_number(b"", value.first as u64);
-        say(b" ");
+        say_number(out, b"", value.first as u64)?;
+        say(out, b" ")?;
     }
+    Ok(())
 }
 
 // Type, kind of value, and the value: its numbers, or a text in hex, behind its mark if it has one.
-fn say_entry(entry: Entry, texts: &[u8]) {
+fn say_entry(out: &mut impl Write, entry: Entry, texts: &[u8]) -> io::Result<()> {
     let value = entry.value;
     let flat = draft::flatten(value);
-    say_octet(entry.kind);
-    say_number(b" ", flat.form as u64);
-    say(b" ");
+    say_octet(out, entry.kind)?;
+    say_number(out, b" ", flat.form as u64)?;
+    say(out, b" ")?;
     if draft::has_text(flat.form) {
-        say_mark(flat);
-        say_text(texts, flat.start, flat.length);
+        say_mark(out, flat)?;
+        say_text(out, texts, flat.start, flat.length)
     } else {
-        say_numbers(flat);
+        say_numbers(out, flat)
     }
 }
 
-fn say_entries(draft: Draft, texts: &[u8]) {
+fn say_entries(out: &mut impl Write, draft: Draft, texts: &[u8]) -> io::Result<()> {
     let n = draft.count;
     let entries = draft.entries;
     let mut i = 0;
     while i < MOST {
         if n <= i {
-            return;
+            return Ok(());
         }
         let entry = entries[i];
-        say_entry(entry, texts);
+        say_entry(out, entry, texts)?;
         i += 1;
     }
+    Ok(())
 }
 
 fn other(x: u8) -> u8 {
@@ -161,68 +164,90 @@ fn other_edition(edition: u8) -> u8 {
 
 // Drafts of two editions are never equal, and one of an unknown edition equals none, itself included (document 02,
 // Q-5).
-fn say_editions(draft: Draft, texts: &[u8]) {
+fn say_editions(out: &mut impl Write, draft: Draft, texts: &[u8]) -> io::Result<()> {
     let other = moved_to(other_edition(draft.edition), draft);
-    say_whether(b"edition", draft::same(draft, texts, other, texts));
+    say_whether(out, b"edition", draft::same(draft, texts, other, texts))?;
     let unknown = moved_to(UNKNOWN, draft);
-    say_whether(b"unknown", draft::same(unknown, texts, unknown, texts));
+    say_whether(out, b"unknown", draft::same(unknown, texts, unknown, texts))
 }
 
 // What was written is read again: it is the draft, no longer with another octet in its text area, and never the draft
 // with no entries (document 01, Drafts).
-fn say_again(way: u8, draft: Draft, texts: &[u8], written: &[u8]) {
+fn say_again(
+    out: &mut impl Write,
+    way: u8,
+    draft: Draft,
+    texts: &[u8],
+    written: &[u8],
+) -> io::Result<()> {
     let mut area = [0u8; TEXTS];
     let reading = reader::read_way(draft.edition, way, written, &mut area);
     let again = reading.draft;
-    say_whether(b"again", draft::same(draft, texts, again, &area));
+    say_whether(out, b"again", draft::same(draft, texts, again, &area))?;
     area[0] = other(area[0]);
-    say_whether(b"spoilt", draft::same(draft, texts, again, &area));
+    say_whether(out, b"spoilt", draft::same(draft, texts, again, &area))?;
     say_whether(
+        out,
         b"empty",
         draft::same(draft, texts, draft::empty(draft.edition, draft.kind), &area),
-    );
-    say_editions(draft, texts);
+    )?;
+    say_editions(out, draft, texts)
 }
 
-fn say_written(way: u8, edition: u8, message: &[u8], draft: Draft, texts: &[u8], written: &[u8]) {
-    say_number(b"write ", written.len() as u64);
-    say_number(b" edition ", edition as u64);
-    say_whether(b"", rules::same_octets(written, message));
-    say_again(way, draft, texts, written);
+fn say_written(
+    out: &mut impl Write,
+    way: u8,
+    edition: u8,
+    message: &[u8],
+    draft: Draft,
+    texts: &[u8],
+    written: &[u8],
+) -> io::Result<()> {
+    say_number(out, b"write ", written.len() as u64)?;
+    say_number(out, b" edition ", edition as u64)?;
+    say_whether(out, b"", rules::same_octets(written, message))?;
+    say_again(out, way, draft, texts, written)
 }
 
 // The draft is written, and what is written read again.
-fn say_write(way: u8, message: &[u8], draft: Draft, texts: &[u8]) {
-    let mut out = [0u8; LONGEST];
-    let writing = writer::write(way, draft, texts, &mut out);
+fn say_write(
+    out: &mut impl Write,
+    way: u8,
+    message: &[u8],
+    draft: Draft,
+    texts: &[u8],
+) -> io::Result<()> {
+    let mut area = [0u8; LONGEST];
+    let writing = writer::write(way, draft, texts, &mut area);
     let edition = writing.edition;
     let answer = writing.answer;
     match answer {
         Written::Message { size } => {
             let n = size as usize;
             if n <= LONGEST {
-                say_written(way, edition, message, draft, texts, &out[..n]);
+                say_written(out, way, edition, message, draft, texts, &area[..n])?;
             }
         }
         Written::Declined { fault } => {
-            say_fault(b"write ", fault);
-            say_edition(edition);
+            say_fault(out, b"write ", fault)?;
+            say_edition(out, edition)?;
         }
     }
+    Ok(())
 }
 
-fn say_draft(text: &[u8], draft: Draft, octets: u16) {
-    say(text);
-    say_octet(draft.kind);
-    say_number(b" ", draft.count as u64);
-    say_number(b" ", octets as u64);
+fn say_draft(out: &mut impl Write, text: &[u8], draft: Draft, octets: u16) -> io::Result<()> {
+    say(out, text)?;
+    say_octet(out, draft.kind)?;
+    say_number(out, b" ", draft.count as u64)?;
+    say_number(out, b" ", octets as u64)
 }
 
 // The edition that the read names, and the one that its draft holds.
-fn say_both(edition: u8, draft: Draft) {
-    say_number(b" edition ", edition as u64);
-    say_number(b" ", draft.edition as u64);
-    say(b"\n");
+fn say_both(out: &mut impl Write, edition: u8, draft: Draft) -> io::Result<()> {
+    say_number(out, b" edition ", edition as u64)?;
+    say_number(out, b" ", draft.edition as u64)?;
+    say(out, b"\n")
 }
 
 // An entry whose text, where it has one, lies one octet further on.
@@ -280,15 +305,15 @@ fn elsewhere(draft: Draft) -> Draft {
 }
 
 // A draft's texts may lie anywhere in their area (document 01, Drafts): here they begin at its octet 1.
-fn say_elsewhere(edition: u8, way: u8, message: &[u8]) {
+fn say_elsewhere(out: &mut impl Write, edition: u8, way: u8, message: &[u8]) -> io::Result<()> {
     let mut area = [0u8; TEXTS + 1];
     let reading = reader::read_way(edition, way, message, &mut area[1..]);
     let draft = elsewhere(reading.draft);
-    say_write(way, message, draft, &area);
+    say_write(out, way, message, draft, &area)
 }
 
 // The whole read into an area that every message's texts fit.
-fn say_read(edition: u8, way: u8, message: &[u8]) {
+fn say_read(out: &mut impl Write, edition: u8, way: u8, message: &[u8]) -> io::Result<()> {
     let mut area = [0u8; TEXTS];
     let reading = reader::read_way(edition, way, message, &mut area);
     let named = reading.edition;
@@ -296,21 +321,21 @@ fn say_read(edition: u8, way: u8, message: &[u8]) {
     let draft = reading.draft;
     match answer {
         Packed::Texts { octets } => {
-            say_draft(b"read ", draft, octets);
-            say_both(named, draft);
-            say_entries(draft, &area);
-            say_write(way, message, draft, &area);
-            say_elsewhere(edition, way, message);
+            say_draft(out, b"read ", draft, octets)?;
+            say_both(out, named, draft)?;
+            say_entries(out, draft, &area)?;
+            say_write(out, way, message, draft, &area)?;
+            say_elsewhere(out, edition, way, message)
         }
         Packed::Refused { fault } => {
-            say_fault(b"read ", fault);
-            say_both(named, draft);
+            say_fault(out, b"read ", fault)?;
+            say_both(out, named, draft)
         }
     }
 }
 
 // The whole read by which no way is named: it is strict (document 02, Q-11).
-fn say_default(edition: u8, message: &[u8]) {
+fn say_default(out: &mut impl Write, edition: u8, message: &[u8]) -> io::Result<()> {
     let mut area = [0u8; TEXTS];
     let reading = reader::read(edition, message, &mut area);
     let named = reading.edition;
@@ -318,34 +343,40 @@ fn say_default(edition: u8, message: &[u8]) {
     let draft = reading.draft;
     match answer {
         Packed::Texts { octets } => {
-            say_draft(b"default ", draft, octets);
-            say_both(named, draft);
-            say_entries(draft, &area);
+            say_draft(out, b"default ", draft, octets)?;
+            say_both(out, named, draft)?;
+            say_entries(out, draft, &area)
         }
         Packed::Refused { fault } => {
-            say_fault(b"default ", fault);
-            say_both(named, draft);
+            say_fault(out, b"default ", fault)?;
+            say_both(out, named, draft)
         }
     }
 }
 
-fn say_texts(answer: Packed) {
+fn say_texts(out: &mut impl Write, answer: Packed) -> io::Result<()> {
     match answer {
-        Packed::Texts { octets } => say_number(b": texts ", octets as u64),
-        Packed::Refused { fault } => say_fault(b": ", fault),
+        Packed::Texts { octets } => say_number(out, b": texts ", octets as u64),
+        Packed::Refused { fault } => say_fault(out, b": ", fault),
     }
 }
 
 // The whole read into an area of a stated size.
-fn say_room(edition: u8, way: u8, message: &[u8], room: usize)
+fn say_room(
+    out: &mut impl Write,
+    edition: u8,
+    way: u8,
+    message: &[u8],
+    room: usize,
+) -> io::Result<()>
     requires { room ≤ 253 }
 {
     let mut area = [0u8; TEXTS];
     let reading = reader::read_way(edition, way, message, &mut area[..room]);
     let answer = reading.answer;
-    say_number(b"room ", room as u64);
-    say_texts(answer);
-    say_edition(reading.edition);
+    say_number(out, b"room ", room as u64)?;
+    say_texts(out, answer)?;
+    say_edition(out, reading.edition)
 }
 
 // What a new walker sees.
@@ -367,7 +398,7 @@ fn onward(edition: u8, way: u8, message: &[u8], place: usize) -> Stepped
     }))
 }
 
-fn say_step(step: Step) {
+fn say_step(out: &mut impl Write, step: Step) -> io::Result<()> {
     match step {
         Step::Parameter {
             kind,
@@ -375,29 +406,29 @@ fn say_step(step: Step) {
             length,
             next: _,
         } => {
-            say(b"step ");
-            say_octet(kind);
-            say_number(b" ", start as u64);
-            say_number(b" ", length as u64);
+            say(out, b"step ")?;
+            say_octet(out, kind)?;
+            say_number(out, b" ", start as u64)?;
+            say_number(out, b" ", length as u64)
         }
-        Step::NoMore => say(b"step none"),
-        Step::Refused(fault) => say_fault(b"step ", fault),
+        Step::NoMore => say(out, b"step none"),
+        Step::Refused(fault) => say_fault(out, b"step ", fault),
     }
 }
 
-fn say_stepped(stepped: Stepped) {
+fn say_stepped(out: &mut impl Write, stepped: Stepped) -> io::Result<()> {
     let step = stepped.step;
-    say_step(step);
-    say_edition(stepped.edition);
+    say_step(out, step)?;
+    say_edition(out, stepped.edition)
 }
 
 // Each parameter, 85 at most, and twice what comes after the last.
-fn say_steps(edition: u8, way: u8, message: &[u8]) {
+fn say_steps(out: &mut impl Write, edition: u8, way: u8, message: &[u8]) -> io::Result<()> {
     let mut stepped = first(edition, way, message);
     let mut place: usize = 2;
     let mut turns: usize = 0;
     while turns <= MOST {
-        say_stepped(stepped);
+        say_stepped(out, stepped)?;
         let step = stepped.step;
         match step {
             Step::Parameter {
@@ -411,15 +442,14 @@ fn say_steps(edition: u8, way: u8, message: &[u8]) {
                 turns += 1;
             }
             Step::NoMore => {
-                say_stepped(onward(edition, way, message, place));
-                return;
+                return say_stepped(out, onward(edition, way, message, place));
             }
             Step::Refused(fault) => {
-                say_stepped(onward(edition, way, message, place));
-                return;
+                return say_stepped(out, onward(edition, way, message, place));
             }
         }
     }
+    Ok(())
 }
 
 // At how many places a parameter begins; where none does, the walker says so (document 01, Drafts).
@@ -450,54 +480,82 @@ fn beginnings(edition: u8, way: u8, message: &[u8]) -> usize {
     count
 }
 
-fn say_beginnings(edition: u8, way: u8, message: &[u8]) {
-    say_number(b"begins ", beginnings(edition, way, message) as u64);
-    say(b"\n");
+fn say_beginnings(out: &mut impl Write, edition: u8, way: u8, message: &[u8]) -> io::Result<()> {
+    say_number(out, b"begins ", beginnings(edition, way, message) as u64)?;
+    say(out, b"\n")
 }
 
-fn say_part(text: &[u8], start: usize, size: usize) {
-    say_number(text, start as u64);
-    say_number(b" ", size as u64);
+fn say_part(out: &mut impl Write, text: &[u8], start: usize, size: usize) -> io::Result<()> {
+    say_number(out, text, start as u64)?;
+    say_number(out, b" ", size as u64)
 }
 
-fn say_find(edition: u8, way: u8, message: &[u8], directory: &[u8]) {
+fn say_find(
+    out: &mut impl Write,
+    edition: u8,
+    way: u8,
+    message: &[u8],
+    directory: &[u8],
+) -> io::Result<()> {
     let finding = caption::find(edition, way, message, directory);
     let found = finding.shown;
     match found {
-        Shown::InMessage { start, length } => say_part(b"find message ", start, length),
-        Shown::InDirectory { start, length } => say_part(b"find directory ", start, length),
-        Shown::Refused(fault) => say_fault(b"find ", fault),
+        Shown::InMessage { start, length } => say_part(out, b"find message ", start, length)?,
+        Shown::InDirectory { start, length } => say_part(out, b"find directory ", start, length)?,
+        Shown::Refused(fault) => say_fault(out, b"find ", fault)?,
     }
-    say_edition(finding.edition);
+    say_edition(out, finding.edition)
 }
 
-fn say_caption<'a>(edition: u8, way: u8, message: &'a [u8], directory: &'a [u8]) {
+fn say_caption<'a>(
+    out: &mut impl Write,
+    edition: u8,
+    way: u8,
+    message: &'a [u8],
+    directory: &'a [u8],
+) -> io::Result<()> {
     let mut side = LENT_CODE;
     let text = caption::caption(edition, way, message, directory, &mut side);
-    say_number(b"caption ", side as u64);
-    say(b"=");
-    say_octets(text);
+    say_number(out, b"caption ", side as u64)?;
+    say(out, b"=")?;
+    say_octets(out, text)
 }
 
-fn show<'a>(edition: u8, way: u8, message: &'a [u8], directory: &'a [u8], room: usize)
+fn show<'a>(
+    out: &mut impl Write,
+    edition: u8,
+    way: u8,
+    message: &'a [u8],
+    directory: &'a [u8],
+    room: usize,
+) -> io::Result<()>
     requires { room ≤ 253 }
 {
-    say_read(edition, way, message);
+    say_read(out, edition, way, message)?;
     if way == rules::STRICT {
-        say_default(edition, message);
+        say_default(out, edition, message)?;
     }
-    say_room(edition, way, message, room);
-    say_steps(edition, way, message);
-    say_beginnings(edition, way, message);
-    say_find(edition, way, message, directory);
-    say_caption(edition, way, message, directory);
+    say_room(out, edition, way, message, room)?;
+    say_steps(out, edition, way, message)?;
+    say_beginnings(out, edition, way, message)?;
+    say_find(out, edition, way, message, directory)?;
+    say_caption(out, edition, way, message, directory)
 }
 
-fn fill(octets: &mut [u8], n: usize) -> usize
+// Fills octets from the first on, put together from as many reads as it takes, and says how many there were.
+fn fill(input: &mut impl Read, octets: &mut [u8], n: usize) -> io::Result<usize>
     requires { n ≤ length octets.old }
-    ensures { result ≤ n }
+    ensures { IfOk result (λ got. got ≤ n) }
 {
-    io::read_full(STDIN_FILENO, &mut octets[..n])
+    let mut filled = 0;
+    while filled < n {
+        let got = input.read(&mut octets[filled..n])?;
+        if got == 0 {
+            return Ok(filled);
+        }
+        filled += got;
+    }
+    Ok(filled)
 }
 
 fn number(high: u8, low: u8) -> usize {
@@ -505,53 +563,54 @@ fn number(high: u8, low: u8) -> usize {
 }
 
 // The number in the next two octets; one that is too large for any case where the input ends.
-fn size() -> usize {
+fn size(input: &mut impl Read) -> io::Result<usize> {
     let mut octets = [0u8; 2];
-    if io::read_full(STDIN_FILENO, &mut octets) < 2 {
-        return 65536;
+    if fill(input, &mut octets, 2)? < 2 {
+        return Ok(65536);
     }
-    number(octets[0], octets[1])
+    Ok(number(octets[0], octets[1]))
 }
 
 // Says whether there was one more.
-fn next() -> bool {
+fn next(input: &mut impl Read, out: &mut impl Write) -> io::Result<bool> {
     let mut numbers = [0u8; 2];
-    if io::read_full(STDIN_FILENO, &mut numbers) < 2 {
-        return false;
+    if fill(input, &mut numbers, 2)? < 2 {
+        return Ok(false);
     }
-    let n = size();
+    let n = size(input)?;
     if HEARD < n {
-        return false;
+        return Ok(false);
     }
     let mut message = [0u8; HEARD];
-    let got = fill(&mut message, n);
-    let m = size();
+    let got = fill(input, &mut message, n)?;
+    let m = size(input)?;
     if LENT < m {
-        return false;
+        return Ok(false);
     }
     let mut directory = [0u8; LENT];
-    let lent = fill(&mut directory, m);
-    let room = size();
+    let lent = fill(input, &mut directory, m)?;
+    let room = size(input)?;
     if TEXTS < room {
-        return false;
+        return Ok(false);
     }
     show(
+        out,
         numbers[0],
         numbers[1],
         &message[..got],
         &directory[..lent],
         room,
-    );
-    true
+    )?;
+    Ok(true)
 }
 
-fn main() {
-    let mut count: u64 = 0;
-    while count < 1000000 {
-        if next() {
-            count += 1;
-        } else {
-            return;
+fn main(rt: HostRuntime) -> io::Result<()> {
+    let mut input = rt.stdin();
+    let mut out = io::writer(&rt);
+    for _ in 0..1000000u64 {
+        if !next(&mut input, &mut out)? {
+            break;
         }
     }
+    Ok(())
 }

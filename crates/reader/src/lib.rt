@@ -1,5 +1,7 @@
 // Reading whole messages (document 01, Drafts): the draft of an accepted message and its texts, packed into a lent
 // area. Nothing is written before the verdict is known.
+#![tactic(auto)]
+
 ghost use Rattle.std.specs.Prelude.{◌≡◌, ◌+◌, ◌-◌, ◌≤◌, length, take, drop, length as long};
 ghost use Rattle.rules.specs.Table.{rules_of};
 ghost use Rattle.rules.specs.Editions.{strict};
@@ -15,21 +17,21 @@ use message::{Found, Verdict};
 use rules::{Book, Fault, Form, MOST};
 
 // What becomes of the octets: how many text octets were laid down; or a number from 1 to 10 with its place.
-#[derive(Drop)]
+#[derive(Clone, Copy)]
 pub enum Packed {
     Texts { octets: u16 },
     Refused { fault: Fault },
 }
 
 // Whether a read goes through: its texts fit, or a number from 1 to 10 with its place.
-#[derive(Drop)]
+#[derive(Clone, Copy)]
 pub enum Fitting {
     Fits,
     Refused { fault: Fault },
 }
 
 // What a read answers, and the edition that it names, which is the draft's; with a refusal the draft is the empty one.
-#[derive(Drop)]
+#[derive(Clone, Copy)]
 pub struct Reading {
     pub edition: u8,
     pub answer: Packed,
@@ -37,7 +39,7 @@ pub struct Reading {
 }
 
 // The entry of a parameter, how long its text is, and the place behind the parameter.
-#[derive(Drop)]
+#[derive(Clone, Copy)]
 pub enum Taken {
     Next {
         entry: Entry,
@@ -48,7 +50,7 @@ pub enum Taken {
 }
 
 // Where the text of a parameter stands, 0 octets long where it has none, and the place behind the parameter.
-#[derive(Drop)]
+#[derive(Clone, Copy)]
 enum Text {
     At {
         start: usize,
@@ -261,7 +263,8 @@ fn lay_text(octets: &[u8], start: usize, length: usize, area: &mut [u8], at: usi
     ensures { area.new ≡ laid_at (take length (drop start octets.now)) at area.old }
 {
     let end = start + length;
-    bytes::copy(&octets[start..end], &mut area[at..]);
+    let past = at + length;
+    area[at..past].copy_from_slice(&octets[start..end]);
 }
 
 // Each text behind the one before it, from octet 0 of the area on; how many octets they take.

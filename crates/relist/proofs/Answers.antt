@@ -12,7 +12,7 @@ use Rattle.writer.specs.declared.Written.{Written}
 use Rattle.writer.specs.declared.Written.TheVariants.{Message as Wrote, Declined}
 use Rattle.writer.specs.declared.Writing.{Writing}
 use Rattle.writer.specs.Writing.{sized, unwritten, output_after}
-use Rattle.writer.specs.Told.{Told, told, success, refusal}
+use Rattle.writer.specs.Told.{Told, told, success}
 use Rattle.writer.proofs.Told.{unwritten_is, message_is}
 use Rattle.relist.specs.Relist.{message_for, relisted, relisting}
 use Rattle.relist.specs.Sentences.{Says, SpoiltAt, Returned, Relists}

@@ -2,9 +2,9 @@
 -- order. Taking them from a text gives such a choice, whose lines the text begins with; and from a text that is the
 -- lines of a choice and the last line, it gives just this choice.
 -- Assumes nothing.
-use Rattle.std.proofs.Common.{◌≡◌, ℕ, suc, ◌+◌, ◌≤◌, Bool, true, false, T, ◌⊎◌, List, [], ◌∷◌, ◌++◌, length, drop, sym, refl, ap, ◌∙◌, subst, ap₂, inl, inr, append_assoc, append-nil, arith, length-append, length-drop}
-use Rattle.bytes.specs.Bytes.{index_of}
-use Rattle.rules.specs.Tests.{◌≤?◌, ◌and◌, pick}
+use Rattle.std.proofs.Common.{◌≡◌, ℕ, suc, ◌≤◌, Bool, true, false, T, ◌⊎◌, List, [], ◌∷◌, ◌++◌, length, drop, sym, refl, ap, ◌∙◌, subst, ap₂, inl, inr, append_assoc, append-nil, arith, length-append, length-drop}
+use Rattle.relist.specs.First.{index_of}
+use Rattle.rules.specs.Tests.{◌≤?◌, pick}
 use Rattle.rules.proofs.Tests.{both, decide, pick_yes, pick_not, pick_case}
 use Rattle.rules.proofs.Pairwise.{octets_self}
 use Rattle.rules.specs.Pairwise.{same_octets}

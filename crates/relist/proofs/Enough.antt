@@ -4,7 +4,7 @@
 -- Assumes nothing.
 use Rattle.std.proofs.Common.{◌≡◌, ℕ, zero, suc, ◌+◌, ◌-◌, ◌*◌, ◌<◌, ◌≤◌, Bool, T, ◌⊎◌, List, [], ◌∷◌, ◌++◌, length, take, sym, refl, ap, ◌∙◌, subst, ap₂, inl, inr, arith, length-append, length-take-le, take_all}
 use lib.Seq.{take-append-le, take-append-add}
-use Rattle.bytes.specs.Bytes.{index_of, index_after}
+use Rattle.relist.specs.First.{index_of, index_after}
 use Rattle.rules.specs.Tests.{◌≤?◌, ◌and◌, every}
 use Rattle.rules.proofs.Tests.{decide, le_of, not_le, every_head, every_tail}
 use Rattle.rules.specs.Message.{Parameter, octets}

@@ -1,9 +1,9 @@
 -- The messages that listings say are the choices of the table's rows: an orderly message has the parameters of a
 -- choice, the parameters of a choice make an orderly message, and its lines are those of the choice.
 -- Assumes nothing.
-use Rattle.std.proofs.Common.{◌≡◌, ℕ, suc, ◌+◌, ◌<◌, ◌≤◌, Bool, true, false, T, eqb, ◌⊎◌, List, [], ◌∷◌, ◌++◌, length, sym, refl, ap, ◌∙◌, subst, ap₂, inl, inr, append_assoc, arith}
+use Rattle.std.proofs.Common.{◌≡◌, ℕ, suc, ◌<◌, ◌≤◌, Bool, true, false, T, eqb, ◌⊎◌, List, [], ◌∷◌, ◌++◌, length, sym, refl, ap, ◌∙◌, subst, ap₂, inl, inr, append_assoc, arith}
 use mathlib.Core.Option.{Option, none, some}
-use Rattle.bytes.specs.Bytes.{index_of, index_after}
+use Rattle.relist.specs.First.{index_of, index_after}
 use Rattle.rules.specs.Tests.{◌≤?◌, ◌=?◌, pick}
 use Rattle.rules.proofs.Tests.{decide, either, eq_of, of_eq, le_of, of_le, pick_yes, picked, clash}
 use Rattle.rules.specs.Table.{Rules, Row, listed_in, listed, class_of, rival_of, contents_fit}

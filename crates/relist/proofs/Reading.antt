@@ -4,8 +4,8 @@
 -- marks is the value.
 -- Assumes nothing.
 use Rattle.std.proofs.Common.{◌≡◌, ℕ, suc, ◌+◌, ◌-◌, ◌<◌, ◌≤◌, Bool, true, false, T, List, length, take, drop, sym, refl, ap, ◌∙◌, ap₂, arith, length-append, length-drop, length-take, length-take-le, take_all, drop-drop}
-use lib.Seq.{take-length, take-append_seam, drop-append_seam}
-use Rattle.bytes.specs.Bytes.{index_of, slice}
+use lib.Seq.{take-append_seam, drop-append_seam}
+use Rattle.relist.specs.First.{index_of}
 use Rattle.rules.specs.Tests.{◌≤?◌, ◌and◌, pick}
 use Rattle.rules.proofs.Tests.{clash}
 use Rattle.rules.proofs.Returns.{pick_t, pick_f, and_t, yes_le, no_le, T_of, holds, same_truth}
@@ -25,15 +25,10 @@ use Rattle.relist.proofs.Said.{says_fit, says_text}
 -- ---- a line by its places
 module _ (t : List ℕ) (at : ℕ) (i : at ≤ length t) where
   -- where the first line end was found
-  module _ (r : ℕ) (e : r ≡ at + index_of 0x0A (slice at (length t) t)) where
-    sought : r ≡ at + index_of 0x0A (drop at t)
-    unfolding slice
-    sought = e ∙ ap (λ (x : List ℕ). at + index_of 0x0A (drop at x)) (take-length t)
-
+  module _ (r : ℕ) (e : r ≡ at + index_of 0x0A (drop at t)) where
     pub line_ended : r < length t → r + 1 ≡ at + length (line_in (drop at t))
     unfolding line_in
     line_ended h =
-        let s = sought in
         let d = length-drop at t in
         let n = length-take-le (suc (index_of 0x0A (drop at t))) (drop at t) (omega arith) in
         omega arith
@@ -41,7 +36,6 @@ module _ (t : List ℕ) (at : ℕ) (i : at ≤ length t) where
     pub line_unended : length t ≤ r → r ≡ at + length (line_in (drop at t))
     unfolding line_in
     line_unended h =
-        let s = sought in
         let d = length-drop at t in
         let k = index_le 0x0A (drop at t) in
         let n = ap length (take_all (suc (index_of 0x0A (drop at t))) (drop at t) (omega arith)) in
@@ -160,12 +154,11 @@ module _ (i : ℕ) (h : i < row_count) (l area : List ℕ) (n : ℕ)
 
 -- ---- behind the lines of some types
 module _ (R : Rules) (r : Row) (ks l area : List ℕ) (k : ℕ) (e : k ≡ r.kind) (u : ℕ) (d : u ≡ rival_of R k) (f : ℕ)
-    (q : f ≡ 0 + index_of u (slice 0 (length ks) ks)) where
+    (q : f ≡ 0 + index_of u (drop 0 ks)) where
   first : f ≡ index_of (rival_of R r.kind) ks
-  unfolding slice
   first =
-      let z : 0 + index_of u (take (length ks) ks) ≡ index_of u (take (length ks) ks) = omega arith in
-      q ∙ z ∙ ap₂ index_of (d ∙ ap (rival_of R) e) (take-length ks)
+      let z : 0 + index_of u ks ≡ index_of u ks = omega arith in
+      q ∙ z ∙ ap (λ (w : ℕ). index_of w ks) (d ∙ ap (rival_of R) e)
 
   -- one of them shuts the row's out
   pub read_shut : f < length ks → RowRead R r ks l area 0

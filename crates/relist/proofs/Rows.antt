@@ -11,7 +11,7 @@ use Rattle.rules.specs.declared.Book.TheVariants.{PresentLenient}
 use Rattle.rules.specs.Message.{Parameter, body}
 use Rattle.rules.proofs.Unlisted.{body-append}
 use Rattle.listing.specs.Listing.{no_row, row_at, row_count, row_count_lem}
-use Rattle.relist.specs.Relist.{line_in, behind, row_contents, row_says, types_of, among, comes, row_parameter, Lined, taken}
+use Rattle.relist.specs.Relist.{line_in, behind, row_contents, row_says, types_of, comes, row_parameter, Lined, taken}
 use Rattle.relist.specs.Reading.{RowRead, LaidBehind, TookRows}
 use Rattle.relist.proofs.Reading.{line_within, line_part, line_rest, says_some, says_few}
 use Rattle.relist.proofs.Said.{comes_both}

@@ -2,7 +2,7 @@
 -- contents, and by no row with another key. Rows have keys of characters without `=`, each its own.
 -- Assumes nothing.
 use Rattle.std.proofs.Common.{◌≡◌, ℕ, suc, ◌+◌, ◌-◌, ◌≤◌, Bool, true, false, T, List, [], ◌∷◌, ◌++◌, length, take, drop, sym, refl, ap, ◌∙◌, subst, ap₂, append_assoc, arith, length-append, take_at, drop_at}
-use Rattle.bytes.specs.Bytes.{index_of, index_after}
+use Rattle.relist.specs.First.{index_of, index_after}
 use Rattle.rules.specs.Tests.{◌or◌, ◌≤?◌, ◌=?◌, ◌and◌, pick, every}
 use Rattle.rules.proofs.Tests.{both, join, eq_of, le_of, pick_yes, pick_case}
 use Rattle.rules.specs.Pairwise.{pairwise, same_octets}

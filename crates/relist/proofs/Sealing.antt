@@ -3,14 +3,13 @@
 -- message.
 -- Assumes nothing.
 use Rattle.std.proofs.Common.{◌≡◌, ℕ, suc, ◌+◌, ◌-◌, ◌%◌, ◌<◌, ◌≤◌, List, [], ◌∷◌, ◌++◌, length, take, drop, set, sym, refl, ap, ◌∙◌, ap₂, append_assoc, append-nil, add-one, arith, length-append, length-drop, length-set, drop_of_length-le, length-take-le, take-suc-set, take_at, drop-set-lt}
-use lib.Seq.{take-length}
 use borrow.Rule.Slice.PartMut.{mid_of, put_mid, same_len_mid}
 use Rattle.rules.specs.Tests.{◌=?◌}
 use Rattle.rules.proofs.Tests.{pick_case}
 use Rattle.rules.specs.Octets.{total}
 use Rattle.rules.specs.Message.{front}
 use Rattle.rules.specs.Laying.{laid, laid_at}
-use Rattle.rules.proofs.Laying.{laid_front, laid_then, rest_whole, rest_copied}
+use Rattle.rules.proofs.Laying.{laid_front, laid_then, rest_whole, part_over}
 use Rattle.rules.specs.Table.{Style, clock, verbatim, switch, reference, decimal, hex, numbered, moment, duration, charge, terminal, display}
 use Rattle.writer.proofs.Laying.{sealed}
 use Rattle.relist.specs.Back.{pairs_back, head_back, one_back, switch_back, state_back, reference_back, moment_back, terminal_back, back_of, read_off}
@@ -48,9 +47,10 @@ module _ (s : Style) (t : List ℕ) (b : Back) (e : b ≡ back_of s t) where
   ten_there = omega (arith, ten_at_most, ap (λ (b : Back). length b.octets) e, (ten s t).1)
 
   -- they stand at the area's start
-  module _ (old out : List ℕ)
-      (q : out ≡ take (length (take b.length b.octets)) (take b.length b.octets)
-      ++ drop (length (take b.length b.octets)) old) where
+  module _ (old first : List ℕ) (q : first ≡ take b.length b.octets) where
+    abbrev out : List ℕ
+    out = first ++ drop b.length old
+
     abbrev head : List ℕ
     head = take b.length b.octets
 
@@ -59,7 +59,7 @@ module _ (s : Style) (t : List ℕ) (b : Back) (e : b ≡ back_of s t) where
 
     head-laid : out ≡ laid head old
     unfolding laid
-    head-laid = q ∙ ap (λ (v : List ℕ). v ++ drop (length head) old) (take-length head)
+    head-laid = ap₂ (λ (v : List ℕ) (n : ℕ). v ++ drop n old) q (sym head_long)
 
     -- and are all
     pub read_head : length t ≤ b.from → Holds (read_off (back_of s t) t) out b.length
@@ -77,8 +77,8 @@ module _ (s : Style) (t : List ℕ) (b : Back) (e : b ≡ back_of s t) where
     -- or the rest of the value stands behind them
     pub read_both : b.from < length t → (last : List ℕ) →
         (let w = take (length t - b.from) (drop b.from t) in
-        last ≡ take (length w) w ++ drop (length w) (take (length out - b.length) (drop b.length out))) →
-        Holds (read_off (back_of s t) t) (put_mid b.length (length out - b.length) out last)
+        last ≡ w) →
+        Holds (read_off (back_of s t) t) (put_mid b.length (b.length + (length t - b.from) - b.length) out last)
         (b.length + (length t - b.from))
     unfolding read_off laid
     read_both h last p =
@@ -93,8 +93,10 @@ module _ (s : Style) (t : List ℕ) (b : Back) (e : b ≡ back_of s t) where
           ap length (rest_whole b.from t),
           length-drop b.from t,
         ) in
-        let l : put_mid b.length (length out - b.length) out last ≡ laid (head ++ w) old =
-        rest_copied w out last b.length p ∙ ap₂ (laid_at w) (sym head_long) head-laid ∙ laid_then head w old in
+        let k : b.length + (length t - b.from) - b.length ≡ length w =
+        omega (arith, ap length (rest_whole b.from t), length-drop b.from t) in
+        let l : put_mid b.length (b.length + (length t - b.from) - b.length) out last ≡ laid (head ++ w) old =
+        part_over w out last b.length _ k p ∙ ap₂ (laid_at w) (sym head_long) head-laid ∙ laid_then head w old in
         record {
           long = sym n ∙ ap length (sym z);
           octets = ap (take (b.length + (length t - b.from))) l
@@ -107,10 +109,10 @@ module _ (old : List ℕ) (kind n at : ℕ) where
   opened = set (set old at kind) (at + 1) n
 
   -- as many octets as before, also where as many as there were are put behind the two
-  pub opened_long : (last : List ℕ) → length last ≡ length (mid_of (at + 2) (length opened - (at + 2)) opened) →
-      length (put_mid (at + 2) (length opened - (at + 2)) opened last) ≡ length old
-  opened_long last e =
-      same_len_mid (at + 2) (length opened - (at + 2)) opened last e
+  pub opened_long : (k : ℕ) (last : List ℕ) → length last ≡ length (mid_of (at + 2) k opened) →
+      length (put_mid (at + 2) k opened last) ≡ length old
+  opened_long k last e =
+      same_len_mid (at + 2) k opened last e
       ∙ length-set (set old at kind) (at + 1) n ∙ length-set old at kind
 
   module _ (h : at + 2 ≤ length old) where
@@ -137,16 +139,15 @@ module _ (v old : List ℕ) (kind size : ℕ) where
   pub no_parameter : length old < size + 2 + length v → LaidBehind kind v old size old (size + 2 + length v)
   no_parameter h = record { ends = omega arith; front = λ l. absurd (omega arith) }
 
-  pub one_parameter : size + 2 + length v ≤ length old → (last : List ℕ) →
+  pub one_parameter : size + 2 + length v ≤ length old → (last : List ℕ) → last ≡ v →
       (let o = opened old kind (length v) size in
-      last ≡ take (length v) v ++ drop (length v) (take (length o - (size + 2)) (drop (size + 2) o))) →
-      (let o = opened old kind (length v) size in
-      LaidBehind kind v old size (put_mid (size + 2) (length o - (size + 2)) o last) (size + 2 + length v))
+      LaidBehind kind v old size (put_mid (size + 2) (size + 2 + length v - (size + 2)) o last) (size + 2 + length v))
   one_parameter h last e =
       let o = opened old kind (length v) size in
       let z : size + 2 + length v ≡ size + suc (suc (length v)) = omega arith in
-      let l : put_mid (size + 2) (length o - (size + 2)) o last ≡ laid_at (kind ∷ length v ∷ v) size old =
-      rest_copied v o last (size + 2) e ∙ two_then old kind (length v) size (omega arith) v in
+      let k : size + 2 + length v - (size + 2) ≡ length v = omega arith in
+      let l : put_mid (size + 2) (size + 2 + length v - (size + 2)) o last ≡ laid_at (kind ∷ length v ∷ v) size old =
+      part_over v o last (size + 2) _ k e ∙ two_then old kind (length v) size (omega arith) v in
       record {
         ends = omega arith;
         front = λ _. ap₂ take z l ∙ laid_front (kind ∷ length v ∷ v) size old (omega arith);
@@ -156,16 +157,15 @@ module _ (v old : List ℕ) (kind size : ℕ) where
 module _ (v old : List ℕ) (kind : ℕ) where
   -- its octets but the checksum, where the parameters were copied
   abbrev pub fronted : List ℕ → List ℕ
-  fronted last = let o = opened old kind (length v) 0 in put_mid 2 (length o - 2) o last
+  fronted last = put_mid 2 (length v + 2 - 2) (opened old kind (length v) 0) last
 
-  module _ (h : length v + 3 ≤ length old) (last : List ℕ)
-      (e : let o = opened old kind (length v) 0 in
-      last ≡ take (length v) v ++ drop (length v) (take (length o - 2) (drop 2 o))) where
+  module _ (h : length v + 3 ≤ length old) (last : List ℕ) (e : last ≡ v) where
     front_laid : fronted last ≡ laid (kind ∷ length v ∷ v) old
     unfolding laid laid_at
     front_laid =
         let z : 0 + suc (suc (length v)) ≡ suc (suc (length v)) = omega arith in
-        rest_copied v (opened old kind (length v) 0) last 2 e ∙ two_then old kind (length v) 0 (omega arith) v
+        part_over v (opened old kind (length v) 0) last 2 (length v + 2 - 2) (omega arith) e
+        ∙ two_then old kind (length v) 0 (omega arith) v
         ∙ ap (λ (k : ℕ). kind ∷ length v ∷ (v ++ drop k old)) z
 
     pub sealing : (sum r : ℕ) → sum ≡ total (take (length v + 2) (fronted last)) % 256 → r < 256 →

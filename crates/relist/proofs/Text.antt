@@ -1,10 +1,11 @@
 -- Texts cut at the first of an octet: what stands before it has none of it, so the cut is where it was put. Of a text
 -- this is its first line, of a line its key.
 -- Assumes nothing.
-use Rattle.std.proofs.Common.{◌≡◌, ℕ, suc, ◌+◌, ◌≤◌, Bool, true, false, T, eqb, ◌⊎◌, List, [], ◌∷◌, ◌++◌, length, take, drop, sym, refl, ap, ◌∙◌, ap₂, inl, inr, arith, length-append, take-append-drop}
-use lib.Seq.{take-append_seam, drop-append_seam}
+use Rattle.std.proofs.Common.{◌≡◌, ℕ, suc, ◌≤◌, Bool, true, false, T, eqb, ◌⊎◌, List, [], ◌∷◌, ◌++◌, ◌<◌, length, get_or, take, drop, sym, refl, ap, ◌∙◌, ap₂, inl, inr, arith, length-append, take-append-drop}
+use lib.ListN.{drop_of_length-le}
+use lib.Seq.{take-append_seam, drop-append_seam, drop-cons}
 use lib.Dec.{eqb_refl}
-use Rattle.bytes.specs.Bytes.{index_of, index_after}
+use Rattle.relist.specs.First.{index_of, index_after}
 use Rattle.rules.specs.Tests.{◌≤?◌, ◌=?◌}
 use Rattle.rules.proofs.Tests.{every_head, every_tail, le_of, eq_of}
 use Rattle.rules.proofs.Returns.{holds}
@@ -63,6 +64,28 @@ module _ (b : ℕ) where
       go false e (inl h) = inl (rw (sym e) (ap suc h))
       go false e (inr w) =
           inr (x ∷ w.0, w.1, rw (sym e) (ap suc w.2), ap (λ (v : List ℕ). x ∷ v) w.3)
+
+  -- ---- a text is read octet by octet
+  module _ (t : List ℕ) (i : ℕ) (h : i < length t) where
+    -- it stands here
+    pub found_at : get_or t i 0 ≡ b → index_of b (drop i t) ≡ 0
+    found_at e =
+        ap (index_of b) (drop-cons t i 0 h ∙ ap (λ (x : ℕ). x ∷ drop (suc i) t) e) ∙ found (drop (suc i) t)
+
+    -- or from the next place on
+    pub sought_on : (get_or t i 0 ≡ b → ⊥) → index_of b (drop i t) ≡ suc (index_of b (drop (suc i) t))
+    unfolding index_of index_after ◌=?◌
+    sought_on n = ap (index_of b) (drop-cons t i 0 h) ∙ go (eqb (get_or t i 0) b) refl
+      where
+        go : (q : Bool) → q ≡ eqb (get_or t i 0) b →
+            index_after (eqb (get_or t i 0) b) (index_of b (drop (suc i) t)) ≡ suc (index_of b (drop (suc i) t))
+        go true e = absurd (n (eq_of (get_or t i 0) b (rw (sym e) tt)))
+        go false e = rw (sym e) refl
+
+  -- nothing stands behind the end
+  pub nowhere : (t : List ℕ) (i : ℕ) → length t ≤ i → index_of b (drop i t) ≡ 0
+  unfolding index_of
+  nowhere t i h = ap (index_of b) (drop_of_length-le t {i = i} h)
 
   -- two cuts of one text are one
   pub same_cut : (l t m u : List ℕ) → index_of b l ≡ length l → index_of b m ≡ length m → l ++ b ∷ t ≡ m ++ b ∷ u →

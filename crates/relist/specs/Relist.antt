@@ -2,7 +2,7 @@
 -- line where that is the row's own. What no row takes must be the last line, and nothing may stand behind it.
 -- Assumes nothing.
 use Rattle.std.specs.Prelude.{ℕ, suc, ◌+◌, ◌-◌, Bool, false, List, [], ◌∷◌, ◌++◌, length, take, drop}
-use Rattle.bytes.specs.Bytes.{index_of}
+use Rattle.relist.specs.First.{index_of}
 use Rattle.rules.specs.Tests.{◌≤?◌, ◌=?◌, pick}
 use Rattle.rules.specs.Pairwise.{same_octets}
 use Rattle.rules.specs.Table.{Rules, Row, style_of, class_of, rival_of}

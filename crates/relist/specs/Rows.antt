@@ -3,7 +3,7 @@
 -- Assumes nothing.
 use Rattle.std.specs.Prelude.{◌≡◌, ℕ, List, [], ◌∷◌, ◌++◌, replicate, refl}
 use Prim.Native.String.{String}
-use Rattle.bytes.specs.Bytes.{index_of, index_after}
+use Rattle.relist.specs.First.{index_of, index_after}
 use Rattle.rules.specs.Tests.{◌or◌, ◌≤?◌, ◌=?◌, ◌and◌, pick}
 use Rattle.rules.specs.Pairwise.{pairwise}
 use Rattle.rules.specs.Contents.{within, in_set, digit, pair_fits, pairs_fit, short_month, days, month_of, columns_fit, all_in, head_fits}

@@ -1,6 +1,8 @@
 // Listings come back as messages (document 02, Q-1): a listing as showmsg prints it becomes the message with one
 // parameter for each value line, or a refusal: 61 at the first line that no valid listing has there, 62 for more than
 // 255 octets of parameters, 15 for an output that is too short. Everything is judged before anything is written.
+#![tactic(auto)]
+
 ghost use Rattle.std.specs.Prelude.{◌≡◌, ◌+◌, ◌-◌, ◌<◌, ◌≤◌, [], ◌∷◌, ◌++◌};
 ghost use Rattle.std.proofs.Math.ListN as list;
 ghost use Rattle.rules.specs.Table.{rules_of, style_of};
@@ -10,6 +12,7 @@ ghost use Rattle.rules.specs.Message.{octets};
 ghost use Rattle.listing.specs.Numerals.{hex_value};
 ghost use Rattle.listing.specs.Listing.{row_at, row_count};
 ghost use Rattle.writer.specs.Writing.{output_after};
+ghost use Rattle.relist.specs.First.{index_of};
 ghost use Rattle.relist.specs.Back.{hex_at, number_at, pairs_back, head_back, one_back, switch_back, state_back, reference_back, moment_back, terminal_back, back_of, read_off};
 ghost use Rattle.relist.specs.Relist.{line_in, taken, kind_in, closed, message_for, relisted, relisting};
 ghost use Rattle.relist.specs.Reading.{longest_value, read_size, Holds, LineRead, RowRead, LaidBehind, TookRows, Sealed};
@@ -26,7 +29,7 @@ const VALUE: usize = 264;
 const READ: usize = 274;
 
 // What a value says: the first `length` of ten octets, and then the value itself from `from` on.
-#[derive(Drop)]
+#[derive(Clone, Copy)]
 struct Back {
     octets: [u8; 10],
     length: usize,
@@ -34,7 +37,7 @@ struct Back {
 }
 
 // The value lines of a text: where the next line begins, how many there are, the octets of their parameters.
-#[derive(Drop)]
+#[derive(Clone, Copy)]
 struct Taken {
     at: usize,
     count: usize,
@@ -232,10 +235,11 @@ fn lay_contents(class: Class, value: &[u8], out: &mut [u8]) -> usize
     let n = back.length;
     let from = back.from;
     let octets = back.octets;
-    bytes::copy(&octets[..n], out);
+    out[..n].copy_from_slice(&octets[..n]);
     if from < value.len() {
-        bytes::copy(&value[from..], &mut out[n..]);
-        n + (value.len() - from)
+        let end = n + (value.len() - from);
+        out[n..end].copy_from_slice(&value[from..]);
+        end
     } else {
         n
     }
@@ -263,13 +267,28 @@ fn line_length(i: usize, line: &[u8], out: &mut [u8]) -> usize
     }
 }
 
+// Where an octet first stands from a place on; where the text ends, if nowhere.
+fn find(text: &[u8], from: usize, octet: u8) -> usize
+    requires { from ≤ list.length text.now }
+    ensures { result ≡ from + index_of octet (list.drop from text.now) }
+{
+    let mut i = from;
+    while i < text.len() {
+        if text[i] == octet {
+            return i;
+        }
+        i += 1;
+    }
+    i
+}
+
 // The same where lines of these types stand before it.
 fn row_length(i: usize, line: &[u8], kinds: &[u8], out: &mut [u8]) -> usize
     requires { (i < row_count) × (list.length out.old ≡ read_size) }
     ensures { RowRead (rules_of book.PresentLenient) (row_at i) kinds.now line.now out.new result }
 {
     let rival = rules::rival_of(Book::PresentLenient, listing::kind_at(i));
-    if bytes::scan::find(kinds, 0, kinds.len(), rival) < kinds.len() {
+    if find(kinds, 0, rival) < kinds.len() {
         0
     } else {
         line_length(i, line, out)
@@ -281,7 +300,7 @@ fn line_end(text: &[u8], at: usize) -> usize
     requires { at ≤ list.length text.now }
     ensures { result ≡ at + list.length (line_in (list.drop at text.now)) }
 {
-    let end = bytes::scan::find(text, at, text.len(), b'\n');
+    let end = find(text, at, b'\n');
     if end < text.len() { end + 1 } else { end }
 }
 
@@ -295,7 +314,7 @@ fn lay_parameter(kind: u8, contents: &[u8], area: &mut [u8], size: usize) -> usi
     if end <= area.len() {
         area[size] = kind;
         area[size + 1] = contents.len() as u8;
-        bytes::copy(contents, &mut area[start..]);
+        area[start..end].copy_from_slice(contents);
     }
     end
 }
@@ -372,7 +391,7 @@ fn seal(kind: u8, body: &[u8], out: &mut [u8])
     let end = n + 2;
     out[0] = kind;
     out[1] = n as u8;
-    bytes::copy(body, &mut out[2..]);
+    out[2..end].copy_from_slice(body);
     let sum = writer::sum_of(&out[..end]);
     out[end] = std::num::wrapping_sub_u8(0, sum);
 }

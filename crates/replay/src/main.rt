@@ -1,21 +1,32 @@
 // Traffic: reads messages from standard input, each behind its length in two octets, and prints the listing of each.
 // What it must print was written by the second reader (tools/replay).
-ghost use Rattle.std.specs.Prelude.{◌≤◌, length};
+#![tactic(auto)]
 
-use libc::{STDIN_FILENO, STDOUT_FILENO};
+ghost use Rattle.std.specs.Prelude.{◌≤◌, IfOk, length};
 
-fn show(octets: &[u8]) {
+use std::io;
+use std::io::{Read, Write};
+
+fn show(out: &mut impl Write, octets: &[u8]) -> io::Result<()> {
     let text = listing::listing(octets);
     let lines = text.octets;
-    let length = text.length;
-    io::write_all(STDOUT_FILENO, &lines[..length]);
+    out.write_all(&lines[..text.length])
 }
 
-fn fill(octets: &mut [u8], n: usize) -> usize
+// Fills octets from the first on, put together from as many reads as it takes, and says how many there were.
+fn fill(input: &mut impl Read, octets: &mut [u8], n: usize) -> io::Result<usize>
     requires { n ≤ length octets.old }
-    ensures { result ≤ n }
+    ensures { IfOk result (λ got. got ≤ n) }
 {
-    io::read_full(STDIN_FILENO, &mut octets[..n])
+    let mut filled = 0;
+    while filled < n {
+        let got = input.read(&mut octets[filled..n])?;
+        if got == 0 {
+            return Ok(filled);
+        }
+        filled += got;
+    }
+    Ok(filled)
 }
 
 fn number(high: u8, low: u8) -> usize {
@@ -23,28 +34,28 @@ fn number(high: u8, low: u8) -> usize {
 }
 
 // Says whether there was one more.
-fn next() -> bool {
+fn next(input: &mut impl Read, out: &mut impl Write) -> io::Result<bool> {
     let mut size = [0u8; 2];
-    if io::read_full(STDIN_FILENO, &mut size) < 2 {
-        return false;
+    if fill(input, &mut size, 2)? < 2 {
+        return Ok(false);
     }
     let n = number(size[0], size[1]);
     if 300 < n {
-        return false;
+        return Ok(false);
     }
     let mut octets = [0u8; 300];
-    let got = fill(&mut octets, n);
-    show(&octets[..got]);
-    true
+    let got = fill(input, &mut octets, n)?;
+    show(out, &octets[..got])?;
+    Ok(true)
 }
 
-fn main() {
-    let mut count: u64 = 0;
-    while count < 1000000 {
-        if next() {
-            count += 1;
-        } else {
-            return;
+fn main(rt: HostRuntime) -> io::Result<()> {
+    let mut input = rt.stdin();
+    let mut out = io::writer(&rt);
+    for _ in 0..1000000u64 {
+        if !next(&mut input, &mut out)? {
+            break;
         }
     }
+    Ok(())
 }

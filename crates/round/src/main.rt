@@ -2,52 +2,43 @@
 // then a text behind its length in two octets, and prints for each what `relist::message_of` answers, the whole area,
 // which was full of A5H, and of a message whether its listing is the text. What it must print was written by the second
 // reader, many rows by hand (tools/replay).
-ghost use Rattle.std.specs.Prelude.{◌≤◌, length};
+#![tactic(auto)]
 
-use libc::{STDIN_FILENO, STDOUT_FILENO};
+ghost use Rattle.std.specs.Prelude.{◌≤◌, IfOk, length};
+
 use rules::Fault;
+use std::io;
+use std::io::{Read, Write};
 use writer::Written;
 
-// The most octets that an area has, their digits, and the most that a text has.
+// The most octets that an area has, and the most that a text has.
 const ROOM: usize = 300;
-
-const DIGITS: usize = 600;
 
 const TEXT: usize = 4096;
 
 // What an area holds before.
 const FILL: u8 = 0xA5;
 
-fn say(text: &[u8]) {
-    io::write_all(STDOUT_FILENO, text);
+fn say(out: &mut impl Write, text: &[u8]) -> io::Result<()> {
+    out.write_all(text)
 }
 
-fn say_number(text: &[u8], n: u64) {
-    say(text);
-    io::print_decimal(STDOUT_FILENO, n);
+fn say_number(out: &mut impl Write, text: &[u8], n: u64) -> io::Result<()> {
+    say(out, text)?;
+    write!(out, "{n}")
 }
 
 // The two digits of an octet.
-fn spell(x: u8, pair: &mut [u8; 16]) {
-    io::hex(x as u64, 2, pair);
+fn spell(out: &mut impl Write, x: u8) -> io::Result<()> {
+    write!(out, "{x:02x}")
 }
 
-// The octets in hex, in one write.
-fn say_area(area: &[u8])
-    requires { length area.now ≤ 300 }
-{
-    let mut digits = [0u8; DIGITS];
-    let mut pair = [0u8; 16];
-    let n = area.len();
-    let mut i: usize = 0;
-    while i < n {
-        spell(area[i], &mut pair);
-        digits[2 * i] = pair[0];
-        digits[2 * i + 1] = pair[1];
-        i += 1;
+// The octets in hex.
+fn say_area(out: &mut impl Write, area: &[u8]) -> io::Result<()> {
+    for x in area {
+        spell(out, *x)?;
     }
-    let end = 2 * n;
-    say(&digits[..end]);
+    Ok(())
 }
 
 // Is the text the listing of these octets?
@@ -58,47 +49,49 @@ fn comes_back(octets: &[u8], text: &[u8]) -> bool {
     rules::same_octets(&lines[..length], text)
 }
 
-fn say_message(n: usize, area: &[u8], text: &[u8])
-    requires { length area.now ≤ 300 }
-{
-    say_number(b"message ", n as u64);
-    say(b" ");
-    say_area(area);
+fn say_message(out: &mut impl Write, n: usize, area: &[u8], text: &[u8]) -> io::Result<()> {
+    say_number(out, b"message ", n as u64)?;
+    say(out, b" ")?;
+    say_area(out, area)?;
     if n <= area.len() {
         if comes_back(&area[..n], text) {
-            say(b" same\n");
-            return;
+            return say(out, b" same\n");
         }
     }
-    say(b" other\n");
+    say(out, b" other\n")
 }
 
-fn say_fault(fault: Fault, area: &[u8])
-    requires { length area.now ≤ 300 }
-{
-    say_number(b"refused ", fault.number as u64);
-    say_number(b" at ", fault.place as u64);
-    say(b" ");
-    say_area(area);
-    say(b"\n");
+fn say_fault(out: &mut impl Write, fault: Fault, area: &[u8]) -> io::Result<()> {
+    say_number(out, b"refused ", fault.number as u64)?;
+    say_number(out, b" at ", fault.place as u64)?;
+    say(out, b" ")?;
+    say_area(out, area)?;
+    say(out, b"\n")
 }
 
-fn show(text: &[u8], area: &mut [u8])
-    requires { length area.old ≤ 300 }
-{
+fn show(out: &mut impl Write, text: &[u8], area: &mut [u8]) -> io::Result<()> {
     let writing = relist::message_of(text, area);
     let answer = writing.answer;
     match answer {
-        Written::Message { size } => say_message(size as usize, area, text),
-        Written::Declined { fault } => say_fault(fault, area),
+        Written::Message { size } => say_message(out, size as usize, area, text),
+        Written::Declined { fault } => say_fault(out, fault, area),
     }
 }
 
-fn fill(octets: &mut [u8], n: usize) -> usize
+// Fills octets from the first on, put together from as many reads as it takes, and says how many there were.
+fn fill(input: &mut impl Read, octets: &mut [u8], n: usize) -> io::Result<usize>
     requires { n ≤ length octets.old }
-    ensures { result ≤ n }
+    ensures { IfOk result (λ got. got ≤ n) }
 {
-    io::read_full(STDIN_FILENO, &mut octets[..n])
+    let mut filled = 0;
+    while filled < n {
+        let got = input.read(&mut octets[filled..n])?;
+        if got == 0 {
+            return Ok(filled);
+        }
+        filled += got;
+    }
+    Ok(filled)
 }
 
 fn number(high: u8, low: u8) -> usize {
@@ -106,33 +99,33 @@ fn number(high: u8, low: u8) -> usize {
 }
 
 // Says whether there was one more.
-fn next() -> bool {
+fn next(input: &mut impl Read, out: &mut impl Write) -> io::Result<bool> {
     let mut head = [0u8; 4];
-    if io::read_full(STDIN_FILENO, &mut head) < 4 {
-        return false;
+    if fill(input, &mut head, 4)? < 4 {
+        return Ok(false);
     }
     let room = number(head[0], head[1]);
     let n = number(head[2], head[3]);
     if ROOM < room {
-        return false;
+        return Ok(false);
     }
     if TEXT < n {
-        return false;
+        return Ok(false);
     }
     let mut text = [0u8; TEXT];
-    let got = fill(&mut text, n);
+    let got = fill(input, &mut text, n)?;
     let mut area = [FILL; ROOM];
-    show(&text[..got], &mut area[..room]);
-    true
+    show(out, &text[..got], &mut area[..room])?;
+    Ok(true)
 }
 
-fn main() {
-    let mut count: u64 = 0;
-    while count < 1000000 {
-        if next() {
-            count += 1;
-        } else {
-            return;
+fn main(rt: HostRuntime) -> io::Result<()> {
+    let mut input = rt.stdin();
+    let mut out = io::writer(&rt);
+    for _ in 0..1000000u64 {
+        if !next(&mut input, &mut out)? {
+            break;
         }
     }
+    Ok(())
 }

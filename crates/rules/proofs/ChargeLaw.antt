@@ -10,7 +10,7 @@ use native.Mathlib.Omega.{arith}
 use lib.ListN.{length}
 use lib.Dec.{T}
 use Rattle.rules.specs.Tests.{◌≤?◌, ◌=?◌, ◌and◌, ◌or◌, pick}
-use Rattle.rules.proofs.Tests.{pick_yes, pick_not, pick_case, both, join, either, left, right, le_of, of_le, eq_of, decide}
+use Rattle.rules.proofs.Tests.{pick_yes, pick_not, pick_case, both, join, right, le_of, of_le, eq_of, decide}
 use Rattle.rules.proofs.Returns.{same_truth}
 use Rattle.rules.specs.Contents.{within, in_set, digit, letter, only}
 use Rattle.rules.specs.ContentJudge.{passes, charge_judge}

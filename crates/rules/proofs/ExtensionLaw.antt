@@ -10,9 +10,9 @@ use native.Mathlib.Omega.{arith}
 use lib.ListN.{length}
 use lib.Dec.{T}
 use Rattle.rules.specs.Tests.{◌≤?◌, ◌=?◌, ◌and◌, ◌or◌, pick}
-use Rattle.rules.proofs.Tests.{pick_yes, pick_not, pick_case, both, join, either, left, right, le_of, of_le, eq_of, of_eq, decide}
+use Rattle.rules.proofs.Tests.{pick_yes, pick_not, pick_case, both, join, left, right, le_of, of_le, eq_of, of_eq, decide}
 use Rattle.rules.proofs.Returns.{same_truth}
-use Rattle.rules.specs.Contents.{Range, within, in_set, digit, all_in, only}
+use Rattle.rules.specs.Contents.{Range, in_set, digit, all_in, only}
 use Rattle.rules.specs.ContentJudge.{passes, extension_judge}
 use Rattle.rules.specs.Extension.{blank, country_fits, extension_fits, extension_by, extension_keep}
 use Rattle.rules.proofs.ClassLaw.{Lawful}

@@ -7,7 +7,7 @@ use mathlib.Core.Bool.{Bool}
 use mathlib.Core.Logic.{◌⊎◌, inl, inr, ◌↔◌}
 use native.Mathlib.Omega.{arith}
 use lib.Dec.{T}
-use Rattle.rules.specs.Tests.{◌≤?◌, ◌=?◌, ◌and◌, ◌or◌, pick}
+use Rattle.rules.specs.Tests.{◌=?◌, ◌and◌, ◌or◌, pick}
 use Rattle.rules.proofs.Tests.{both, join, either, left, right, le_of, of_le, eq_of, of_eq, pick_case, not_zero}
 use Rattle.rules.specs.Contents.{within}
 use Rattle.rules.specs.Table.{Rules, listed, class_of, type_fault, class_fault}

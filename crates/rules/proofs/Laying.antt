@@ -56,6 +56,13 @@ laid_then v w old =
 pub part_is : (s : List ℕ) (start n : ℕ) → take (start + n - start) (drop start s) ≡ take n (drop start s)
 part_is s start n = let z : start + n - start ≡ n = omega arith in ap (λ (k : ℕ). take k (drop start s)) z
 
+-- octets over a part that is as long as they are
+pub part_over : (v s last : List ℕ) (at n : ℕ) → n ≡ length v → last ≡ v → put_mid at n s last ≡ laid_at v at s
+unfolding laid_at
+part_over v s last at n h e =
+    ap₂ (λ (t : List ℕ) (k : ℕ). take at s ++ (t ++ drop k (drop at s))) e h
+    ∙ ap (λ (t : List ℕ). take at s ++ (v ++ t)) (drop-drop (length v) at s)
+
 -- the rest
 pub rest_whole : (at : ℕ) (s : List ℕ) → take (length s - at) (drop at s) ≡ drop at s
 rest_whole at s = take_all (length s - at) (drop at s) (omega (arith, length-drop at s))

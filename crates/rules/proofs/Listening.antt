@@ -48,7 +48,7 @@ close_some σ (x ∷ b) q = clash cc
 close-octets : (σ : ℕ) (b : List ℕ) → Octets b → Octets (close σ b)
 unfolding close
 close-octets σ [] o = (checksum_octet σ, tt)
-close-octets σ (x ∷ b) o = (o.0, close-octets _ b o.1)
+close-octets σ (x ∷ b) o = (o.0, close-octets ((σ + x) % 256) b o.1)
 
 -- what listening needs of a format: what may still come at each stage, and how the machine's step takes one octet of
 -- it

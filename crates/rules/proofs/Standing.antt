@@ -14,7 +14,7 @@ use Rattle.rules.specs.Octets.{Octets}
 use Rattle.rules.specs.Contents.{Range, in_set}
 use Rattle.rules.specs.ContentJudge.{Judge, passes, passing, tens_fit, ones_fit, pair_at, pair_stands, pairs_judge, text_judge, judge_of, ok_at, remember, fits_from, good_front}
 use Rattle.rules.proofs.Octets.{octets-drop}
-use Rattle.rules.proofs.Tests.{both, eq_of, of_eq, le_of, of_le, pick_yes, pick_not}
+use Rattle.rules.proofs.Tests.{eq_of, of_eq, le_of, of_le, pick_yes, pick_not}
 use Rattle.rules.proofs.Returns.{T_of, yes_eq, no_eq, same_truth}
 use Rattle.rules.proofs.AtIndex.{pair_late}
 use Rattle.rules.specs.declared.Class.{Class}

@@ -1,6 +1,8 @@
 // What the judge of single octets is made of, and the tests that it needs: the class of a parameter type, the lengths
 // of a class and the room they fit; whether two texts are the same, and what a reference of two octets is. What may
 // stand in contents is crate `contents`. Every public function is total.
+#![tactic(auto)]
+
 ghost use Rattle.std.specs.Prelude.{◌≡◌, true, ◌+◌, ◌*◌, ◌-◌};
 ghost use Rattle.rules.specs.Tests.{◌=?◌, ◌and◌, ◌or◌};
 ghost use Rattle.rules.specs.Pairwise.{same_octets};
@@ -51,7 +53,7 @@ const CARRIED: u8 = 0;
 const UNLISTED: u8 = 22;
 
 // The classes of contents, in the order of their codes.
-#[derive(Drop)]
+#[derive(Clone, Copy)]
 pub enum Class {
     Carried,
     Date,
@@ -79,7 +81,7 @@ pub enum Class {
 }
 
 // The book of rules: the edition, and the way with types that have no row in it.
-#[derive(Drop)]
+#[derive(Clone, Copy)]
 pub enum Book {
     PresentStrict,
     PresentLenient,
@@ -99,7 +101,7 @@ pub const LENIENT: u8 = 1;
 
 // The kinds of value that a draft holds (document 01, Drafts; document 02, Q-4): the numbers of a date, a code, a state
 // with a reference, a text, a carried text; a date that may have seconds, a duration, a first octet with a text.
-#[derive(Drop)]
+#[derive(Clone, Copy)]
 pub enum Form {
     DateValue,
     CodeValue,
@@ -113,7 +115,7 @@ pub enum Form {
 
 // What the next octet is: the message type, the length L, a parameter type or (no room left) the checksum, a
 // parameter length, an octet of contents.
-#[derive(Drop)]
+#[derive(Clone, Copy)]
 pub enum Stage {
     Kind,
     Size,
@@ -134,7 +136,7 @@ pub enum Stage {
 }
 
 // The sum of the octets so far modulo 256, how many parameters began in them, and how many octets they are.
-#[derive(Drop)]
+#[derive(Clone, Copy)]
 pub struct Spot {
     pub sum: u8,
     pub parameter: u8,
@@ -143,14 +145,14 @@ pub struct Spot {
 
 // The place and the number, and the parameter of the octet there: its number in the message, from 1; 0 where it stands
 // in none (document 02, Q-3).
-#[derive(Drop)]
+#[derive(Clone, Copy)]
 pub struct Fault {
     pub place: u16,
     pub number: u8,
     pub parameter: u8,
 }
 
-#[derive(Drop)]
+#[derive(Clone, Copy)]
 pub enum State {
     Waiting(Stage, Spot),
     Message(u16),
@@ -510,7 +512,7 @@ pub fn is_strict(b: Book) -> bool
 }
 
 // The lengths of a class: from the least to the most, and perhaps another.
-#[derive(Drop)]
+#[derive(Clone, Copy)]
 struct Lengths {
     least: u8,
     most: u8,

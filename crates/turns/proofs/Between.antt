@@ -1,7 +1,7 @@
 -- From header to header: the machine stands at the last header on the way as it would have come there octet by octet;
 -- the room falls by what lies between; and how far a stop can be.
 -- Assumes nothing.
-use Rattle.std.proofs.Common.{◌≡◌, ℕ, suc, ◌+◌, ◌-◌, ◌*◌, ◌≤◌, true, T, List, [], ◌∷◌, length, take, drop, refl, ap, ◌∙◌, subst, add_assoc, arith, length-drop, drop-drop}
+use Rattle.std.proofs.Common.{◌≡◌, ℕ, ◌+◌, ◌-◌, ◌*◌, ◌≤◌, true, T, List, [], ◌∷◌, length, take, drop, refl, ap, ◌∙◌, subst, add_assoc, arith, length-drop, drop-drop}
 use Rattle.rules.proofs.Tests.{both, join, le_of, clash}
 use Rattle.rules.proofs.Returns.{T_of, holds}
 use Rattle.rules.specs.Octets.{Octets}

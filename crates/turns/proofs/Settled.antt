@@ -1,6 +1,5 @@
 -- The promise of the public function settles its answer: any two outcomes that it allows are equal. Assumes nothing.
 use Rattle.std.proofs.Common.{◌≡◌}
-use Rattle.rules.specs.Table.{rules_of}
 use Rattle.turns.proofs.One.{turned_one}
 use Rattle.turns.proofs.through.Reads as through
 

@@ -1,6 +1,8 @@
 // Parameters in turn (document 01, The message): one function takes a header, the other its contents, and they call
 // each other while the room falls. What they go along is lent once more (`&&[u8]`), and what they give is one number:
 // so the two become one loop that needs no stack for a parameter.
+#![tactic(auto)]
+
 ghost use Rattle.std.specs.Prelude.{◌≡◌, ℕ, ◌+◌, ◌-◌, ◌*◌, ◌<◌, ◌≤◌, true, length as long, take, drop};
 ghost use Rattle.rules.specs.Table.{Rules, rules_of};
 ghost use Rattle.rules.specs.ContentJudge.{passing, judge_of};
@@ -12,7 +14,7 @@ use rules::{Book, Class};
 // `place`, in a room, with the sum so far and so many parameters before it; or to the octet that spoils the message,
 // with its number and the parameter that it stands in, 0 for the checksum. Place and parameter count from the first
 // of the octets.
-#[derive(Drop)]
+#[derive(Clone, Copy)]
 pub struct Stop {
     pub number: u8,
     pub parameter: u8,

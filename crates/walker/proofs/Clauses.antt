@@ -1,6 +1,5 @@
 -- What a caller learns of `new`, `look` and `next`: what their contracts ensure is the equation of `Moves`, for all
--- lifetimes, numbers, slices and walkers. These three are walked by hand and have no generated reading; this stands in
--- for it.
+-- lifetimes, numbers, slices and walkers.
 -- Assumes nothing.
 use Prim.Native.Nat.{ℕ}
 use mathlib.Core.List.{List}

@@ -1,6 +1,6 @@
 -- What the promises of `step_at`, `new`, `look` and `next` say over the written rules, one call after the other, for
--- whatever outcomes they allow (document 01, Drafts; document 02, Q-5). The last three are walked by hand and have no
--- generated reading: their promises go by the names that their contracts give them, `Begun`, `Seen`, `Moved`.
+-- whatever outcomes they allow (document 01, Drafts; document 02, Q-5). The promises of the last three go by the names
+-- that their contracts give them, `Begun`, `Seen`, `Moved`.
 -- Assumes nothing.
 use Prim.Native.Nat.{ℕ, ◌≤◌}
 use mathlib.Core.Path.{◌≡◌, sym, ◌∙◌, ap, subst}

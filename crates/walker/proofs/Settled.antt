@@ -12,8 +12,7 @@ use Rattle.walker.proofs.step_at.Reads as step_at
 pub step_at_settled : (κs : _) (a : _) (r r' : _) (s s' : _) → step_at.Post κs a r s → step_at.Post κs a r' s' → r ≡ r'
 step_at_settled κs a r r' s s' p q = p ∙ sym q
 
--- `new`, `look` and `next` are walked by hand and have no generated reading: their promises go by the names that
--- their contracts give them (`Clauses`)
+-- the promises of `new`, `look` and `next` go by the names that their contracts give them (`Clauses`)
 pub new_settled : (e w : ℕ) (s : Bor (List ℕ)) (r r' : Walker) → Begun e w s r → Begun e w s r' → r ≡ r'
 new_settled e w s r r' p q = p ∙ sym q
 

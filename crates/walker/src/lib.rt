@@ -1,6 +1,8 @@
 // The parameters of one lent message, one at a time (document 01, Drafts): a walker holds the message and a place, and
 // the edition and the way that it is told (document 02, Q-5). The work is done on the slice and the place: `step_at`
 // says what stands there, `place_after` where the next call goes.
+#![tactic(auto)]
+
 ghost use Rattle.std.specs.Prelude.{◌≡◌};
 ghost use Rattle.rules.specs.Table.{rules_of};
 ghost use Rattle.rules.specs.Message.{most};
@@ -12,7 +14,7 @@ use rules::{Book, Fault};
 
 // A parameter: its type, where its contents start, how long they are, and the place behind them; or none; or a
 // refusal.
-#[derive(Drop)]
+#[derive(Clone, Copy)]
 pub enum Step {
     Parameter {
         kind: u8,
@@ -25,7 +27,7 @@ pub enum Step {
 }
 
 // What stands at a place, and the edition that the answer names: 0 with 16 (document 02, Q-5).
-#[derive(Drop)]
+#[derive(Clone, Copy)]
 pub struct Stepped {
     pub edition: u8,
     pub step: Step,
@@ -112,7 +114,7 @@ fn place_after(edition: u8, way: u8, message: &[u8], at: usize) -> usize
     }
 }
 
-#[derive(Drop)]
+#[derive(Clone, Copy)]
 pub struct Walker<'a> {
     pub message: &'a [u8],
     pub place: usize,

@@ -2,63 +2,66 @@
 // and drafts written in the strict and in an unknown way (Q-11), printed as octets in hex, a line each; a refusal as
 // its number and place; with each the edition that the answer names. Where nothing else is said the way is the lenient
 // one.
+#![tactic(auto)]
+
 use draft::{Draft, Entry, Value};
-use libc::STDOUT_FILENO;
 use rules::Fault;
+use std::io;
+use std::io::Write;
 use writer::Written;
 
 fn digit(n: u8) -> u8 {
     if n < 10 { 48 + n } else { 55 + n % 16 }
 }
 
-fn print_octet(x: u8) {
+fn print_octet(out: &mut impl Write, x: u8) -> io::Result<()> {
     let pair = [digit(x / 16), digit(x % 16), 32];
-    io::write_all(STDOUT_FILENO, &pair);
+    out.write_all(&pair)
 }
 
-fn print_octets(s: &[u8]) {
-    let mut i = 0;
-    while i < s.len() {
-        print_octet(s[i]);
-        i += 1;
+fn print_octets(out: &mut impl Write, s: &[u8]) -> io::Result<()> {
+    for x in s {
+        print_octet(out, *x)?;
     }
+    Ok(())
 }
 
-fn print_fault(f: Fault) {
-    io::print_decimal(STDOUT_FILENO, f.number as u64);
-    io::write_all(STDOUT_FILENO, b" at ");
-    io::print_decimal(STDOUT_FILENO, f.place as u64);
-    io::write_all(STDOUT_FILENO, b" ");
+fn print_fault(out: &mut impl Write, f: Fault) -> io::Result<()> {
+    write!(out, "{} at {} ", f.number, f.place)
 }
 
-fn print_edition(edition: u8) {
-    io::write_all(STDOUT_FILENO, b"edition ");
-    io::print_decimal(STDOUT_FILENO, edition as u64);
-    io::write_all(STDOUT_FILENO, b"\n");
+fn print_edition(out: &mut impl Write, edition: u8) -> io::Result<()> {
+    writeln!(out, "edition {edition}")
 }
 
-fn show_in(out: &mut [u8], way: u8, d: Draft, texts: &[u8]) {
-    let writing = writer::write(way, d, texts, out);
+fn show_in(
+    out: &mut impl Write,
+    area: &mut [u8],
+    way: u8,
+    d: Draft,
+    texts: &[u8],
+) -> io::Result<()> {
+    let writing = writer::write(way, d, texts, area);
     let answer = writing.answer;
     match answer {
         Written::Message { size } => {
             let n = size as usize;
-            if n <= out.len() {
-                print_octets(&out[..n]);
+            if n <= area.len() {
+                print_octets(out, &area[..n])?;
             }
         }
-        Written::Declined { fault } => print_fault(fault),
+        Written::Declined { fault } => print_fault(out, fault)?,
     }
-    print_edition(writing.edition);
+    print_edition(out, writing.edition)
 }
 
-fn show_by(way: u8, d: Draft, texts: &[u8]) {
-    let mut out = [0u8; 258];
-    show_in(&mut out, way, d, texts);
+fn show_by(out: &mut impl Write, way: u8, d: Draft, texts: &[u8]) -> io::Result<()> {
+    let mut area = [0u8; 258];
+    show_in(out, &mut area, way, d, texts)
 }
 
-fn show(d: Draft, texts: &[u8]) {
-    show_by(rules::LENIENT, d, texts);
+fn show(out: &mut impl Write, d: Draft, texts: &[u8]) -> io::Result<()> {
+    show_by(out, rules::LENIENT, d, texts)
 }
 
 fn one_by(edition: u8, kind: u8, a: Entry) -> Draft {
@@ -129,61 +132,64 @@ fn midnight(month: u8, day: u8) -> Entry {
 }
 
 // Drafts of the old edition on both sides of its limits, beside one of the present edition.
-fn show_old() {
+fn show_old(out: &mut impl Write) -> io::Result<()> {
     let digits = b"4091240912409124091";
-    show(old(0x82, code(0x0B, 0xFF)), digits);
-    show(old(0x80, caller(0, 18)), digits);
-    show(old(0x80, caller(0, 19)), digits);
-    show(one(0x80, caller(0, 19)), digits);
-    show(old(0x80, code(0x16, 0x03)), digits);
-    show(old(0x80, code(0x16, 0x01)), digits);
-    show(old(0x82, code(0x13, 2)), digits);
-    show(old(0x82, carried(0x13, 0, 5)), digits);
-    show(old(0x80, midnight(2, 30)), digits);
+    show(out, old(0x82, code(0x0B, 0xFF)), digits)?;
+    show(out, old(0x80, caller(0, 18)), digits)?;
+    show(out, old(0x80, caller(0, 19)), digits)?;
+    show(out, one(0x80, caller(0, 19)), digits)?;
+    show(out, old(0x80, code(0x16, 0x03)), digits)?;
+    show(out, old(0x80, code(0x16, 0x01)), digits)?;
+    show(out, old(0x82, code(0x13, 2)), digits)?;
+    show(out, old(0x82, carried(0x13, 0, 5)), digits)?;
+    show(out, old(0x80, midnight(2, 30)), digits)
 }
 
 // In the strict way an entry of a type that the draft's edition does not list is 12, and by the lenient way it is
 // written; an unknown way comes before everything that is wrong with a draft.
-fn show_ways() {
+fn show_ways(out: &mut impl Write) -> io::Result<()> {
     let digits = b"40912";
-    show_by(rules::STRICT, one(0x82, code(0x13, 2)), digits);
-    show_by(rules::STRICT, one(0x80, carried(0x05, 0, 5)), digits);
-    show_by(rules::LENIENT, one(0x80, carried(0x05, 0, 5)), digits);
+    show_by(out, rules::STRICT, one(0x82, code(0x13, 2)), digits)?;
+    show_by(out, rules::STRICT, one(0x80, carried(0x05, 0, 5)), digits)?;
+    show_by(out, rules::LENIENT, one(0x80, carried(0x05, 0, 5)), digits)?;
     show_by(
+        out,
         rules::STRICT,
         two(0x82, code(0x13, 2), carried(0x17, 0, 5)),
         digits,
-    );
-    show_by(rules::STRICT, old(0x82, code(0x0B, 0xFF)), digits);
-    show_by(rules::STRICT, old(0x82, carried(0x13, 0, 5)), digits);
-    show_by(rules::STRICT, old(0x82, code(0x13, 2)), digits);
-    show_by(2, one(0x82, code(0x13, 2)), digits);
-    show_by(255, old(0x81, code(0x13, 2)), digits);
+    )?;
+    show_by(out, rules::STRICT, old(0x82, code(0x0B, 0xFF)), digits)?;
+    show_by(out, rules::STRICT, old(0x82, carried(0x13, 0, 5)), digits)?;
+    show_by(out, rules::STRICT, old(0x82, code(0x13, 2)), digits)?;
+    show_by(out, 2, one(0x82, code(0x13, 2)), digits)?;
+    show_by(out, 255, old(0x81, code(0x13, 2)), digits)
 }
 
 // An unknown edition comes before everything that is wrong with a draft.
-fn show_unknown() {
+fn show_unknown(out: &mut impl Write) -> io::Result<()> {
     let none = b"";
-    show(one_by(2, 0x82, code(0x13, 2)), none);
-    show(one_by(255, 0x81, code(0x13, 2)), none);
-    show(draft::empty(2, 0x82), none);
+    show(out, one_by(2, 0x82, code(0x13, 2)), none)?;
+    show(out, one_by(255, 0x81, code(0x13, 2)), none)?;
+    show(out, draft::empty(2, 0x82), none)
 }
 
-fn main() {
+fn main(rt: HostRuntime) -> io::Result<()> {
+    let mut out = io::writer(&rt);
     let texts = b"740912";
-    show(two(0x80, time(), caller(1, 5)), texts);
-    show(one(0x82, code(0x0B, 0xFF)), texts);
-    show(one(0x82, code(0x13, 2)), texts);
-    show(two(0x82, code(0x13, 2), code(0x13, 5)), texts);
-    show(two(0x80, code(0x04, 0x50), caller(0, 1)), texts);
-    show(one(0x81, code(0x13, 2)), texts);
-    show(draft::empty(rules::PRESENT, 0x82), texts);
-    show(two(0x82, code(0x13, 2), code(0x0B, 0x80)), texts);
-    show(one(0x80, caller(2, 5)), texts);
-    show(two(0x82, code(0x13, 2), midnight(4, 31)), texts);
-    show(one(0x80, midnight(2, 29)), texts);
-    show(one(0x80, midnight(2, 30)), texts);
-    show_old();
-    show_unknown();
-    show_ways();
+    show(&mut out, two(0x80, time(), caller(1, 5)), texts)?;
+    show(&mut out, one(0x82, code(0x0B, 0xFF)), texts)?;
+    show(&mut out, one(0x82, code(0x13, 2)), texts)?;
+    show(&mut out, two(0x82, code(0x13, 2), code(0x13, 5)), texts)?;
+    show(&mut out, two(0x80, code(0x04, 0x50), caller(0, 1)), texts)?;
+    show(&mut out, one(0x81, code(0x13, 2)), texts)?;
+    show(&mut out, draft::empty(rules::PRESENT, 0x82), texts)?;
+    show(&mut out, two(0x82, code(0x13, 2), code(0x0B, 0x80)), texts)?;
+    show(&mut out, one(0x80, caller(2, 5)), texts)?;
+    show(&mut out, two(0x82, code(0x13, 2), midnight(4, 31)), texts)?;
+    show(&mut out, one(0x80, midnight(2, 29)), texts)?;
+    show(&mut out, one(0x80, midnight(2, 30)), texts)?;
+    show_old(&mut out)?;
+    show_unknown(&mut out)?;
+    show_ways(&mut out)?;
+    Ok(())
 }

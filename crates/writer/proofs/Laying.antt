@@ -2,7 +2,7 @@
 -- checksum behind them all.
 -- Assumes nothing.
 use Rattle.std.proofs.Common.{◌≡◌, ℕ, zero, suc, ◌+◌, ◌-◌, ◌%◌, ◌<◌, ◌≤◌, T, List, [], ◌∷◌, ◌++◌, length, get_or, take, drop, set, sym, refl, ap, ◌∙◌, ap₂, append_assoc, append-nil, add-one, arith, length-append, length-drop, length-set, take-append-drop, length-take, length-take-le, take_all, drop-cons, take-suc, take-take, drop-drop, take_at}
-use lib.Seq.{take-length, set-append_seam}
+use lib.Seq.{set-append_seam}
 use borrow.Rule.Slice.PartMut.{put_mid, mid_of, same_len_mid}
 use Rattle.rules.specs.Tests.{every}
 use Rattle.rules.proofs.Tests.{both, le_of}
@@ -10,7 +10,7 @@ use Rattle.rules.specs.Octets.{total, checksum}
 use Rattle.rules.proofs.Octets.{total-append}
 use Rattle.rules.specs.Message.{Message, body, front, octets, most}
 use Rattle.rules.specs.Laying.{laid, laid_at}
-use Rattle.rules.proofs.Laying.{laid_then, rest_laid, rest_copied, part_is}
+use Rattle.rules.proofs.Laying.{laid_then, rest_laid, part_is, part_over}
 use Rattle.draft.specs.Draft.{inside, all_inside, parameter_of, parameters_of, used, message_of}
 use Rattle.draft.specs.Same.{flat_of}
 use Rattle.draft.proofs.Alike.{inside_flat}
@@ -24,14 +24,15 @@ use Rattle.writer.specs.declared.Spelling.{Spelling}
 use Rattle.writer.specs.Laying.{LaidParameter, parameter_octets, Puttable, Layable}
 
 -- ---- octets copied behind octets
-pub both_laid : (head text old out last : List ℕ) → out ≡ take (length head) head ++ drop (length head) old →
-    last ≡ take (length text) text ++ drop (length text) (take (length out - length head) (drop (length head) out)) →
-    put_mid (length head) (length out - length head) out last ≡ laid (head ++ text) old
+pub both_laid : (head text old first last : List ℕ) → first ≡ head → last ≡ text →
+    put_mid (length head) (length head + length text - length head) (first ++ drop (length head) old) last
+    ≡ laid (head ++ text) old
 unfolding laid
-both_laid head text old out last e q =
-    rest_copied text out last (length head) q
-    ∙ ap (laid_at text (length head))
-    (e ∙ ap (λ (t : List ℕ). t ++ drop (length head) old) (take-length head)) ∙ laid_then head text old
+both_laid head text old first last e q =
+    part_over text (first ++ drop (length head) old) last (length head) (length head + length text - length head)
+    (omega arith) q
+    ∙ ap (λ (t : List ℕ). laid_at text (length head) (t ++ drop (length head) old)) e
+    ∙ laid_then head text old
 
 -- ---- a type, a length, and the contents behind them
 laid_behind_two : (old v : List ℕ) (kind n : ℕ) → 2 + n ≤ length old →

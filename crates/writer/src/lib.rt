@@ -1,5 +1,7 @@
 // The writer (document 01, Drafts and Numbers): the octets of the message that a draft stands for, or the number and
 // place of the refusal. Everything is judged before anything is written.
+#![tactic(auto)]
+
 ghost use Rattle.std.specs.Prelude.{◌≡◌, ◌+◌, ◌%◌, ◌<◌, ◌≤◌, ◌++◌};
 ghost use Rattle.std.proofs.Math.ListN as list;
 ghost use Rattle.rules.specs.Tests.{◌≤?◌, pick};
@@ -17,21 +19,21 @@ use draft::{Draft, Entry, Value};
 use rules::{Book, Class, Fault};
 
 // A message of `size` octets at the start of the output, or a refusal.
-#[derive(Drop)]
+#[derive(Clone, Copy)]
 pub enum Written {
     Message { size: u16 },
     Declined { fault: Fault },
 }
 
 // What a write answers, and the edition that it names: the draft's; of a listing that comes back, the present one.
-#[derive(Drop)]
+#[derive(Clone, Copy)]
 pub struct Writing {
     pub edition: u8,
     pub answer: Written,
 }
 
 // What the contents of a value have before its text, which is all where it has none: the first `length` of ten octets.
-#[derive(Drop)]
+#[derive(Clone, Copy)]
 struct Spelling {
     octets: [u8; 10],
     length: usize,
@@ -39,7 +41,7 @@ struct Spelling {
 
 // How the entries went: the number of the first that makes no legal parameter, or the octets of all parameters
 // together.
-#[derive(Drop)]
+#[derive(Clone, Copy)]
 enum Measure {
     Bad(u16),
     Size(usize),
@@ -174,8 +176,9 @@ fn put_both(out: &mut [u8], head: &[u8], text: &[u8])
     ensures { out.new ≡ laid (head.now ++ text.now) out.old }
 {
     let n = head.len();
-    bytes::copy(head, out);
-    bytes::copy(text, &mut out[n..]);
+    let end = n + text.len();
+    out[..n].copy_from_slice(head);
+    out[n..end].copy_from_slice(text);
 }
 
 // The length of contents that fit their class; 0, which no contents have, where they do not.

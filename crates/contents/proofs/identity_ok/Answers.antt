@@ -1,0 +1,17 @@
+-- `contents::identity_ok` meets its contract: a set is tried range by range.
+-- Assumes nothing.
+use Rattle.rules.specs.Contents.{in_set}
+use Rattle.rules.proofs.Returns.{tests}
+use Rattle.contents.proofs.identity_ok.Goals as goal
+
+pub returns-then-among : goal.returns-then-among
+unfolding in_set
+returns-then-among c = search tests
+
+pub returns-then-among-2 : goal.returns-then-among-2
+unfolding in_set
+returns-then-among-2 c = search tests
+
+pub returns-else-among-2 : goal.returns-else-among-2
+unfolding in_set
+returns-else-among-2 c = search tests

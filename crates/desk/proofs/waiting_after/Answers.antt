@@ -1,0 +1,22 @@
+-- `desk::waiting_after` meets its contract: the octet at the start of the contents of 13H that count, or the number
+-- as it was.
+-- Assumes nothing.
+use mathlib.Core.Path.{refl, sym, ◌∙◌, ap}
+use Rattle.desk.specs.declared.Waiting.TheVariants.{Number}
+use Rattle.desk.specs.Settle.{waiting_after}
+use Rattle.desk.proofs.Counted.{start_inside, first_octet, counts_none, counts_some}
+use Rattle.desk.proofs.waiting_after.Goals as goal
+
+pub bounds-octets-start : goal.bounds-octets-start
+bounds-octets-start c = start_inside _ _ c.requires _ _ _ (sym c.counted-part.ensures ∙ c.in-At.is)
+
+pub returns-in-At : goal.returns-in-At
+unfolding waiting_after
+returns-in-At c =
+    let f = c.counted-part.ensures in
+    let e = c.in-At.is in
+    rw (counts_some _ _ _ _ f _ _ e) (ap Number (sym (first_octet _ _ c.requires _ _ _ (sym f ∙ e))))
+
+pub returns-in-Nowhere : goal.returns-in-Nowhere
+unfolding waiting_after
+returns-in-Nowhere c = rw (counts_none _ _ _ _ c.counted-part.ensures c.in-Nowhere.is) refl

@@ -1,0 +1,40 @@
+-- `firmware::counted_by` meets its contract: the verdict first; an accepted message has at most 258 octets.
+-- Assumes nothing.
+use Prim.Native.Nat.{ℕ}
+use mathlib.Core.Path.{◌≡◌, sym, ◌∙◌, ap}
+use mathlib.Core.List.{List}
+use native.Mathlib.Omega.{arith}
+use Rattle.rules.proofs.Octets.{octets_at}
+use Rattle.rules.specs.Table.{rules_of}
+use Rattle.rules.specs.declared.Book.{Book}
+use Rattle.message.specs.Verdict.{verdict_of}
+use Rattle.message.specs.declared.Verdict.{Verdict}
+use Rattle.firmware.specs.Exports.{counted_under}
+use Rattle.firmware.proofs.PartRecord.{accepted_small}
+use Rattle.firmware.proofs.counted_by.Goals as goal
+
+-- the verdict is that of the numbers' book
+by_book : (e w : ℕ) (b c : Book) (o : List ℕ) (t : ℕ) (v x : Verdict) → b ≡ c → x ≡ verdict_of (rules_of b) o → x ≡ v →
+    counted_under e w v o t ≡ counted_under e w (verdict_of (rules_of c) o) o t
+by_book e w b c o t v x p q r =
+    ap (λ (y : Verdict). counted_under e w y o t) (sym r ∙ q ∙ ap (λ (z : Book). verdict_of (rules_of z) o) p)
+
+pub counted_in-requires : goal.counted_in-requires
+counted_in-requires c =
+    let o = c.args.octets.now in
+    accepted_small _ o (octets_at o (λ i. omega (arith, c.shared_slice_known-1.given i))) _
+    (sym c.judge-verdict.ensures ∙ c.in-Accepted.is)
+
+pub returns-in-Accepted : goal.returns-in-Accepted
+unfolding counted_under
+returns-in-Accepted c =
+    c.counted_in.ensures
+    ∙ by_book _ _ _ _ _ _ _ _ c.book_of-book.ensures c.judge-verdict.ensures
+    c.in-Accepted.is
+
+pub returns-in-Declined : goal.returns-in-Declined
+unfolding counted_under
+returns-in-Declined c =
+    c.packed.ensures
+    ∙ by_book _ _ _ _ _ _ _ _ c.book_of-book.ensures c.judge-verdict.ensures
+    c.in-Declined.is

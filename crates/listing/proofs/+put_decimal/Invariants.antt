@@ -1,0 +1,6 @@
+-- `listing::put_decimal` calls itself with the quotient by ten, which falls.
+-- Assumes nothing.
+use Rattle.listing.proofs.+put_decimal.Given as goal
+
+abbrev pub decreases-put_decimal : goal.decreases-put_decimal
+decreases-put_decimal l = l.n

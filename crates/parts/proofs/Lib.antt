@@ -1,2 +1,0 @@
--- The root of the proofs.
-pub mod Looking

@@ -1,0 +1,96 @@
+-- `relist::take_rows` meets its contract. The loop's invariant: what the rows so far took, and the rows behind them in
+-- the text behind that, come to what all rows take. The measure is the rows left.
+-- Assumes nothing.
+use Rattle.std.proofs.Common.{◌≤◌, sym, refl, ◌∙◌, arith, length-take, length-take-le}
+use Rattle.relist.proofs.Reading.{line_within}
+use Rattle.relist.proofs.Rows.{took_nothing, kinds_long, read_few, took_none, took_more, took_all}
+use Rattle.relist.proofs.take_rows.Goals as goal
+use Rattle.relist.proofs.take_rows.Goals.{After-row_length-n}
+
+-- a row reads few octets
+short : (c : After-row_length-n) → c.row_length-n.result ≤ 253
+short c =
+    read_few _ _ _ _ _ _ _ _ c.loop-i.invariant.1 c.loop-i-test.true _ c.line_end-end.ensures _ _
+    c.row_length-n.ensures
+
+pub loop-i-init : goal.loop-i-init
+loop-i-init c = (refl, took_nothing _ _ _ _ c.requires.0 c.requires.1 refl)
+
+pub line_end-end-requires : goal.line_end-end-requires
+line_end-end-requires c = c.loop-i.invariant.1.inside
+
+pub slice_bounds-row_length-count : goal.slice_bounds-row_length-count
+slice_bounds-row_length-count c = (line_within _ _ c.loop-i.invariant.1.inside _ c.line_end-end.ensures).0
+
+pub slice_bounds-row_length-start : goal.slice_bounds-row_length-start
+slice_bounds-row_length-start c = (line_within _ _ c.loop-i.invariant.1.inside _ c.line_end-end.ensures).0
+
+pub slice_bounds-row_length-end : goal.slice_bounds-row_length-end
+slice_bounds-row_length-end c = (line_within _ _ c.loop-i.invariant.1.inside _ c.line_end-end.ensures).1
+
+pub slice_bounds-kinds-end : goal.slice_bounds-kinds-end
+slice_bounds-kinds-end c = let inv = c.loop-i.invariant.1 in omega (arith, inv.few, inv.below, inv.room)
+
+pub slice_bounds-row_length-end-in-loop-i : goal.slice_bounds-row_length-end-in-loop-i
+slice_bounds-row_length-end-in-loop-i c = kinds_long _ _ _ _ _ _ _ _ c.loop-i.invariant.1
+
+pub slice_bounds-row_length-end-in-loop-i-2 : goal.slice_bounds-row_length-end-in-loop-i-2
+slice_bounds-row_length-end-in-loop-i-2 c = sym c.loop-i.invariant.0
+
+pub row_length-n-requires : goal.row_length-n-requires
+row_length-n-requires c = (c.loop-i-test.true, c.loop-i.invariant.0)
+
+pub overflow_add-i : goal.overflow_add-i
+overflow_add-i c = omega arith
+
+pub bounds-kinds-count : goal.bounds-kinds-count
+bounds-kinds-count c = omega (arith, c.loop-i.invariant.1.few)
+
+pub slice_bounds-contents-end : goal.slice_bounds-contents-end
+slice_bounds-contents-end c =
+    let k = short (goal.at.slice_bounds-contents-end c).After-row_length-n in
+    omega (arith, k, c.row_length-n.auto.out, c.loop-i.invariant.0)
+
+pub slice_bounds-lay_parameter-end : goal.slice_bounds-lay_parameter-end
+slice_bounds-lay_parameter-end c =
+    let k = short (goal.at.slice_bounds-lay_parameter-end c).After-row_length-n in
+    sym (length-take-le _ _ (omega (arith, k, c.row_length-n.auto.out, c.loop-i.invariant.0)))
+
+pub lay_parameter-size-requires : goal.lay_parameter-size-requires
+lay_parameter-size-requires c =
+    let n = length-take c.row_length-n.result c.row_length-n.new.out in (
+      omega (arith, short (goal.at.lay_parameter-size-requires c).After-row_length-n),
+      c.loop-i.invariant.1.whole,
+      omega (arith, c.loop-i.invariant.1.small, c.loop-i.invariant.1.below),
+    )
+
+pub overflow_add-count : goal.overflow_add-count
+overflow_add-count c = omega (arith, c.loop-i.invariant.1.few)
+
+pub loop-i-smaller-then-n-gt0 : goal.loop-i-smaller-then-n-gt0
+loop-i-smaller-then-n-gt0 c = omega arith
+
+pub loop-i-preserved-then-n-gt0 : goal.loop-i-preserved-then-n-gt0
+loop-i-preserved-then-n-gt0 c = (
+  c.row_length-n.auto.out ∙ c.loop-i.invariant.0,
+  took_more _ _ _ _ _ _ _ _ c.loop-i.invariant.1 c.loop-i-test.true _ c.line_end-end.ensures _ _
+      c.row_length-n.ensures c.if-n-gt0.true _
+      c.kind_at-kind.ensures _ _ c.lay_parameter-size.ensures
+      c.lay_parameter-size.auto.area,
+)
+
+pub loop-i-smaller : goal.loop-i-smaller
+loop-i-smaller c = omega arith
+
+pub loop-i-preserved : goal.loop-i-preserved
+loop-i-preserved c = (
+  c.row_length-n.auto.out ∙ c.loop-i.invariant.0,
+  took_none _ _ _ _ _ _ _ _ c.loop-i.invariant.1 c.loop-i-test.true _ c.line_end-end.ensures _ _
+      c.row_length-n.ensures c.if-n-gt0.false,
+)
+
+pub shape_of-area : goal.shape_of-area
+shape_of-area c = c.loop-i.invariant.1.whole ∙ sym c.requires.1
+
+pub returns : goal.returns
+returns c = took_all _ _ _ _ _ _ _ _ c.loop-i.invariant.1 c.loop-i-test.false
