@@ -15,8 +15,8 @@ pub extern "C" fn anthercup_reset_way(edition: u8, way: u8, cells: &mut [u8]) ->
     firmware::anthercup_reset_way(edition, way, cells)
 }
 
-// The same in the strict way: where no way is named, types that the edition does not list are refused (document 02,
-// Q-11).
+// The same in the strict way: where no way is named, types that the edition does not list are refused
+// (docs/LENIENT.md).
 #[unsafe(no_mangle)]
 pub extern "C" fn anthercup_reset(edition: u8, cells: &mut [u8]) -> u64
     ensures { (result ≡ exports.reset_answer edition strict cells.old) × (cells.new ≡ exports.reset_record edition strict cells.old) }
@@ -50,8 +50,8 @@ pub extern "C" fn anthercup_read_way(
     firmware::anthercup_read_way(edition, way, octets, cells, texts)
 }
 
-// The same in the strict way: where no way is named, types that the edition does not list are refused (document 02,
-// Q-11).
+// The same in the strict way: where no way is named, types that the edition does not list are refused
+// (docs/LENIENT.md).
 #[unsafe(no_mangle)]
 pub extern "C" fn anthercup_read(
     edition: u8,

@@ -30,7 +30,7 @@ put_whole v at old new h e = record {
   behind = ap (drop (at + length v)) e ∙ laid_behind v at old h;
 }
 
--- ---- a text copied over the area, from a place on
+-- ---- a text copied over a part of the area that is as long, from a place on
 pub copied : (v old last : List ℕ) (at : ℕ) → Room v at old → last ≡ v →
     Put v at old (at + length v) (put_mid at (at + length v - at) old last)
 copied v old last at h e =

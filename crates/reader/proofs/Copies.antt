@@ -1,4 +1,4 @@
--- A part of one slice copied over the rest of another, from a place on.
+-- A part of one slice copied over a part of another that is as long, or over its rest, from a place on.
 -- Assumes nothing.
 use Prim.Native.Nat.{ℕ, ◌+◌, ◌-◌, ◌≤◌}
 use mathlib.Core.Path.{◌≡◌, ◌∙◌, ap}

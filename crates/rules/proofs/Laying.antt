@@ -1,4 +1,4 @@
--- Octets laid over others, and the rest of a lent slice, from a place on, lent and back.
+-- Octets laid over others, and a part or the rest of a lent slice, from a place on, lent and back.
 -- Assumes nothing.
 use Prim.Native.Nat.{ℕ, ◌+◌, ◌-◌, ◌≤◌}
 use mathlib.Core.Path.{◌≡◌, sym, ◌∙◌, ap, ap₂}

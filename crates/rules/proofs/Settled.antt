@@ -3,7 +3,7 @@
 use mathlib.Core.Path.{◌≡◌, sym, ◌∙◌}
 use Rattle.rules.proofs.class_coded.Reads as class_coded
 use Rattle.rules.proofs.class_of.Reads as class_of
-use Rattle.rules.proofs.code_of.Reads as code_of_lem
+use Rattle.rules.proofs.code_of.Reads as code_of
 use Rattle.rules.proofs.form_of.Reads as form_of
 use Rattle.rules.proofs.rival_of.Reads as rival_of
 use Rattle.rules.proofs.is_listed.Reads as is_listed
@@ -20,7 +20,7 @@ use Rattle.rules.proofs.code_in.Reads as code_in
 use Rattle.rules.proofs.named_by.Reads as named_by
 use Rattle.rules.proofs.edition_of.Reads as edition_of
 use Rattle.rules.proofs.book_of.Reads as book_of
-use Rattle.rules.proofs.is_known.Reads as is_Known
+use Rattle.rules.proofs.is_known.Reads as is_known
 use Rattle.rules.proofs.is_edition.Reads as is_edition
 
 pub class_coded_settled : (κs : _) (a : _) (r r' : _) (s s' : _) → class_coded.Post κs a r s →
@@ -47,7 +47,8 @@ pub message_kind_settled : (κs : _) (a : _) (r r' : _) (s s' : _) → message_k
     message_kind.Post κs a r' s' → r ≡ r'
 message_kind_settled κs a r r' s s' p q = p ∙ sym q
 
-pub code_of_settled : (κs : _) (a : _) (r r' : _) (s s' : _) → code_of_lem.Post κs a r s → code_of_lem.Post κs a r' s' → r ≡ r'
+pub code_of_settled : (κs : _) (a : _) (r r' : _) (s s' : _) → code_of.Post κs a r s → code_of.Post κs a r' s' →
+    r ≡ r'
 code_of_settled κs a r r' s s' p q = p ∙ sym q
 
 pub form_of_settled : (κs : _) (a : _) (r r' : _) (s s' : _) → form_of.Post κs a r s → form_of.Post κs a r' s' → r ≡ r'
@@ -84,7 +85,7 @@ pub is_edition_settled : (κs : _) (a : _) (r r' : _) (s s' : _) → is_edition.
     r ≡ r'
 is_edition_settled κs a r r' s s' p q = p ∙ sym q
 
-pub is_known_settled : (κs : _) (a : _) (r r' : _) (s s' : _) → is_Known.Post κs a r s → is_Known.Post κs a r' s' →
+pub is_known_settled : (κs : _) (a : _) (r r' : _) (s s' : _) → is_known.Post κs a r s → is_known.Post κs a r' s' →
     r ≡ r'
 is_known_settled κs a r r' s s' p q = p ∙ sym q
 

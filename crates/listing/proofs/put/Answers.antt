@@ -1,4 +1,4 @@
--- `listing::put` meets its contract: the text is copied over the rest of the area from its place on.
+-- `listing::put` meets its contract: the text is copied over a part of the area that is as long, from its place on.
 -- Assumes nothing.
 use Rattle.listing.proofs.Pieces.{copied}
 use Rattle.listing.specs.Put.{Room}

@@ -1,0 +1,3 @@
+-- The root of the proofs.
+pub mod Doors
+pub mod Settled
