@@ -2,16 +2,21 @@
 -- Assumes nothing.
 use Prim.Native.Nat.{ℕ, suc, ◌+◌, ◌-◌, ◌≤◌, ◌<◌}
 use mathlib.Core.Path.{◌≡◌, refl, sym, ◌∙◌, ap, ap₂}
-use mathlib.Core.Bool.{Bool, true, false}
+use mathlib.Core.Bool.{Bool, true, false, not}
 use mathlib.Core.List.{List, [], ◌∷◌}
 use native.Mathlib.Omega.{arith}
 use native.Mathlib.Numerals.{add-one}
 use lib.ListN.{length, length-drop, take, drop, get_or, drop_of_length-le}
 use lib.Seq.{drop-cons, drop-drop, length-take-le}
-use lib.Dec.{T}
+use lib.Dec.{T, eqb}
+use Rattle.std.specs.List.{position, position_or_len}
+use Rattle.std.specs.Option.{unwrap_or}
+use Rattle.std.proofs.lemmas.List.Sums.{prefix_len-le-length}
+use Rattle.std.proofs.lemmas.List.Recursion.{is_position_or_len}
 use Rattle.rules.specs.Tests.{◌=?◌, pick}
 use Rattle.rules.proofs.Tests.{pick_yes, pick_not, pick_case, both, of_eq, eq_of, le_of}
 use Rattle.rules.proofs.Returns.{T_of}
+use Rattle.rules.proofs.Telling.{pick_is, eq_is}
 use Rattle.rules.proofs.Pairwise.{octets_are}
 use Rattle.caption.specs.declared.CutLine.{CutLine}
 use Rattle.caption.specs.declared.CallerText.{CallerText}
@@ -20,6 +25,19 @@ use Rattle.caption.specs.Lines.{on_first, lines_of, index_of, before, behind, na
 use Rattle.caption.specs.Caption.{lookup_from, Cuts}
 
 -- ---- the search for an octet x, from an index on
+-- the place that `position` finds
+pub index_is : (x : ℕ) (l : List ℕ) → index_of x l ≡ position_or_len (λ (y : ℕ). eqb y x) l
+unfolding index_of
+index_is x l =
+    is_position_or_len (index_of x) (λ (y : ℕ). eqb y x) refl
+    (λ (y : ℕ) (l : List ℕ). grind (arith, pick_is, eq_is y x)) l
+
+-- or the length, where it finds none
+pub placed : {X : Type 0} (p : X → Bool) (l : List X) → unwrap_or (position p l) (length l) ≡ position_or_len p l
+placed p l = grind (arith, prefix_len-le-length (λ x. not (p x)) l)
+
+pub ruleset found = (index_is, placed)
+
 module _ (x : ℕ) (s : List ℕ) (i : ℕ) (w : i + index_of x (drop i s) ≡ index_of x s) where
   pub index_here : i < length s → get_or s i 0 ≡ x → i ≡ index_of x s
   unfolding index_of

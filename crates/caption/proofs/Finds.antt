@@ -1,6 +1,7 @@
 -- The caption finder gives what is promised: its answer follows the verdict on the octets, then the name, the
 -- directory's line and the caller that count.
 -- Assumes nothing.
+use Rattle.std.proofs.Common.{ℕ, Result, Ok, Err, Option, Some, None}
 use Prim.Native.Nat.{ℕ, ◌≤◌}
 use mathlib.Core.Path.{◌≡◌, refl, sym, ◌∙◌, ap, subst}
 use mathlib.Core.Logic.Iff
@@ -21,10 +22,7 @@ use Rattle.rules.specs.declared.Fault.{Fault}
 use Rattle.rules.specs.Refusals.{noted_in}
 use Rattle.rules.specs.Language.{language_of}
 use Rattle.rules.proofs.Grammar.{spoken_of}
-use Rattle.message.specs.declared.Verdict.{Verdict}
-use Rattle.message.specs.declared.Verdict.TheVariants.{Accepted, Declined}
 use Rattle.message.specs.declared.Part.{Part}
-use Rattle.message.specs.declared.Part.TheVariants.{At, Nowhere}
 use Rattle.message.specs.Verdict.{verdict_of}
 use Rattle.message.specs.Judges.{Judges, verdict_number}
 use Rattle.message.proofs.Judges.{judges_of, told_small}
@@ -64,7 +62,7 @@ module _ (book : Book) where
     abbrev o : List ℕ
     o = octets m
 
-    nowhere : (t : ℕ) → counted (rules_of book) m t ≡ none → counted_at (rules_of book) o t ≡ Nowhere
+    nowhere : (t : ℕ) → counted (rules_of book) m t ≡ none → counted_at (rules_of book) o t ≡ None
     nowhere t e = part_none o (counted_at (rules_of book) o t) (counted_part (rules_of book) m t ∙ e)
 
     holds : (t : ℕ) (v : List ℕ) (c : Counts (rules_of book) m t v) →
@@ -81,23 +79,23 @@ module _ (book : Book) where
 
     by_name_lem : (v : List ℕ) (c : Counts (rules_of book) m 0x07 v) → found ≡ InMessage (contents_at c.first) (length v)
     unfolding found by_name
-    by_name_lem v c = ap (λ (p : Part). by_name (rules_of book) p o d) (counted_at_lem (rules_of book) m 0x07 v c)
+    by_name_lem v c = ap (λ (p : Option Part). by_name (rules_of book) p o d) (counted_at_lem (rules_of book) m 0x07 v c)
 
     by_caller_lem : counted (rules_of book) m 0x07 ≡ none →
         (v : List ℕ) (c : Counts (rules_of book) m 0x02 v) (e : CallerText) → lookup v d ≡ e →
         found ≡ by_entry e (contents_at c.first) (length v)
     unfolding found by_name by_caller
     by_caller_lem n v c e f =
-        ap (λ (p : Part). by_name (rules_of book) p o d) (nowhere 0x07 n)
-        ∙ ap (λ (p : Part). by_caller p o d) (counted_at_lem (rules_of book) m 0x02 v c)
+        ap (λ (p : Option Part). by_name (rules_of book) p o d) (nowhere 0x07 n)
+        ∙ ap (λ (p : Option Part). by_caller p o d) (counted_at_lem (rules_of book) m 0x02 v c)
         ∙ ap (λ (x : CallerText). by_entry x (contents_at c.first) (length v))
         (ap (λ (w : List ℕ). lookup w d) (holds 0x02 v c) ∙ f)
 
     empty : counted (rules_of book) m 0x07 ≡ none → counted (rules_of book) m 0x02 ≡ none → found ≡ InMessage 0 0
     unfolding found by_name by_caller
     empty n k =
-        ap (λ (p : Part). by_name (rules_of book) p o d) (nowhere 0x07 n)
-        ∙ ap (λ (p : Part). by_caller p o d) (nowhere 0x02 k)
+        ap (λ (p : Option Part). by_name (rules_of book) p o d) (nowhere 0x07 n)
+        ∙ ap (λ (p : Option Part). by_caller p o d) (nowhere 0x02 k)
 
     captions : LegalMessage (rules_of book) m → Captions (rules_of book) m d found
     unfolding by_entry
@@ -134,41 +132,41 @@ module _ (book : Book) where
     by_entry_part (Text at k) start n = in_directory at k
     by_entry_part Missing start n = in_message start n
 
-    by_caller-part : (p : Part) → Unrefused (by_caller p o d)
+    by_caller-part : (p : Option Part) → Unrefused (by_caller p o d)
     unfolding by_caller
-    by_caller-part (At start n) = by_entry_part _ start n
-    by_caller-part Nowhere = in_message 0 0
+    by_caller-part (Some w) = by_entry_part _ w.start w.length
+    by_caller-part None = in_message 0 0
 
-    by_name-part : (p : Part) → Unrefused (by_name (rules_of book) p o d)
+    by_name-part : (p : Option Part) → Unrefused (by_name (rules_of book) p o d)
     unfolding by_name
-    by_name-part (At start n) = in_message start n
-    by_name-part Nowhere = by_caller-part (counted_at (rules_of book) o 0x02)
+    by_name-part (Some w) = in_message w.start w.length
+    by_name-part None = by_caller-part (counted_at (rules_of book) o 0x02)
 
-    accepted_is : (v : Verdict) (n : ℕ) → v ≡ Accepted n →
+    accepted_is : (v : Result ℕ Fault) (n : ℕ) → v ≡ Ok n →
         find_under (rules_of book) v o d ≡ by_name (rules_of book) (counted_at (rules_of book) o 0x07) o d
     unfolding find_under
     accepted_is v n e = rw e
 
-    accepted_of : (v : Verdict) → ((f : Fault) → v ≡ Declined f → 1 ≤ f.number) →
-        (told (find_under (rules_of book) v o d)).number ≡ 0 → (n : ℕ) × (v ≡ Accepted n)
+    accepted_of : (v : Result ℕ Fault) → ((f : Fault) → v ≡ Err f → 1 ≤ f.number) →
+        (told (find_under (rules_of book) v o d)).number ≡ 0 → (n : ℕ) × (v ≡ Ok n)
     unfolding find_under told
-    accepted_of (Accepted n) h e = (n, refl)
-    accepted_of (Declined f) h e = absurd (omega (arith, h f refl))
+    accepted_of (Ok n) h e = (n, refl)
+    accepted_of (Err f) h e = absurd (omega (arith, h f refl))
 
-    refused_of : (v : Verdict) (f : Fault) → (find_under (rules_of book) v o d ≡ Refused f) ↔ (v ≡ Declined f)
+    refused_of : (v : Result ℕ Fault) (f : Fault) → (find_under (rules_of book) v o d ≡ Refused f) ↔ (v ≡ Err f)
     unfolding find_under
-    refused_of (Accepted n) f = (λ e. absurd ((by_name-part (counted_at (rules_of book) o 0x07)).1 f e), λ e. clash cc)
-    refused_of (Declined g) f = (λ e. cc, λ e. cc)
+    refused_of (Ok n) f = (λ e. absurd ((by_name-part (counted_at (rules_of book) o 0x07)).1 f e), λ e. clash cc)
+    refused_of (Err g) f = (λ e. cc, λ e. cc)
 
-    numbers_of_lem : (v : Verdict) → ((f : Fault) → v ≡ Declined f → T (verdict_number (language_of book) f.number)) →
+    numbers_of_lem : (v : Result ℕ Fault) → ((f : Fault) → v ≡ Err f → T (verdict_number (language_of book) f.number)) →
         ((told (find_under (rules_of book) v o d)).number ≡ 0) ⊎ T
         (verdict_number (language_of book) (told (find_under (rules_of book) v o d)).number)
     unfolding find_under told
-    numbers_of_lem (Accepted n) h = inl (by_name-part (counted_at (rules_of book) o 0x07)).0
-    numbers_of_lem (Declined f) h = inr (h f refl)
+    numbers_of_lem (Ok n) h = inl (by_name-part (counted_at (rules_of book) o 0x07)).0
+    numbers_of_lem (Err f) h = inr (h f refl)
 
   module _ (o d : List ℕ) (q : Octets o) where
-    abbrev v : Verdict
+    abbrev v : Result ℕ Fault
     v = verdict_of (rules_of book) o
 
     abbrev J : Judges (language_of book) o v

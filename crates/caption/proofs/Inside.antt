@@ -1,6 +1,7 @@
 -- What is found lies inside the slice that it names: contents inside the message, an entry's text inside the
 -- directory.
 -- Assumes nothing.
+use Rattle.std.proofs.Common.{ℕ, Result, Ok, Err, Option, Some, None}
 use Prim.Native.Nat.{ℕ, suc, ◌+◌, ◌-◌, ◌≤◌, ◌<◌}
 use mathlib.Core.Path.{◌≡◌, refl, sym, ◌∙◌, ap, subst}
 use mathlib.Core.List.{List, [], ◌∷◌}
@@ -11,10 +12,7 @@ use Rattle.rules.proofs.Tests.{pick_case, picked_by, both, le_of, clash}
 use Rattle.rules.specs.Table.{Rules, rules_of}
 use Rattle.rules.specs.Editions.{known, book_of}
 use Rattle.rules.specs.declared.Fault.{Fault}
-use Rattle.message.specs.declared.Verdict.{Verdict}
-use Rattle.message.specs.declared.Verdict.TheVariants.{Accepted, Declined}
 use Rattle.message.specs.declared.Part.{Part}
-use Rattle.message.specs.declared.Part.TheVariants.{At, Nowhere}
 use Rattle.message.specs.Verdict.{verdict_of}
 use Rattle.message.specs.Parts.{counted_at}
 use Rattle.message.proofs.Places.{Within, counted_inside}
@@ -66,22 +64,22 @@ module _ (o d : List ℕ) where
   by_entry_inside (Text at k) start n f h = f at k refl
   by_entry_inside Missing start n f h = h
 
-  by_caller_inside : (p : Part) → Within o p → Inside (by_caller p o d)
+  by_caller_inside : (p : Option Part) → Within o p → Inside (by_caller p o d)
   unfolding by_caller told slice_of
-  by_caller_inside (At start n) i =
-      by_entry_inside _ start n (λ at k e. omega (arith, entry_span _ 0 (lines_of d) at k e, lines_span d))
-      (omega (arith, i start n refl))
-  by_caller_inside Nowhere i = omega arith
+  by_caller_inside (Some part) i =
+      by_entry_inside _ part.start part.length (λ at k e. omega (arith, entry_span _ 0 (lines_of d) at k e, lines_span d))
+      (omega (arith, i part.start part.length refl))
+  by_caller_inside None i = omega arith
 
-  by_name_inside : (R : Rules) (p : Part) → Within o p → Inside (by_name R p o d)
+  by_name_inside : (R : Rules) (p : Option Part) → Within o p → Inside (by_name R p o d)
   unfolding by_name told slice_of
-  by_name_inside R (At start n) i = omega (arith, i start n refl)
-  by_name_inside R Nowhere i = by_caller_inside (counted_at R o 0x02) (counted_inside o R 0x02)
+  by_name_inside R (Some part) i = omega (arith, i part.start part.length refl)
+  by_name_inside R None i = by_caller_inside (counted_at R o 0x02) (counted_inside o R 0x02)
 
-  under_inside : (R : Rules) (v : Verdict) → Inside (find_under R v o d)
+  under_inside : (R : Rules) (v : Result ℕ Fault) → Inside (find_under R v o d)
   unfolding find_under told slice_of
-  under_inside R (Accepted n) = by_name_inside R (counted_at R o 0x07) (counted_inside o R 0x07)
-  under_inside R (Declined f) = omega arith
+  under_inside R (Ok n) = by_name_inside R (counted_at R o 0x07) (counted_inside o R 0x07)
+  under_inside R (Err f) = omega arith
 
   pub part_inside : (R : Rules) → Inside (find_of R o d)
   unfolding find_of

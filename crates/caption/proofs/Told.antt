@@ -1,5 +1,6 @@
 -- Number, place and parameter tell a refusal of the caption finder, which has a number; it is the verdict's.
 -- Assumes nothing.
+use Rattle.std.proofs.Common.{Err}
 use Prim.Native.Nat.{ℕ, ◌≤◌}
 use mathlib.Core.Path.{◌≡◌, refl, ap, subst}
 use mathlib.Core.Logic.Iff
@@ -10,7 +11,6 @@ use Rattle.rules.proofs.Tests.{clash}
 use Rattle.rules.specs.Table.{Rules}
 use Rattle.rules.specs.Refusals.{noted_in}
 use Rattle.rules.specs.declared.Fault.{Fault}
-use Rattle.message.specs.declared.Verdict.TheVariants.{Declined}
 use Rattle.message.proofs.Told.{told-declined}
 use Rattle.caption.specs.declared.Shown.{Shown}
 use Rattle.caption.specs.declared.Shown.TheVariants.{InMessage, InDirectory, Refused}
@@ -44,12 +44,12 @@ module _ {R : Rules} {o d : List ℕ} {r : Shown} (x : Finds R o d r) where
   pub some_number : (f : Fault) → r ≡ Refused f → 1 ≤ f.number
   some_number f e = subst Clear e x.clear
 
-  pub refused_iff : (f : Fault) → 1 ≤ f.number → (r ≡ Refused f) ↔ (x.verdict ≡ Declined f)
+  pub refused_iff : (f : Fault) → 1 ≤ f.number → (r ≡ Refused f) ↔ (x.verdict ≡ Err f)
   refused_iff f l =
       Iff.trans (Iff.symm (told-refused r f.number f.place f.parameter l))
       (Iff.trans (x.refused f.number f.place f.parameter l)
       (told-declined x.verdict f.number f.place f.parameter l))
 
   -- a refusal is the verdict's
-  pub declined_so : (f : Fault) → r ≡ Refused f → x.verdict ≡ Declined f
+  pub declined_so : (f : Fault) → r ≡ Refused f → x.verdict ≡ Err f
   declined_so f e = (refused_iff f (some_number f e)).0 e

@@ -1,15 +1,13 @@
 -- The caption of a message: a part of the message or of the directory (document 01, The caption), by an edition and a
 -- way (document 02, Q-5 and Q-11).
 -- Assumes nothing.
-use Rattle.std.specs.Prelude.{ℕ, suc, ◌+◌, ◌-◌, ◌≤◌, ◌<◌, ◌≡◌, true, List, [], ◌∷◌, length, take, drop}
+use Rattle.std.specs.Prelude.{ℕ, suc, ◌+◌, ◌-◌, ◌≤◌, ◌<◌, ◌≡◌, true, List, [], ◌∷◌, length, take, drop, Result, Ok, Err, Option, Some, None}
 use Rattle.rules.specs.Tests.{pick}
 use Rattle.rules.specs.Table.{Rules, rules_of}
 use Rattle.rules.specs.Editions.{known, book_of}
 use Rattle.rules.specs.Refusals.{noted}
-use Rattle.message.specs.declared.Verdict.{Verdict}
-use Rattle.message.specs.declared.Verdict.TheVariants.{Accepted, Declined}
+use Rattle.rules.specs.declared.Fault.{Fault}
 use Rattle.message.specs.declared.Part.{Part}
-use Rattle.message.specs.declared.Part.TheVariants.{At, Nowhere}
 use Rattle.message.specs.Verdict.{verdict_of}
 use Rattle.message.specs.Parts.{counted_at}
 use Rattle.caption.specs.Told.{told}
@@ -39,19 +37,19 @@ by_entry (Text at k) start n = InDirectory at k
 by_entry Missing start n = InMessage start n
 
 -- by the caller that counts, else the empty part at the message's start
-unfoldable pub by_caller : Part → List ℕ → List ℕ → Shown
-by_caller (At start n) o d = by_entry (lookup (take n (drop start o)) d) start n
-by_caller Nowhere o d = InMessage 0 0
+unfoldable pub by_caller : Option Part → List ℕ → List ℕ → Shown
+by_caller (Some part) o d = by_entry (lookup (take part.length (drop part.start o)) d) part.start part.length
+by_caller None o d = InMessage 0 0
 
 -- the name that counts, else by the caller
-unfoldable pub by_name : Rules → Part → List ℕ → List ℕ → Shown
-by_name R (At start n) o d = InMessage start n
-by_name R Nowhere o d = by_caller (counted_at R o 0x02) o d
+unfoldable pub by_name : Rules → Option Part → List ℕ → List ℕ → Shown
+by_name R (Some part) o d = InMessage part.start part.length
+by_name R None o d = by_caller (counted_at R o 0x02) o d
 
 -- octets that the whole read declines get its number, place and parameter
-unfoldable pub find_under : Rules → Verdict → List ℕ → List ℕ → Shown
-find_under R (Accepted n) o d = by_name R (counted_at R o 0x07) o d
-find_under R (Declined f) o d = Refused f
+unfoldable pub find_under : Rules → Result ℕ Fault → List ℕ → List ℕ → Shown
+find_under R (Ok n) o d = by_name R (counted_at R o 0x07) o d
+find_under R (Err f) o d = Refused f
 
 -- what is found for the octets o of a message and the directory d, by the whole read's verdict on o
 unfoldable pub find_of : Rules → List ℕ → List ℕ → Shown

@@ -1,14 +1,14 @@
 -- What the caption finder gives, over the written rules (document 01, The caption): the part of each case, and
 -- refusals exactly as the whole read's; by a book, and by an edition and a way (document 02, Q-5 and Q-11).
 -- Assumes nothing.
-use Rattle.std.specs.Prelude.{ℕ, ◌+◌, ◌≤◌, ◌≡◌, ◌⊎◌, ◌↔◌, List, [], length, T}
+use Rattle.std.specs.Prelude.{ℕ, ◌+◌, ◌≤◌, ◌≡◌, ◌⊎◌, ◌↔◌, List, [], length, T, Result}
 use Rattle.std.proofs.Math.Option.{none}
 use Rattle.rules.specs.Table.{Rules, rules_of}
 use Rattle.rules.specs.Editions.{known, book_of}
 use Rattle.rules.specs.Message.{Message, octets, LegalMessage, Accepts}
 use Rattle.rules.specs.Counting.{counted, Counts}
 use Rattle.rules.specs.Language.{calls}
-use Rattle.message.specs.declared.Verdict.{Verdict}
+use Rattle.rules.specs.declared.Fault.{Fault}
 use Rattle.message.specs.Told as message
 use Rattle.message.specs.Judges.{Judges, verdict_number}
 use Rattle.caption.specs.declared.Shown.{Shown}
@@ -51,7 +51,7 @@ pub record Finds (R : Rules) (o d : List ℕ) (r : Shown) : Type 0 where
   pub done : ((told r).number ≡ 0) ↔ Accepts R o
   -- refused exactly as the whole read declines the octets, with its number, place and parameter, and with the empty
   -- part at the message's start
-  pub verdict : Verdict
+  pub verdict : Result ℕ Fault
   pub judged : Judges (calls R) o verdict
   pub refused : (k p b : ℕ) → 1 ≤ k → (told r ≡ refusal k p b) ↔ (message.told verdict ≡ message.refusal k p b)
   -- no number but 1 to 8, and 10

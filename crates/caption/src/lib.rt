@@ -2,13 +2,13 @@
 // says which, where and how long, or a refusal; `caption` returns that part itself, and which in a lent code.
 #![tactic(auto)]
 
-ghost use Rattle.std.specs.Prelude.{◌≡◌, ◌+◌, ◌≤◌, ◌<◌, length, take, drop};
+ghost use Rattle.std.specs.Prelude.{ℕ, ◌≡◌, ◌==◌, position, ◌+◌, ◌≤◌, ◌<◌, length, take, drop};
 ghost use Rattle.rules.specs.Table.{rules_of};
 ghost use Rattle.message.specs.Parts.{counted_at};
 ghost use Rattle.caption.specs.Lines.{index_of, names};
 ghost use Rattle.caption.specs.Caption.{lookup, Cuts, by_entry, by_caller, by_name, find_of, find_in, caption_in, code_of};
 
-use message::{Part, Verdict};
+use message::Part;
 use rules::{Book, Fault};
 
 // Where the caption stands, or a refusal.
@@ -41,29 +41,25 @@ enum CallerText {
 }
 
 // The index of the first octet `x`, or the length where there is none.
+fn place_of(x: u8, s: &[u8]) -> Option<usize>
+    ensures { result ≡ position (λ (y : ℕ). y == x) s.now }
+{
+    s.iter().position(|&y| y == x)
+}
+
+#[tactic(auto, using(crate::proofs::Cutting::found))]
 fn index_of(x: u8, s: &[u8]) -> usize
     ensures { result ≡ index_of x s.now }
 {
-    let mut i: usize = 0;
-    while i < s.len() {
-        if s[i] == x {
-            return i;
-        }
-        i += 1;
-    }
-    i
+    place_of(x, s).unwrap_or(s.len())
 }
 
 // A line with `=` whose text before the first one is the caller.
 fn is_for(caller: &[u8], line: &[u8]) -> bool
     ensures { result ≡ names caller.now line.now }
 {
-    let equals = index_of(0x3D, line);
-    if equals < line.len() {
-        rules::same_octets(&line[..equals], caller)
-    } else {
-        false
-    }
+    let equals = index_of(b'=', line);
+    equals < line.len() && &line[..equals] == caller
 }
 
 // The line that begins at a place; it ends at 0AH, the last perhaps without.
@@ -118,8 +114,8 @@ fn by_caller(book: Book, message: &[u8], directory: &[u8]) -> Shown
 {
     let part = message::counted(book, message, 0x02);
     match part {
-        Part::At { start, length } => by_entry(message, directory, start, length),
-        Part::Nowhere => Shown::InMessage {
+        Some(Part { start, length }) => by_entry(message, directory, start, length),
+        None => Shown::InMessage {
             start: 0,
             length: 0,
         },
@@ -132,11 +128,11 @@ fn by_name(book: Book, message: &[u8], directory: &[u8]) -> Shown
 {
     let part = message::counted(book, message, 0x07);
     match part {
-        Part::At { start, length: n } => {
+        Some(Part { start, length: n }) => {
             let length = n as usize;
             Shown::InMessage { start, length }
         }
-        Part::Nowhere => by_caller(book, message, directory),
+        None => by_caller(book, message, directory),
     }
 }
 
@@ -146,25 +142,25 @@ fn find_by(book: Book, message: &[u8], directory: &[u8]) -> Shown
 {
     let verdict = message::judge(book, message);
     match verdict {
-        Verdict::Accepted { size } => by_name(book, message, directory),
-        Verdict::Declined { fault } => Shown::Refused(fault),
+        Ok(size) => by_name(book, message, directory),
+        Err(fault) => Shown::Refused(fault),
     }
 }
 
 // What is shown, by an edition and a way: 16 where one of them is unknown.
+#[tactic(auto, using(rules::proofs::Telling::telling), unfolding(crate::specs::Caption::find_in))]
 pub fn find(edition: u8, way: u8, message: &[u8], directory: &[u8]) -> Finding
     ensures { result ≡ find_in edition way message.now directory.now }
 {
-    if rules::is_known(edition, way) {
-        Finding {
+    match rules::known_book(edition, way) {
+        Some(book) => Finding {
             edition,
-            shown: find_by(rules::book_of(edition, way), message, directory),
-        }
-    } else {
-        Finding {
+            shown: find_by(book, message, directory),
+        },
+        None => Finding {
             edition: 0,
             shown: Shown::Refused(rules::noted(16, 0)),
-        }
+        },
     }
 }
 

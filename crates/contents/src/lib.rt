@@ -9,7 +9,7 @@ ghost use Rattle.std.specs.Prelude.{◌≡◌, true, [], ◌∷◌, ◌++◌, �
 ghost use Rattle.std.proofs.Math.ListN as list;
 ghost use Rattle.rules.specs.Tests.{◌≤?◌, ◌=?◌, ◌and◌, ◌or◌, pick};
 ghost use Rattle.rules.specs.Contents.{within, in_set, days, month_of};
-ghost use Rattle.rules.specs.Table.{contents_fit, old_user_set, time_ranges, second_range, duration_ranges, absent_set, lamp_set, identity_set, call_type_set, forwarded_set, user_set, display_set, service_set};
+ghost use Rattle.rules.specs.Table.{contents_fit, time_ranges, second_range, duration_ranges, display_set};
 ghost use Rattle.rules.specs.Charge.{comma, missing, units, amount_by, amount_keep, currency_by, flags_at, flags_keep, charge_by, charge_keep};
 ghost use Rattle.rules.specs.Terminal.{terminal_by, terminal_keep};
 ghost use Rattle.rules.specs.Extension.{blank, extension_by, extension_keep};
@@ -19,7 +19,7 @@ ghost use Rattle.rules.specs.OctetRows.{admitted, pair_by, calendar_by, mixed_by
 ghost use Rattle.rules.specs.OctetRows as rows;
 ghost use Rattle.rules.specs.declared.Class.TheVariants as class;
 
-use rules::{CHARGE, Class, DATE, DISPLAY, DURATION, MOMENT, TERMINAL};
+use rules::Class;
 
 // A date's last month, hour and minute (document 01, The message).
 const LAST_MONTH: u8 = 12;
@@ -133,117 +133,31 @@ fn date_ok(i: u8, m: u8, row: u8, x: u8) -> bool
     }
 }
 
-fn absent_ok(x: u8) -> bool
-    ensures { result ≡ in_set absent_set x }
+// Is the octet in one of some ranges, from the first to the second of each?
+fn is_in(set: &[(u8, u8)], x: u8) -> bool
+    ensures { result ≡ in_set set.now x }
 {
-    rules::among(0x4F, 0x50, x)
-}
-
-fn lamp_ok(x: u8) -> bool
-    ensures { result ≡ in_set lamp_set x }
-{
-    if rules::among(0x00, 0x00, x) {
-        true
-    } else {
-        rules::among(0xFF, 0xFF, x)
-    }
-}
-
-fn identity_ok(x: u8) -> bool
-    ensures { result ≡ in_set identity_set x }
-{
-    if rules::among(0x00, 0x00, x) {
-        true
-    } else if rules::among(0x55, 0x55, x) {
-        true
-    } else {
-        rules::among(0xFF, 0xFF, x)
-    }
-}
-
-fn call_type_ok(x: u8) -> bool
-    ensures { result ≡ in_set call_type_set x }
-{
-    if rules::among(0x01, 0x07, x) {
-        true
-    } else if rules::among(0x10, 0x11, x) {
-        true
-    } else if rules::among(0x50, 0x51, x) {
-        true
-    } else {
-        rules::among(0x81, 0xFF, x)
-    }
-}
-
-fn forwarded_ok(x: u8) -> bool
-    ensures { result ≡ in_set forwarded_set x }
-{
-    if rules::among(0x00, 0x06, x) {
-        true
-    } else {
-        rules::among(0x80, 0xFF, x)
-    }
-}
-
-fn user_ok(x: u8) -> bool
-    ensures { result ≡ in_set user_set x }
-{
-    rules::among(0x00, 0x0F, x)
-}
-
-fn service_ok(x: u8) -> bool
-    ensures { result ≡ in_set service_set x }
-{
-    if rules::among(0x00, 0x01, x) {
-        true
-    } else {
-        rules::among(0x80, 0xFF, x)
-    }
-}
-
-fn old_user_ok(x: u8) -> bool
-    ensures { result ≡ in_set old_user_set x }
-{
-    if rules::among(0x00, 0x00, x) {
-        true
-    } else if rules::among(0x03, 0x05, x) {
-        true
-    } else if rules::among(0x0A, 0x0D, x) {
-        true
-    } else {
-        rules::among(0x0F, 0x0F, x)
-    }
+    set.iter().any(|range| rules::among(range.0, range.1, x))
 }
 
 // The kind that the octets of a class are of; 0 where they are not judged by their rows, MIXED where they are of no one
 // kind.
+#[tactic(auto, unfolding(rules::specs::OctetRows::asked_kind))]
 fn kind_of(c: Class) -> u8
     ensures { result ≡ asked_kind c }
 {
     match c {
-        Class::Carried => 0,
-        Class::Date => MIXED,
         Class::Number => NUMBER,
-        Class::Absent => 0,
-        Class::Name => NAME,
-        Class::Lamp => 0,
-        Class::Identity => 0,
-        Class::CallType => 0,
-        Class::Waiting => 0,
-        Class::Forwarded => 0,
-        Class::User => 0,
-        Class::ShortText => NAME,
-        Class::Moment => MIXED,
-        Class::Charge => MIXED,
-        Class::Duration => MIXED,
-        Class::Terminal => MIXED,
-        Class::Display => MIXED,
-        Class::Service => 0,
-        Class::Extension => MIXED,
+        Class::Name | Class::ShortText => NAME,
         Class::OldNumber => DIGIT,
-        Class::OldForwarded => 0,
-        Class::OldUser => 0,
-        Class::Unlisted => 0,
+        Class::Date
+        | Class::Moment
+        | Class::Charge
+        | Class::Duration
+        | Class::Terminal
+        | Class::Display
+        | Class::Extension => MIXED,
+        _ => 0,
     }
 }
 
@@ -256,34 +170,23 @@ pub fn asks(c: Class) -> bool
 }
 
 // May octet x be the first of contents that are not judged by rows?
+#[inline]
+#[tactic(auto, using(rules::proofs::Telling::telling), unfolding(rules::specs::ContentJudge::judge_of, rules::specs::ContentJudge::column_at, rules::specs::OctetRows::asked_kind, rules::specs::Contents::in_set, rules::specs::Contents::within))]
 fn code_ok(c: Class, x: u8) -> bool
     requires { asked_kind c ≡ 0 }
     ensures { result ≡ ok_at c 0 0 0 x }
 {
     match c {
-        Class::Carried => true,
-        Class::Date => true,
-        Class::Number => true,
-        Class::Absent => absent_ok(x),
-        Class::Name => true,
-        Class::Lamp => lamp_ok(x),
-        Class::Identity => identity_ok(x),
-        Class::CallType => call_type_ok(x),
-        Class::Waiting => true,
-        Class::Forwarded => forwarded_ok(x),
-        Class::User => user_ok(x),
-        Class::ShortText => true,
-        Class::Moment => true,
-        Class::Charge => true,
-        Class::Duration => true,
-        Class::Terminal => true,
-        Class::Display => true,
-        Class::Service => service_ok(x),
-        Class::Extension => true,
-        Class::OldNumber => true,
-        Class::OldForwarded => rules::among(0x00, 0x06, x),
-        Class::OldUser => old_user_ok(x),
-        Class::Unlisted => true,
+        Class::Absent => matches!(x, 0x4F..=0x50),
+        Class::Lamp => matches!(x, 0x00 | 0xFF),
+        Class::Identity => matches!(x, 0x00 | 0x55 | 0xFF),
+        Class::CallType => matches!(x, 0x01..=0x07 | 0x10..=0x11 | 0x50..=0x51 | 0x81..=0xFF),
+        Class::Forwarded => matches!(x, 0x00..=0x06 | 0x80..=0xFF),
+        Class::User => matches!(x, 0x00..=0x0F),
+        Class::Service => matches!(x, 0x00..=0x01 | 0x80..=0xFF),
+        Class::OldForwarded => matches!(x, 0x00..=0x06),
+        Class::OldUser => matches!(x, 0x00 | 0x03..=0x05 | 0x0A..=0x0D | 0x0F),
+        _ => true,
     }
 }
 
@@ -439,19 +342,17 @@ fn terminal_ok(n: u8, i: u8, m: u8, row: u8, x: u8) -> bool
 fn mark_ok(x: u8) -> bool
     ensures { result ≡ in_set display_set x }
 {
-    if rules::among(0x00, 0x01, x) {
-        true
-    } else if rules::among(0x03, 0x06, x) {
-        true
-    } else if rules::among(0x70, 0x7F, x) {
-        true
-    } else if rules::among(0x80, 0x81, x) {
-        true
-    } else if rules::among(0x83, 0x86, x) {
-        true
-    } else {
-        rules::among(0xF0, 0xFF, x)
-    }
+    is_in(
+        &[
+            (0x00, 0x01),
+            (0x03, 0x06),
+            (0x70, 0x7F),
+            (0x80, 0x81),
+            (0x83, 0x86),
+            (0xF0, 0xFF),
+        ],
+        x,
+    )
 }
 
 fn display_ok(i: u8, row: u8, x: u8) -> bool
@@ -493,24 +394,18 @@ fn extension_ok(i: u8, m: u8, row: u8, x: u8) -> bool
 }
 
 // May octet x of contents of no one kind stand at index i of n, where m is remembered?
+#[tactic(auto, unfolding(rules::specs::OctetRows::mixed_by))]
 fn mixed_ok(c: Class, n: u8, i: u8, m: u8, row: u8, x: u8) -> bool
     ensures { result ≡ mixed_by c n i m row x }
 {
-    let code = rules::code_of(c);
-    if code == DATE {
-        date_ok(i, m, row, x)
-    } else if code == MOMENT {
-        moment_ok(i, m, row, x)
-    } else if code == CHARGE {
-        charge_ok(i, m, row, x)
-    } else if code == DURATION {
-        duration_ok(i, m, row, x)
-    } else if code == TERMINAL {
-        terminal_ok(n, i, m, row, x)
-    } else if code == DISPLAY {
-        display_ok(i, row, x)
-    } else {
-        extension_ok(i, m, row, x)
+    match c {
+        Class::Date => date_ok(i, m, row, x),
+        Class::Moment => moment_ok(i, m, row, x),
+        Class::Charge => charge_ok(i, m, row, x),
+        Class::Duration => duration_ok(i, m, row, x),
+        Class::Terminal => terminal_ok(n, i, m, row, x),
+        Class::Display => display_ok(i, row, x),
+        _ => extension_ok(i, m, row, x),
     }
 }
 
@@ -633,33 +528,17 @@ fn extension_kept(i: u8, x: u8) -> u8
 
 // What is remembered after octet x: of a date as the calendar asks; what its own rule asks of a charge, a duration, a
 // terminal and an extension; of all others nothing.
+#[tactic(auto, unfolding(rules::specs::ContentJudge::judge_of))]
 pub fn remember(c: Class, n: u8, i: u8, m: u8, x: u8) -> u8
     ensures { result ≡ content.remember c n i m x }
 {
     match c {
-        Class::Carried => 0,
-        Class::Date => date_kept(i, m, x),
-        Class::Number => 0,
-        Class::Absent => 0,
-        Class::Name => 0,
-        Class::Lamp => 0,
-        Class::Identity => 0,
-        Class::CallType => 0,
-        Class::Waiting => 0,
-        Class::Forwarded => 0,
-        Class::User => 0,
-        Class::ShortText => 0,
-        Class::Moment => date_kept(i, m, x),
+        Class::Date | Class::Moment => date_kept(i, m, x),
         Class::Charge => charge_kept(i, m, x),
         Class::Duration => digit_of(x),
         Class::Terminal => terminal_kept(i, m, x),
-        Class::Display => 0,
-        Class::Service => 0,
         Class::Extension => extension_kept(i, x),
-        Class::OldNumber => 0,
-        Class::OldForwarded => 0,
-        Class::OldUser => 0,
-        Class::Unlisted => 0,
+        _ => 0,
     }
 }
 
@@ -668,16 +547,12 @@ fn kind_along(kinds: &[u8], kind: u8, v: &[u8]) -> usize
     requires { Rowed kinds.now × ContentKind kind }
     ensures { result ≡ kind_front kind v.now }
 {
-    let mut i = 0;
-    while i < v.len() {
-        let row = kinds[v[i] as usize];
-        if admits(row, kind) {
-            i += 1;
-        } else {
+    for (i, &x) in v.iter().enumerate() {
+        if !admits(kinds[x as usize], kind) {
             return i;
         }
     }
-    i
+    v.len()
 }
 
 // Do two octets make a number out of the range, the tens first?
@@ -796,19 +671,16 @@ fn short_along(c: Class, kinds: &[u8], v: &[u8]) -> usize
 {
     let n = v.len();
     let mut memory: u8 = 0;
-    let mut index: u8 = 0;
-    while index < 14 {
+    for index in 0..14 {
         let i = index as usize;
         if n <= i {
             return n;
         }
         let x = v[i];
-        if mixed_ok(c, 0, index, memory, kinds[x as usize], x) {
-            memory = remember(c, 0, index, memory, x);
-            index += 1;
-        } else {
+        if !mixed_ok(c, 0, index, memory, kinds[x as usize], x) {
             return i;
         }
+        memory = remember(c, 0, index, memory, x);
     }
     n
 }
@@ -818,15 +690,11 @@ fn mixed_along(c: Class, kinds: &[u8], v: &[u8]) -> usize
     requires { Rowed kinds.now × (asked_kind c ≡ mixed) × (1 ≤ list.length v.now) }
     ensures { result ≡ good_front c v.now }
 {
-    let code = rules::code_of(c);
-    if code == DATE {
-        date_along(kinds, v)
-    } else if code == TERMINAL {
-        terminal_along(kinds, v)
-    } else if code == DISPLAY {
-        display_along(kinds, v)
-    } else {
-        short_along(c, kinds, v)
+    match c {
+        Class::Date => date_along(kinds, v),
+        Class::Terminal => terminal_along(kinds, v),
+        Class::Display => display_along(kinds, v),
+        _ => short_along(c, kinds, v),
     }
 }
 

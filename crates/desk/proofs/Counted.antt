@@ -1,12 +1,13 @@
 -- Contents that count in an accepted message are never empty, so that they begin with the octet at their start; in
 -- each book those of 13H are one octet, those of 0BH one of two.
 -- Assumes nothing.
+use Rattle.std.proofs.Common.{Option, Some, None}
 use Prim.Native.Nat.{ℕ, ◌+◌, ◌-◌, ◌≤◌, ◌<◌}
 use mathlib.Core.Path.{◌≡◌, refl, sym, ◌∙◌, ap, subst}
 use mathlib.Core.Bool.{Bool, false}
 use mathlib.Core.Logic.{◌⊎◌, inl, inr}
 use mathlib.Core.List.{List, [], ◌∷◌}
-use mathlib.Core.Option.{Option, none, some}
+use mathlib.Core.Option.{Option as Maybe, none, some}
 use native.Mathlib.Nat.{add-zero}
 use native.Mathlib.Omega.{arith}
 use lib.ListN.{length, length-take, length-drop, take, drop, get_or}
@@ -27,8 +28,7 @@ use Rattle.rules.specs.Message.{LegalMessage, Accepts}
 use Rattle.rules.specs.Counting.{counted}
 use Rattle.rules.proofs.Counting.{counted_iff, legal_counts}
 use Rattle.message.specs.declared.Part.{Part}
-use Rattle.message.specs.declared.Part.TheVariants.{At, Nowhere}
-use Rattle.message.specs.Parts.{counted_at, part_of}
+use Rattle.message.specs.Parts.{part_at, counted_at, part_of}
 use Rattle.message.proofs.Searching.{counted_part}
 use Rattle.desk.specs.declared.Change.TheVariants.{Nothing, Adds, Removes}
 use Rattle.desk.specs.References.{change_by}
@@ -44,7 +44,7 @@ legal_listed : (R : Rules) (m : message.Message) (t : ℕ) (v : List ℕ) → co
 legal_listed R m t v e = ((counted_iff R m t v).0 e).listed
 
 -- ---- contents that count in an accepted message hold at least one octet
-module _ (R : Rules) (o : List ℕ) (a : Accepts R o) (t start n : ℕ) (e : counted_at R o t ≡ At start n) where
+module _ (R : Rules) (o : List ℕ) (a : Accepts R o) (t start n : ℕ) (e : counted_at R o t ≡ part_at start n) where
   holds : counted R a.0 t ≡ some (take n (drop start o))
   unfolding part_of
   holds = sym (counted_part R a.0 t) ∙ ap (λ (x : List ℕ). part_of x (counted_at R x t)) a.2 ∙ ap (part_of o) e
@@ -62,17 +62,17 @@ module _ (R : Rules) (o : List ℕ) (a : Accepts R o) (t start n : ℕ) (e : cou
       ∙ get_or-drop start o 0 0 ∙ ap (λ (k : ℕ). get_or o k 0) (add-zero start)
 
 -- ---- what is found is what counts
-module _ (R : Rules) (o : List ℕ) (t : ℕ) (p : Part) (f : p ≡ counted_at R o t) where
-  pub counts_none : p ≡ Nowhere → counted_in R o t ≡ none
+module _ (R : Rules) (o : List ℕ) (t : ℕ) (p : Option Part) (f : p ≡ counted_at R o t) where
+  pub counts_none : p ≡ None → counted_in R o t ≡ none
   unfolding counted_in part_of
   counts_none e = ap (part_of o) (sym f ∙ e)
 
-  pub counts_some : (start n : ℕ) → p ≡ At start n → counted_in R o t ≡ some (take n (drop start o))
+  pub counts_some : (start n : ℕ) → p ≡ part_at start n → counted_in R o t ≡ some (take n (drop start o))
   unfolding counted_in part_of
   counts_some start n e = ap (part_of o) (sym f ∙ e)
 
   -- as the octets from a place up to a place
-  pub counts_slice : (start n : ℕ) → p ≡ At start n → counted_in R o t ≡ some (take (start + n - start) (drop start o))
+  pub counts_slice : (start n : ℕ) → p ≡ part_at start n → counted_in R o t ≡ some (take (start + n - start) (drop start o))
   counts_slice start n e = counts_some start n e ∙ ap some (sym (part_is o start n))
 
 -- ---- in a legal message 13H that counts is one octet, and 0BH is 00H or FFH
@@ -186,9 +186,9 @@ octets_counted : (R : Rules) (o : List ℕ) → Octets o → (t : ℕ) (v : List
 unfolding counted_in part_of
 octets_counted R o q t v e = go (counted_at R o t) e
   where
-    go : (p : Part) → part_of o p ≡ some v → Octets v
-    go (At s n) e = let z : take n (drop s o) ≡ v = cc in subst Octets z (octets-take n (drop s o) (octets-drop s o q))
-    go Nowhere e = clash cc
+    go : (p : Option Part) → part_of o p ≡ some v → Octets v
+    go (Some part) e = let z : take part.length (drop part.start o) ≡ v = cc in subst Octets z (octets-take part.length (drop part.start o) (octets-drop part.start o q))
+    go None e = clash cc
 
 is_in_range : (r : ℕ) → r < 65536 → AddsReference (Adds r)
 unfolding AddsReference
@@ -221,7 +221,7 @@ pub small_change : (R : Rules) (o : List ℕ) → Octets o → (t : ℕ) → Add
 unfolding change_of change_in
 small_change R o q t = go (counted_in R o t) refl
   where
-    go : (c : Option (List ℕ)) → counted_in R o t ≡ c → AddsReference (change_of c)
+    go : (c : Maybe (List ℕ)) → counted_in R o t ≡ c → AddsReference (change_of c)
     go none e = none_range
     go (some v) e =
         let w = octets_counted R o q t v e in

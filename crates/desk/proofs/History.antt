@@ -1,6 +1,7 @@
 -- A reference stands as the last word on it says: call by call, a change says what it leaves. A call by unknown
 -- numbers is refused, and says nothing.
 -- Assumes nothing.
+use Rattle.std.proofs.Common.{ℕ, Result, Ok, Err}
 use Prim.Native.Nat.{ℕ}
 use mathlib.Core.Path.{◌≡◌, sym, subst}
 use mathlib.Core.Bool.{Bool, true, false}
@@ -15,8 +16,7 @@ use Rattle.rules.proofs.Tests.{pick_yes, pick_not, decide, of_eq, eq_of}
 use Rattle.rules.specs.Table.{rules_of}
 use Rattle.rules.specs.Editions.{known, book_of}
 use Rattle.rules.specs.declared.Book.{Book}
-use Rattle.message.specs.declared.Verdict.{Verdict}
-use Rattle.message.specs.declared.Verdict.TheVariants.{Accepted, Declined}
+use Rattle.rules.specs.declared.Fault.{Fault}
 use Rattle.message.specs.Verdict.{verdict_of}
 use Rattle.desk.specs.declared.Change.{Change}
 use Rattle.desk.specs.declared.Change.TheVariants.{Nothing, Adds, Removes}
@@ -90,10 +90,10 @@ module _ (book : Book) where
         (sym (pick_not (get_or o 0 0 =? 0x82) (said_by r (change_of (counted_in (rules_of book) o 0x0D))) none
         (λ t. g.call (eq_of _ _ t)))) same)
 
-    says_under : (v : Verdict) (o : List ℕ) → Fit d.places → Says o (settled_under (rules_of book) v o d)
+    says_under : (v : Result ℕ Fault) (o : List ℕ) → Fit d.places → Says o (settled_under (rules_of book) v o d)
     unfolding settled_under said_under
-    says_under (Accepted n) o w = says_message o (settled_message (rules_of book) o d) w (ways book d o)
-    says_under (Declined f) o w = same
+    says_under (Ok n) o w = says_message o (settled_message (rules_of book) o d) w (ways book d o)
+    says_under (Err f) o w = same
 
     says : (o : List ℕ) → Says o (settle_of (rules_of book) d o)
     unfolding settle_of refused_with said_under

@@ -1,6 +1,7 @@
 -- Settling does what is promised: by the places of the desk, then by the verdict, then by the three ways of a
 -- message; and a second settling goes the same way and changes nothing.
 -- Assumes nothing.
+use Rattle.std.proofs.Common.{ℕ, Result, Ok, Err}
 use Prim.Native.Nat.{ℕ, ◌≤◌}
 use mathlib.Core.Path.{◌≡◌, refl, sym, ◌∙◌, ap, subst}
 use mathlib.Core.Logic.{◌⊎◌, inl, inr}
@@ -19,8 +20,6 @@ use Rattle.rules.specs.declared.Fault.{Fault}
 use Rattle.rules.specs.Refusals.{noted, noted_in}
 use Rattle.rules.specs.Language.{language_of}
 use Rattle.rules.proofs.Grammar.{spoken_of}
-use Rattle.message.specs.declared.Verdict.{Verdict}
-use Rattle.message.specs.declared.Verdict.TheVariants.{Accepted, Declined}
 use Rattle.message.specs.Verdict.{verdict_of}
 use Rattle.message.specs.Told as message
 use Rattle.message.specs.Judges.{Judges, verdict_number}
@@ -117,7 +116,7 @@ module _ (book : Book) where
     many_left r (inr (inr g)) = ap (λ (x : Outcome). length x.desk.places) g.is
 
   module _ (d : Desk) (o : List ℕ) (q : Octets o) where
-    abbrev v : Verdict
+    abbrev v : Result ℕ Fault
     v = verdict_of (rules_of book) o
 
     J : Judges (language_of book) o v
@@ -161,7 +160,7 @@ module _ (book : Book) where
       fit = pick_yes _ _ _ (of_fit d.places w)
 
       -- octets that the whole read declines
-      declined_settles : (r : Outcome) (f : Fault) → v ≡ Declined f → r ≡ settle.refused f d →
+      declined_settles : (r : Outcome) (f : Fault) → v ≡ Err f → r ≡ settle.refused f d →
           Settles (rules_of book) d o r
       declined_settles r f c e =
           let a = told-refusal f d r e in
@@ -197,18 +196,18 @@ module _ (book : Book) where
             as_many = ap (λ (x : Desk). length x.places) k;
           }
         where
-          no_verdict : (n : ℕ) (f : Fault) → Accepted n ≡ Declined f → ⊥
+          no_verdict : (n : ℕ) (f : Fault) → Ok n ≡ Err f → ⊥
           no_verdict n f e = clash cc
 
       -- a message
-      module _ (n : ℕ) (c : v ≡ Accepted n) where
+      module _ (n : ℕ) (c : v ≡ Ok n) where
         accepts : Accepts (rules_of book) o
         accepts = ((accepted_iff J n).0 c).1
 
         not_declined : (k p b : ℕ) → T (verdict_number (language_of book) k) →
             message.told v ≡ message.refusal k p b → ⊥
         not_declined k p b l x =
-            let y : Accepted n ≡ Declined (noted_in k p b) =
+            let y : Ok n ≡ Err (noted_in k p b) =
             sym c ∙ (told-declined v k p b (told_small (spoken_of book) _ l).0).0 x in
             clash cc
 
@@ -290,11 +289,11 @@ module _ (book : Book) where
             (λ m l x z. absurd (g.call (kind_here m x ∙ z)))
             (fit_left d o q w r (inr (inr g))) (many_left d o r (inr (inr g)))
 
-      fit_settles : (x : Verdict) → v ≡ x → (r : Outcome) → r ≡ settled_under (rules_of book) x o d →
+      fit_settles : (x : Result ℕ Fault) → v ≡ x → (r : Outcome) → r ≡ settled_under (rules_of book) x o d →
           Settles (rules_of book) d o r
       unfolding settled_under
-      fit_settles (Accepted n) c r e = message_settles n c r (subst (Ways d o) (sym e) (ways d o))
-      fit_settles (Declined f) c r e = declined_settles r f c e
+      fit_settles (Ok n) c r e = message_settles n c r (subst (Ways d o) (sym e) (ways d o))
+      fit_settles (Err f) c r e = declined_settles r f c e
 
     pub settles : Settles (rules_of book) d o (settle_of (rules_of book) d o)
     settles = go (decide (places_fit d.places))
@@ -346,16 +345,16 @@ module _ (book : Book) where
     message_twice r e (inr (inr g)) =
         ap (settled_message (rules_of book) o) (ap (λ (x : Outcome). x.desk) g.is) ∙ sym e
 
-    under_twice : (v : Verdict) →
+    under_twice : (v : Result ℕ Fault) →
         settled_under (rules_of book) v o (settled_under (rules_of book) v o d).desk ≡ settled_under (rules_of book) v o d
     unfolding settled_under
-    under_twice (Accepted n) = message_twice (settled_message (rules_of book) o d) refl (ways d o)
-    under_twice (Declined f) = refl
+    under_twice (Ok n) = message_twice (settled_message (rules_of book) o d) refl (ways d o)
+    under_twice (Err f) = refl
 
-    fits_under : Octets o → (v : Verdict) → Fit (settled_under (rules_of book) v o d).desk.places
+    fits_under : Octets o → (v : Result ℕ Fault) → Fit (settled_under (rules_of book) v o d).desk.places
     unfolding settled_under
-    fits_under q (Accepted n) = fit_left d o q w (settled_message (rules_of book) o d) (ways d o)
-    fits_under q (Declined f) = w
+    fits_under q (Ok n) = fit_left d o q w (settled_message (rules_of book) o d) (ways d o)
+    fits_under q (Err f) = w
 
   -- whatever the octets, the second settling gives what the first gave, desk and answer
   pub settled_twice : (d : Desk) (o : List ℕ) → Octets o →

@@ -1,6 +1,7 @@
 -- Number, place and parameter tell the answer of settling, since a refusal has a number; and what is settled, case by
 -- case.
 -- Assumes nothing.
+use Rattle.std.proofs.Common.{Err}
 use Prim.Native.Nat.{ℕ, ◌≤◌}
 use mathlib.Core.Path.{◌≡◌, refl, sym, ◌∙◌, ap, subst}
 use mathlib.Core.Logic.Iff
@@ -14,7 +15,6 @@ use Rattle.rules.specs.Message.{Accepts}
 use Rattle.rules.specs.Language.{calls}
 use Rattle.rules.specs.Refusals.{noted, noted_in}
 use Rattle.rules.specs.declared.Fault.{Fault}
-use Rattle.message.specs.declared.Verdict.TheVariants.{Declined}
 use Rattle.message.specs.Judges.{verdict_number}
 use Rattle.message.proofs.Told.{told-declined}
 use Rattle.desk.specs.declared.Desk.{Desk}
@@ -53,7 +53,7 @@ module _ {R : Rules} {d : Desk} {o : List ℕ} {r : Outcome} (s : Settles R d o 
   unfit_iff p = Iff.trans (Iff.symm (told-refused _ 17 p 0 (omega arith))) (s.seventeen p)
 
   pub refused_iff : (f : Fault) → 1 ≤ f.number → T (verdict_number (calls R) f.number) →
-      (r.answer ≡ Refused f) ↔ (Fit d.places × (s.verdict ≡ Declined f))
+      (r.answer ≡ Refused f) ↔ (Fit d.places × (s.verdict ≡ Err f))
   refused_iff f l t =
       let x = Iff.trans (Iff.symm (told-refused _ f.number f.place f.parameter l))
       (s.refused f.number f.place f.parameter t) in

@@ -1,6 +1,6 @@
 -- What settling does to a desk (document 01, The desk; document 02, Q-6), by an edition and a way (Q-5).
 -- Assumes nothing.
-use Rattle.std.specs.Prelude.{ℕ, List, get_or, replicate}
+use Rattle.std.specs.Prelude.{ℕ, List, get_or, replicate, Result, Ok, Err}
 use Rattle.std.proofs.Math.Option.{Option, none, some}
 use Rattle.rules.specs.Tests.{◌=?◌, pick}
 use Rattle.rules.specs.Table.{Rules, rules_of}
@@ -9,8 +9,6 @@ use Rattle.rules.specs.declared.Fault.{Fault}
 use Rattle.rules.specs.Refusals.{noted}
 use Rattle.message.specs.Parts.{counted_at, part_of}
 use Rattle.message.specs.Verdict.{verdict_of}
-use Rattle.message.specs.declared.Verdict.{Verdict}
-use Rattle.message.specs.declared.Verdict.TheVariants.{Accepted, Declined}
 use Rattle.desk.specs.declared.Waiting.{Waiting}
 use Rattle.desk.specs.declared.Waiting.TheVariants as waiting
 use Rattle.desk.specs.declared.Lamp.{Lamp}
@@ -78,9 +76,9 @@ unfoldable pub settled_message : Rules → List ℕ → Desk → Outcome
 settled_message R o d = pick (get_or o 0 0 =? 0x82) (settled_notice (counted_in R o) d) (done d)
 
 -- octets that the whole read declines get its number, place and parameter, and leave the desk as it was
-unfoldable pub settled_under : Rules → Verdict → List ℕ → Desk → Outcome
-settled_under R (Accepted n) o d = settled_message R o d
-settled_under R (Declined f) o d = refused f d
+unfoldable pub settled_under : Rules → Result ℕ Fault → List ℕ → Desk → Outcome
+settled_under R (Ok n) o d = settled_message R o d
+settled_under R (Err f) o d = refused f d
 
 -- the outcome of settling octets on a desk: 17 for one with a place out of range or a reference twice, else by the
 -- whole read's verdict on the octets

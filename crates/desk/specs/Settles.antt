@@ -1,7 +1,7 @@
 -- What settling means over the written rules (document 01, The desk; document 02, Q-6): which answer, and what a
 -- notice, a call message and a refusal do to the desk; by a book, and by an edition and a way (Q-5).
 -- Assumes nothing.
-use Rattle.std.specs.Prelude.{ℕ, ◌≤◌, ◌≡◌, ◌⊎◌, ◌↔◌, List, [], ◌∷◌, length, T}
+use Rattle.std.specs.Prelude.{ℕ, ◌≤◌, ◌≡◌, ◌⊎◌, ◌↔◌, List, [], ◌∷◌, length, T, Result}
 use Rattle.std.proofs.Math.Option.{none, some}
 use Rattle.rules.specs.Table.{Rules, rules_of}
 use Rattle.rules.specs.Editions.{known, book_of}
@@ -12,7 +12,7 @@ use Rattle.desk.specs.declared.Lamp.TheVariants.{Off, On}
 use Rattle.desk.specs.declared.Desk.{Desk}
 use Rattle.desk.specs.Holding.{Fit, Full, Added, Removed}
 use Rattle.rules.specs.Language.{calls}
-use Rattle.message.specs.declared.Verdict.{Verdict}
+use Rattle.rules.specs.declared.Fault.{Fault}
 use Rattle.message.specs.Told as message
 use Rattle.message.specs.Judges.{Judges, verdict_number}
 use Rattle.desk.specs.declared.Outcome.{Outcome}
@@ -55,7 +55,7 @@ pub record Settles (R : Rules) (d : Desk) (o : List ℕ) (r : Outcome) : Type 0 
   -- 17 exactly for a desk with a place out of range or a reference twice
   pub seventeen : (p : ℕ) → (told r.answer ≡ refusal 17 p 0) ↔ ((p ≡ 0) × (Fit d.places → ⊥))
   -- else 1 to 8 and 10 exactly as the whole read declines the octets, with its number, place and parameter
-  pub verdict : Verdict
+  pub verdict : Result ℕ Fault
   pub judged : Judges (calls R) o verdict
   pub refused : (k p b : ℕ) → T (verdict_number (calls R) k) →
       (told r.answer ≡ refusal k p b) ↔ (Fit d.places × (message.told verdict ≡ message.refusal k p b))

@@ -11,7 +11,7 @@ ghost use Rattle.desk.specs.References.{place_count, place_with, absent, may_sta
 ghost use Rattle.desk.specs.Settle.{new_desk, counted_in, waiting_after, lamp_after, change_in, change_of, settled_notice, settled_message, refused_with, settle_of, settled_by_none, settle_in};
 ghost use Rattle.desk.specs.Told.{told};
 
-use message::{Part, Verdict};
+use message::Part;
 use rules::{Book, Fault};
 
 // The places for references (document 02, Q-6); one that holds none, and the one that holds the last.
@@ -86,14 +86,12 @@ fn first_from(places: [u32; PLACES], from: usize, sought: u32) -> usize
     requires { from ≤ place_count }
     ensures { result ≡ from + place_with sought (list.drop from places) }
 {
-    let mut i = from;
-    while i < PLACES {
+    for i in from..PLACES {
         if places[i] == sought {
             return i;
         }
-        i += 1;
     }
-    i
+    PLACES
 }
 
 fn is_absent(places: [u32; PLACES], sought: u32) -> bool
@@ -120,11 +118,8 @@ fn may_stand(places: [u32; PLACES], at: usize) -> bool
 fn places_fit(places: [u32; PLACES]) -> bool
     ensures { result ≡ places_fit places }
 {
-    let mut i = 0;
-    while i < PLACES {
-        if may_stand(places, i) {
-            i += 1;
-        } else {
+    for i in 0..PLACES {
+        if !may_stand(places, i) {
             return false;
         }
     }
@@ -218,11 +213,11 @@ fn change_of(book: Book, octets: &[u8]) -> Change
 {
     let part = message::counted(book, octets, 0x0D);
     match part {
-        Part::At { start, length } => {
+        Some(Part { start, length }) => {
             let end = start + length as usize;
             change_in(&octets[start..end])
         }
-        Part::Nowhere => Change::Nothing,
+        None => Change::Nothing,
     }
 }
 
@@ -233,11 +228,11 @@ fn waiting_after(book: Book, old: Waiting, octets: &[u8]) -> Waiting
 {
     let part = message::counted(book, octets, 0x13);
     match part {
-        Part::At { start, length } => {
+        Some(Part { start, length }) => {
             let number = octets[start];
             Waiting::Number(number)
         }
-        Part::Nowhere => old,
+        None => old,
     }
 }
 
@@ -248,14 +243,14 @@ fn lamp_after(book: Book, old: Lamp, octets: &[u8]) -> Lamp
 {
     let part = message::counted(book, octets, 0x0B);
     match part {
-        Part::At { start, length } => {
+        Some(Part { start, length }) => {
             if octets[start] == 0x00 {
                 Lamp::Off
             } else {
                 Lamp::On
             }
         }
-        Part::Nowhere => old,
+        None => old,
     }
 }
 
@@ -318,8 +313,8 @@ fn settle_by(book: Book, desk: Desk, octets: &[u8]) -> Outcome
     if places_fit(places) {
         let verdict = message::judge(book, octets);
         match verdict {
-            Verdict::Accepted { size } => settle_message(book, desk, octets),
-            Verdict::Declined { fault } => Outcome {
+            Ok(size) => settle_message(book, desk, octets),
+            Err(fault) => Outcome {
                 desk,
                 answer: Answer::Refused(fault),
             },
@@ -351,20 +346,21 @@ fn number_of(a: Answer) -> u8
 }
 
 // Settles a whole message by an edition and a way: 16 where one of them is unknown, behind 17.
+#[tactic(auto, using(rules::proofs::Telling::telling), unfolding(crate::specs::Settle::settle_in))]
 pub fn settle(edition: u8, way: u8, desk: Desk, octets: &[u8]) -> Settling
     ensures { result ≡ settle_in edition way desk octets.now }
 {
-    if rules::is_known(edition, way) {
-        let outcome = settle_by(rules::book_of(edition, way), desk, octets);
-        let answer = outcome.answer;
-        Settling {
-            edition: rules::named_by(number_of(answer), edition),
-            outcome,
+    match rules::known_book(edition, way) {
+        Some(book) => {
+            let outcome = settle_by(book, desk, octets);
+            Settling {
+                edition: rules::named_by(number_of(outcome.answer), edition),
+                outcome,
+            }
         }
-    } else {
-        Settling {
+        None => Settling {
             edition: 0,
             outcome: settle_by_none(desk),
-        }
+        },
     }
 }

@@ -242,111 +242,63 @@ pub fn flatten(v: Value) -> Flat
 }
 
 // Does a text lie inside its area? No start or length is too large to ask.
+#[tactic(auto, using(rules::proofs::Telling::telling))]
 pub fn lies(texts: &[u8], start: usize, length: usize) -> bool
     ensures { result ≡ (start + length ≤? list.length texts.now) }
 {
     let n = texts.len();
-    if n < start {
-        false
-    } else {
-        length <= n - start
-    }
+    start <= n && length <= n - start
 }
 
+#[tactic(auto, using(rules::proofs::Telling::same_is))]
 fn same_parts(s: &[u8], a: usize, m: usize, t: &[u8], b: usize, n: usize) -> bool
     requires { (a + m ≤ list.length s.now) × (b + n ≤ list.length t.now) }
     ensures { result ≡ same_octets (list.take m (list.drop a s.now)) (list.take n (list.drop b t.now)) }
 {
-    let c = a + m;
-    let d = b + n;
-    rules::same_octets(&s[a..c], &t[b..d])
+    s[a..a + m] == t[b..b + n]
 }
 
 // Texts are equal where both lie inside and their octets agree.
+#[tactic(auto, using(rules::proofs::Telling::telling), unfolding(crate::specs::Same::same_text))]
 fn same_text(s: &[u8], x: Flat, t: &[u8], y: Flat) -> bool
     ensures { result ≡ same_text s.now x t.now y }
 {
-    if lies(s, x.start, x.length) {
-        if lies(t, y.start, y.length) {
-            same_parts(s, x.start, x.length, t, y.start, y.length)
-        } else {
-            false
-        }
-    } else {
-        false
-    }
+    lies(s, x.start, x.length)
+        && lies(t, y.start, y.length)
+        && same_parts(s, x.start, x.length, t, y.start, y.length)
 }
 
-fn same_ends(x: Flat, y: Flat) -> bool
-    ensures { result ≡ same_ends x y }
-{
-    if x.fourth == y.fourth {
-        x.fifth == y.fifth
-    } else {
-        false
-    }
-}
-
+#[tactic(auto, using(rules::proofs::Telling::telling), unfolding(crate::specs::Same::same_numbers, crate::specs::Same::same_ends))]
 fn same_numbers(x: Flat, y: Flat) -> bool
     ensures { result ≡ same_numbers x y }
 {
-    if x.first == y.first {
-        if x.second == y.second {
-            if x.third == y.third {
-                same_ends(x, y)
-            } else {
-                false
-            }
-        } else {
-            false
-        }
-    } else {
-        false
-    }
+    x.first == y.first
+        && x.second == y.second
+        && x.third == y.third
+        && x.fourth == y.fourth
+        && x.fifth == y.fifth
 }
 
+#[tactic(auto, using(rules::proofs::Telling::telling), unfolding(crate::specs::Same::same_flat))]
 fn same_flat(s: &[u8], x: Flat, t: &[u8], y: Flat) -> bool
     ensures { result ≡ same_flat s.now x t.now y }
 {
-    if x.form == y.form {
-        if same_numbers(x, y) {
-            same_text(s, x, t, y)
-        } else {
-            false
-        }
-    } else {
-        false
-    }
+    x.form == y.form && same_numbers(x, y) && same_text(s, x, t, y)
 }
 
+#[tactic(auto, using(rules::proofs::Telling::telling), unfolding(crate::specs::Same::same_entry))]
 fn same_entry(s: &[u8], e: Entry, t: &[u8], f: Entry) -> bool
     ensures { result ≡ same_entry s.now e t.now f }
 {
-    let v = e.value;
-    let w = f.value;
-    if e.kind == f.kind {
-        let x = flatten(v);
-        let y = flatten(w);
-        same_flat(s, x, t, y)
-    } else {
-        false
-    }
+    e.kind == f.kind && same_flat(s, flatten(e.value), t, flatten(f.value))
 }
 
 fn same_entries(a: Draft, s: &[u8], b: Draft, t: &[u8]) -> bool
     requires { a.count ≤ most }
     ensures { result ≡ same_entries s.now (list.take a.count a.entries) t.now (list.take a.count b.entries) }
 {
-    let n = a.count;
-    let es = a.entries;
-    let fs = b.entries;
-    let mut i = 0;
-    while i < n {
-        let e = es[i];
-        let f = fs[i];
-        if same_entry(s, e, t, f) {
-            i += 1;
-        } else {
+    for i in 0..a.count {
+        if !same_entry(s, a.entries[i], t, b.entries[i]) {
             return false;
         }
     }
@@ -354,36 +306,18 @@ fn same_entries(a: Draft, s: &[u8], b: Draft, t: &[u8]) -> bool
 }
 
 // Message type, number of entries, and the entries; one with over 85 entries is like none.
+#[tactic(auto, using(rules::proofs::Telling::telling), unfolding(crate::specs::Same::same_message))]
 fn same_message(a: Draft, s: &[u8], b: Draft, t: &[u8]) -> bool
     ensures { result ≡ same_message a s.now b t.now }
 {
-    if a.kind == b.kind {
-        if a.count == b.count {
-            if a.count <= MOST {
-                same_entries(a, s, b, t)
-            } else {
-                false
-            }
-        } else {
-            false
-        }
-    } else {
-        false
-    }
+    a.kind == b.kind && a.count == b.count && a.count <= MOST && same_entries(a, s, b, t)
 }
 
 // Are two drafts, each with its text area, equal? Those of two editions never are; one of an unknown edition, with over
 // 85 entries or with a text outside its area is equal to none.
+#[tactic(auto, using(rules::proofs::Telling::telling), unfolding(crate::specs::Same::same_draft))]
 pub fn same(a: Draft, s: &[u8], b: Draft, t: &[u8]) -> bool
     ensures { result ≡ same_draft a s.now b t.now }
 {
-    if rules::is_edition(a.edition) {
-        if a.edition == b.edition {
-            same_message(a, s, b, t)
-        } else {
-            false
-        }
-    } else {
-        false
-    }
+    rules::is_edition(a.edition) && a.edition == b.edition && same_message(a, s, b, t)
 }

@@ -23,7 +23,7 @@ use Rattle.draft.specs.Draft.{no_entry, inside, all_inside}
 use Rattle.draft.specs.Packing.{entries_of, texts_of, draft_of}
 use Rattle.draft.proofs.Packing.{pack}
 use Rattle.message.specs.Parameters.{message_in, parameters_in}
-use Rattle.message.proofs.Parameters.{parameters_few}
+use Rattle.message.proofs.Standing.{parameters_few}
 use Rattle.rules.specs.Laying.{laid, laid_at}
 use Rattle.reader.proofs.Laying.{TakenEntries, filled_first, filled_more, filled_end, untaken, LaidTexts, laid_first, laid_room, laid_more, laid_end, sized_end}
 use Rattle.reader.proofs.Turns.{entry_here, entry-text}

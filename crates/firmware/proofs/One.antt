@@ -1,6 +1,7 @@
 -- The sentences on the exports leave one word, and one content of each record: what is told of the octets is one
 -- (hears-one and its like), and the word and the records are told by it.
 -- Assumes nothing.
+use Rattle.std.proofs.Common.{ℕ, Result, Ok, Err}
 use Prim.Native.Nat.{ℕ, ◌≤◌}
 use mathlib.Core.Path.{◌≡◌, refl, sym, ◌∙◌, ap, subst}
 use mathlib.Core.Logic.{◌⊎◌, inl, inr}
@@ -16,8 +17,7 @@ use Rattle.rules.specs.Message.{Accepts}
 use Rattle.rules.specs.Counting.{counted}
 use Rattle.rules.proofs.Counting.{counted_iff}
 use Rattle.rules.specs.Language.{Language, language_of}
-use Rattle.message.specs.declared.Verdict.{Verdict}
-use Rattle.message.specs.declared.Verdict.TheVariants.{Accepted, Declined}
+use Rattle.rules.specs.declared.Fault.{Fault}
 use Rattle.message.specs.Told as message
 use Rattle.message.proofs.Told.{accepted_iff, some_number}
 use Rattle.message.proofs.One.{judges_one}
@@ -145,16 +145,16 @@ record_counts_one b y o t w v A B = go A.verdict refl
         let c = (counted_iff (rules_of (book_of b y)) m t x).0 z in
         words_one _ _ _ _ _ _ w v (A.counts m l e x c) (B.counts m l e x c)
 
-    go : (x : Verdict) → A.verdict ≡ x → w ≡ v
-    go (Accepted n) e = of_message ((accepted_iff A.judged n).0 e).1 _ refl
-    go (Declined f) e =
+    go : (x : Result ℕ Fault) → A.verdict ≡ x → w ≡ v
+    go (Ok n) e = of_message ((accepted_iff A.judged n).0 e).1 _ refl
+    go (Err f) e =
         let k = judges_one (language_of (book_of b y)) o _ _ A.judged B.judged in
         let l : 1 ≤ (message.told A.verdict).number =
-        subst (λ (x : Verdict). 1 ≤ (message.told x).number) (sym e) (some_number A.judged f e) in
+        subst (λ (x : Result ℕ Fault). 1 ≤ (message.told x).number) (sym e) (some_number A.judged f e) in
         words_one _ _ _ _ _ _ w v (A.refused l)
-        (subst (λ (x : Verdict). Unpacked b (message.told x).number (message.told x).place
+        (subst (λ (x : Result ℕ Fault). Unpacked b (message.told x).number (message.told x).place
         (message.told x).parameter 0 0 v) (sym k)
-        (B.refused (subst (λ (x : Verdict). 1 ≤ (message.told x).number) k l)))
+        (B.refused (subst (λ (x : Result ℕ Fault). 1 ≤ (message.told x).number) k l)))
 
 -- the caption
 pub record_finds_one : (k y : ℕ) (o d c : List ℕ) (w : ℕ) (c' : List ℕ) (v : ℕ) (e : List ℕ) →

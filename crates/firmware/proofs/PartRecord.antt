@@ -1,5 +1,6 @@
 -- The record of a part, laid down and read back.
 -- Assumes nothing.
+use Rattle.std.proofs.Common.{Ok}
 use Prim.Native.Nat.{ℕ, zero, suc, ◌+◌, ◌*◌, ◌/◌, ◌%◌, ◌<◌, ◌≤◌, ◌^◌}
 use mathlib.Core.Path.{◌≡◌, refl, ◌∙◌, ap}
 use mathlib.Core.List.{List, ◌++◌, append-nil}
@@ -11,7 +12,6 @@ use Rattle.rules.specs.Octets.{Octets}
 use Rattle.rules.specs.Table.{rules_of}
 use Rattle.rules.proofs.Grammar.{accepted_size}
 use Rattle.rules.specs.declared.Book.{Book}
-use Rattle.message.specs.declared.Verdict.TheVariants.{Accepted}
 use Rattle.message.specs.Verdict.{verdict_of}
 use Rattle.message.proofs.Told.{accepted_iff}
 use Rattle.message.proofs.Judges.{judges_of}
@@ -19,7 +19,7 @@ use Rattle.firmware.specs.PartRecord.{low_first, number_in, side_cells, part_rec
 use Rattle.firmware.specs.Sizes.{part_size}
 
 -- an accepted message has at most 258 octets
-pub accepted_small : (b : Book) (o : List ℕ) → Octets o → (n : ℕ) → verdict_of (rules_of b) o ≡ Accepted n →
+pub accepted_small : (b : Book) (o : List ℕ) → Octets o → (n : ℕ) → verdict_of (rules_of b) o ≡ Ok n →
     length o ≤ 258
 accepted_small b o q n e = (accepted_size (rules_of b) o ((accepted_iff (judges_of b o q) n).0 e).1).1
 

@@ -1,6 +1,7 @@
 -- What counts and the caption through the exports are the verdict, the part that counts and the part found, their
 -- answers packed into a word that is read back.
 -- Assumes nothing.
+use Rattle.std.proofs.Common.{ℕ, Result, Ok, Err, Option, Some, None}
 use Prim.Native.Nat.{ℕ, ◌≤◌, ◌<◌, ◌^◌}
 use mathlib.Core.Path.{◌≡◌, refl, sym, ◌∙◌, ap, subst}
 use mathlib.Core.Logic.{◌⊎◌, inl, inr}
@@ -19,11 +20,8 @@ use Rattle.rules.specs.declared.Fault.{Fault}
 use Rattle.rules.specs.Message.{Message, octets, LegalMessage, Accepts}
 use Rattle.rules.specs.Counting.{counted, Counts}
 use Rattle.rules.proofs.Grammar.{spoken_of, accepted_size}
-use Rattle.message.specs.declared.Verdict.{Verdict}
-use Rattle.message.specs.declared.Verdict.TheVariants.{Accepted, Declined}
 use Rattle.message.specs.Told as message
 use Rattle.message.specs.declared.Part.{Part}
-use Rattle.message.specs.declared.Part.TheVariants.{At, Nowhere}
 use Rattle.message.specs.Verdict.{verdict_of}
 use Rattle.message.proofs.Judges.{judges_of, told_small, near_declined, few_declined}
 use Rattle.message.proofs.Told.{accepted_iff, number_of_lem}
@@ -49,7 +47,7 @@ use Rattle.firmware.specs.Sizes.{part_size}
 
 -- number, place and parameter of a verdict fit their octets
 refusal_word : (b : Book) (v : ℕ) → v < 2 → (o : List ℕ) → Octets o → (f : Fault) →
-    verdict_of (rules_of b) o ≡ Declined f →
+    verdict_of (rules_of b) o ≡ Err f →
     Unpacked v f.number f.place f.parameter 0 0 (packed v f.number f.place f.parameter 0 0)
 refusal_word b v h o q f e =
     let j = judges_of b o q in
@@ -67,22 +65,22 @@ module _ (e y : ℕ) (k : T (known e y)) (o : List ℕ) (t w : ℕ) (a' : w ≡ 
   abbrev b : Book
   b = book_of e y
 
-  abbrev v : Verdict
+  abbrev v : Result ℕ Fault
   v = verdict_of (rules_of b) o
 
   a : w ≡ counted_under e y v o t
   unfolding counted_answer
   a = a' ∙ pick_yes _ _ _ k
 
-  refused_is : (f : Fault) → v ≡ Declined f → w ≡ packed e f.number f.place f.parameter 0 0
+  refused_is : (f : Fault) → v ≡ Err f → w ≡ packed e f.number f.place f.parameter 0 0
   unfolding counted_under
-  refused_is f z = a ∙ ap (λ (x : Verdict). counted_under e y x o t) z
+  refused_is f z = a ∙ ap (λ (x : Result ℕ Fault). counted_under e y x o t) z
 
-  refused_word : (x : Verdict) → v ≡ x → 1 ≤ (message.told x).number →
+  refused_word : (x : Result ℕ Fault) → v ≡ x → 1 ≤ (message.told x).number →
       Unpacked e (message.told x).number (message.told x).place (message.told x).parameter 0 0 w
   unfolding message.told
-  refused_word (Accepted n) z l = absurd (omega arith)
-  refused_word (Declined f) z l =
+  refused_word (Ok n) z l = absurd (omega arith)
+  refused_word (Err f) z l =
       subst (Unpacked e f.number f.place f.parameter 0 0) (sym (refused_is f z))
       (refusal_word b e (known_small e y k) o q f z)
 
@@ -90,7 +88,7 @@ module _ (e y : ℕ) (k : T (known e y)) (o : List ℕ) (t w : ℕ) (a' : w ≡ 
       w ≡ part_word e (counted_at (rules_of b) o t)
   unfolding counted_under
   part_is m l z =
-      a ∙ ap (λ (x : Verdict). counted_under e y x o t)
+      a ∙ ap (λ (x : Result ℕ Fault). counted_under e y x o t)
       ((accepted_iff (judges_of b o q) (length o)).1 (refl, (m, l, z)))
 
   counts_word : (m : Message) → LegalMessage (rules_of b) m → octets m ≡ o →
@@ -105,10 +103,10 @@ module _ (e y : ℕ) (k : T (known e y)) (o : List ℕ) (t w : ℕ) (a' : w ≡ 
       (unpacked e 0 0 0 (length x) (contents_at c.first) (known_small e y k) (omega arith) (omega arith) (omega arith)
       (omega (arith, i, n)) (omega (arith, i, n)))
 
-  nowhere : (p : Part) → part_of o p ≡ none → part_word e p ≡ packed e 0 0 0 0 0
+  nowhere : (p : Option Part) → part_of o p ≡ none → part_word e p ≡ packed e 0 0 0 0 0
   unfolding part_of part_word
-  nowhere (At start n) z = clash cc
-  nowhere Nowhere z = refl
+  nowhere (Some part) z = clash cc
+  nowhere None z = refl
 
   none_word : (m : Message) → LegalMessage (rules_of b) m → octets m ≡ o →
       counted (rules_of b) m t ≡ none → Unpacked e 0 0 0 0 0 w

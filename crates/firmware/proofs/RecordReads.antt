@@ -1,5 +1,6 @@
 -- A read through the exports is the read, its answer packed into a word that is read back.
 -- Assumes nothing.
+use Rattle.std.proofs.Common.{Result, Ok, Err}
 use Prim.Native.Nat.{ℕ, ◌≤◌}
 use mathlib.Core.Path.{◌≡◌, refl, sym, ◌∙◌, ap, subst}
 use mathlib.Core.Logic.{◌⊎◌, inl, inr}
@@ -19,9 +20,7 @@ use Rattle.rules.specs.declared.Fault.{Fault}
 use Rattle.draft.specs.declared.Draft.{Draft}
 use Rattle.draft.specs.Draft.{no_entry}
 use Rattle.draft.specs.Packing.{draft_of}
-use Rattle.reader.specs.declared.Packed.TheVariants.{Texts, Refused}
 use Rattle.reader.specs.declared.Reading.{Reading}
-use Rattle.reader.specs.declared.Packed.{Packed}
 use Rattle.reader.specs.Read.{pack_of, read_of, draft_from, area_after}
 use Rattle.reader.specs.Told.{told}
 use Rattle.reader.specs.Reads.{Reads, texts}
@@ -62,7 +61,7 @@ module _ (v y : ℕ) (o c t : List ℕ) (w : ℕ) (c' t' : List ℕ) (a : w ≡ 
     S : SoundRules R
     S = sound_rules (book_of v y)
 
-    abbrev p : Packed
+    abbrev p : Result ℕ Fault
     p = pack_of R o (length t)
 
     word_is : Unpacked v (told p).number (told p).place (told p).parameter (told p).size 0 w
@@ -91,27 +90,27 @@ module _ (v y : ℕ) (o c t : List ℕ) (w : ℕ) (c' t' : List ℕ) (a : w ≡ 
         subst (Reads R o t r) (sym texts_are)
         (reads_of R S o t q)
 
-    texts-answer : (x : Packed) → r.answer ≡ x → (told x).number ≡ 0 → (k : ℕ) × (r.answer ≡ Texts k)
+    texts-answer : (x : Result ℕ Fault) → r.answer ≡ x → (told x).number ≡ 0 → (k : ℕ) × (r.answer ≡ Ok k)
     unfolding told
-    texts-answer (Texts k) e z = (k, e)
-    texts-answer (Refused f) e z = absurd (omega (arith, z, some_number reads_is f e))
+    texts-answer (Ok k) e z = (k, e)
+    texts-answer (Err f) e z = absurd (omega (arith, z, some_number reads_is f e))
 
-    refused-answer : (x : Packed) → r.answer ≡ x → 1 ≤ (told x).number → (f : Fault) × (r.answer ≡ Refused f)
+    refused-answer : (x : Result ℕ Fault) → r.answer ≡ x → 1 ≤ (told x).number → (f : Fault) × (r.answer ≡ Err f)
     unfolding told
-    refused-answer (Texts k) e l = absurd (omega arith)
-    refused-answer (Refused f) e l = (f, e)
+    refused-answer (Ok k) e l = absurd (omega arith)
+    refused-answer (Err f) e l = (f, e)
 
-    record_of_lem : (k : ℕ) → r.answer ≡ Texts k → c' ≡ draft_record r.draft
+    record_of_lem : (k : ℕ) → r.answer ≡ Ok k → c' ≡ draft_record r.draft
     unfolding read_of draft_from record_from
     record_of_lem k e = cells_are ∙ ap (record_from R o c) e
-        ∙ sym (ap (λ (x : Packed). draft_record (draft_from R o x)) e)
+        ∙ sym (ap (λ (x : Result ℕ Fault). draft_record (draft_from R o x)) e)
 
     of_edition : (m : Message) → (draft_of R m).edition ≡ v
     unfolding draft_of
     of_edition m = book_edition v y is
 
     -- an accepted message that was read had room for its texts, which are 253 octets at most
-    back : (k : ℕ) → r.answer ≡ Texts k →
+    back : (k : ℕ) → r.answer ≡ Ok k →
         (get_or c' 0 0 ≡ r.draft.kind) × (get_or c' 1 0 ≡ r.draft.count) × (get_or c' 2 0 ≡ v)
         × ((i : ℕ) → entry_in c' i ≡ get_or r.draft.entries i no_entry)
     unfolding draft_record

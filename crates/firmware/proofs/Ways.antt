@@ -1,6 +1,7 @@
 -- The exports on octets that the strict way accepts: words, records and areas are those of the lenient way of the same
 -- edition (document 02, Q-11).
 -- Assumes nothing.
+use Rattle.std.proofs.Common.{ℕ, Result, Ok, Err}
 use Prim.Native.Nat.{ℕ}
 use mathlib.Core.Path.{◌≡◌, refl, ◌∙◌, ap}
 use mathlib.Core.List.{List}
@@ -11,13 +12,10 @@ use Rattle.rules.specs.Message.{Accepts}
 use Rattle.rules.specs.Editions.{strict, lenient, edition}
 use Rattle.rules.proofs.Editions.{ways_known}
 use Rattle.rules.proofs.Ways.{strict_of, lenient_of}
-use Rattle.reader.specs.declared.Packed.{Packed}
-use Rattle.reader.specs.declared.Packed.TheVariants.{Texts, Refused}
 use Rattle.reader.specs.Read.{pack_of}
 use Rattle.reader.proofs.Ways.{same_pack, same_area}
+use Rattle.rules.specs.declared.Fault.{Fault}
 use Rattle.message.specs.Parameters.{message_in}
-use Rattle.message.specs.declared.Verdict.{Verdict}
-use Rattle.message.specs.declared.Verdict.TheVariants.{Accepted, Declined}
 use Rattle.message.specs.Verdict.{verdict_of}
 use Rattle.message.proofs.Ways.{same_verdict, same_part}
 use Rattle.caption.proofs.Ways.{same_finding}
@@ -36,10 +34,10 @@ module _ (e : ℕ) (k : T (edition e)) (o : List ℕ) (a : Accepts (strict_of e)
       let y = same_pack e k o a (length t) in
       λ i. pick (length c =? draft_size) (pick (x i) (packed_word e (y i)) no_book) bad_record
 
-  records_by : (p : Packed) → record_from (strict_of e) o c p ≡ record_from (lenient_of e) o c p
+  records_by : (p : Result ℕ Fault) → record_from (strict_of e) o c p ≡ record_from (lenient_of e) o c p
   unfolding record_from
-  records_by (Texts n) = ap draft_record (ways_draft e k (message_in o))
-  records_by (Refused f) = refl
+  records_by (Ok n) = ap draft_record (ways_draft e k (message_in o))
+  records_by (Err f) = refl
 
   pub same_record : read_record e strict o c t ≡ read_record e lenient o c t
   unfolding read_record
@@ -70,16 +68,16 @@ module _ (e : ℕ) (k : T (edition e)) (o : List ℕ) (a : Accepts (strict_of e)
       λ i. pick (is_record c) (desk_record (z i).outcome.desk) c
 
 module _ (e : ℕ) (k : T (edition e)) (o : List ℕ) (a : Accepts (strict_of e) o) where
-  counts_by : (t : ℕ) (v : Verdict) → counted_under e strict v o t ≡ counted_under e lenient v o t
+  counts_by : (t : ℕ) (v : Result ℕ Fault) → counted_under e strict v o t ≡ counted_under e lenient v o t
   unfolding counted_under
-  counts_by t (Accepted n) = ap (part_word e) (same_part e k o t)
-  counts_by t (Declined f) = refl
+  counts_by t (Ok n) = ap (part_word e) (same_part e k o t)
+  counts_by t (Err f) = refl
 
   pub same_counted : (t : ℕ) → counted_answer e strict o t ≡ counted_answer e lenient o t
   unfolding counted_answer
   same_counted t =
       let x = ways_known e in
-      let y = ap (λ (v : Verdict). counted_under e strict v o t) (same_verdict e k o a)
+      let y = ap (λ (v : Result ℕ Fault). counted_under e strict v o t) (same_verdict e k o a)
       ∙ counts_by t (verdict_of (lenient_of e) o) in
       λ i. pick (x i) (y i) no_book
 

@@ -1,7 +1,7 @@
 -- What the exports answer, and what they leave in a record (document 01: 17 comes first; a record that is only
 -- written is judged by its size alone; document 02, Q-5 and Q-11: then 16, where the edition or the way is unknown).
 -- Assumes nothing.
-use Rattle.std.specs.Prelude.{ℕ, List, length}
+use Rattle.std.specs.Prelude.{ℕ, List, length, Result, Ok, Err, Option, Some, None}
 use Rattle.rules.specs.Tests.{◌=?◌, pick}
 use Rattle.rules.specs.Table.{Rules, rules_of}
 use Rattle.rules.specs.Editions.{known, book_of}
@@ -10,11 +10,9 @@ use Rattle.listener.specs.declared.Heard.{Heard}
 use Rattle.listener.specs.Told.{told}
 use Rattle.listener.specs.Heard.{heard_of, new_listener}
 use Rattle.draft.specs.Packing.{draft_of}
+use Rattle.rules.specs.declared.Fault.{Fault}
 use Rattle.message.specs.Parameters.{message_in}
-use Rattle.message.specs.declared.Verdict.{Verdict}
-use Rattle.message.specs.declared.Verdict.TheVariants.{Accepted, Declined}
 use Rattle.message.specs.declared.Part.{Part}
-use Rattle.message.specs.declared.Part.TheVariants.{At, Nowhere}
 use Rattle.message.specs.Verdict.{verdict_of}
 use Rattle.message.specs.Parts.{counted_at}
 use Rattle.caption.specs.declared.Shown.{Shown}
@@ -22,8 +20,6 @@ use Rattle.caption.specs.declared.Shown.TheVariants as found
 use Rattle.caption.specs.Told as caption
 use Rattle.caption.specs.declared.Finding.{Finding}
 use Rattle.caption.specs.Caption.{find_in}
-use Rattle.reader.specs.declared.Packed.{Packed}
-use Rattle.reader.specs.declared.Packed.TheVariants.{Texts, Refused}
 use Rattle.reader.specs.Read.{pack_of, area_after}
 use Rattle.reader.specs.Told as reader
 use Rattle.desk.specs.declared.Answer as desk
@@ -81,7 +77,7 @@ listen_record c o = recorded (decode_of c) c o
 
 -- ---- the whole read: the record is only written, so its size alone is judged; the answer's size is the text octets
 -- laid down
-unfoldable pub packed_word : ℕ → Packed → ℕ
+unfoldable pub packed_word : ℕ → Result ℕ Fault → ℕ
 packed_word e p =
     packed e (reader.told p).number (reader.told p).place (reader.told p).parameter (reader.told p).size 0
 
@@ -91,9 +87,9 @@ read_answer e y o c t =
     bad_record
 
 -- the record of the message's draft; as it was with a refusal
-unfoldable pub record_from : Rules → List ℕ → List ℕ → Packed → List ℕ
-record_from R o c (Texts n) = draft_record (draft_of R (message_in o))
-record_from R o c (Refused f) = c
+unfoldable pub record_from : Rules → List ℕ → List ℕ → Result ℕ Fault → List ℕ
+record_from R o c (Ok n) = draft_record (draft_of R (message_in o))
+record_from R o c (Err f) = c
 
 unfoldable pub read_record : ℕ → ℕ → List ℕ → List ℕ → List ℕ → List ℕ
 read_record e y o c t =
@@ -125,14 +121,14 @@ settle_record e y c o = pick (is_record c) (desk_record (settle_in e y (desk_in 
 
 -- ---- what counts: the size is the length of the contents that count, and their start stands in octets 5 and 6; 0
 -- and 0 where none count
-unfoldable pub part_word : ℕ → Part → ℕ
-part_word e (At start n) = packed e 0 0 0 n start
-part_word e Nowhere = packed e 0 0 0 0 0
+unfoldable pub part_word : ℕ → Option Part → ℕ
+part_word e (Some part) = packed e 0 0 0 part.length part.start
+part_word e None = packed e 0 0 0 0 0
 
 -- octets that the whole read declines get its number, place and parameter
-unfoldable pub counted_under : ℕ → ℕ → Verdict → List ℕ → ℕ → ℕ
-counted_under e y (Accepted n) o t = part_word e (counted_at (rules_by e y) o t)
-counted_under e y (Declined f) o t = packed e f.number f.place f.parameter 0 0
+unfoldable pub counted_under : ℕ → ℕ → Result ℕ Fault → List ℕ → ℕ → ℕ
+counted_under e y (Ok n) o t = part_word e (counted_at (rules_by e y) o t)
+counted_under e y (Err f) o t = packed e f.number f.place f.parameter 0 0
 
 unfoldable pub counted_answer : ℕ → ℕ → List ℕ → ℕ → ℕ
 counted_answer e y o t = pick (known e y) (counted_under e y (verdict_of (rules_by e y) o) o t) no_book

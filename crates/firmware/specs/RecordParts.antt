@@ -1,14 +1,14 @@
 -- What counts, and the caption, through the exports, read off the answer's word and the part's record, over the
 -- written rules alone (document 01, What counts and The caption).
 -- Assumes nothing.
-use Rattle.std.specs.Prelude.{ℕ, ◌≤◌, ◌<◌, ◌^◌, ◌≡◌, List, length}
+use Rattle.std.specs.Prelude.{ℕ, ◌≤◌, ◌<◌, ◌^◌, ◌≡◌, List, length, Result}
 use Rattle.std.proofs.Math.Option.{none}
 use Rattle.rules.specs.Table.{rules_of}
 use Rattle.rules.specs.Editions.{book_of}
 use Rattle.rules.specs.Message.{Message, octets, LegalMessage}
 use Rattle.rules.specs.Counting.{counted, Counts}
 use Rattle.rules.specs.Language.{language_of}
-use Rattle.message.specs.declared.Verdict.{Verdict}
+use Rattle.rules.specs.declared.Fault.{Fault}
 use Rattle.message.specs.Told as message
 use Rattle.message.specs.Judges.{Judges}
 use Rattle.message.specs.Places.{contents_at}
@@ -21,7 +21,7 @@ use Rattle.firmware.specs.PartRecord.{part_record, part_side, part_start, part_l
 -- by known numbers, the octets o and a type t went in, and the word w came back
 pub record RecordCounts (e y : ℕ) (o : List ℕ) (t w : ℕ) : Type 0 where
   -- octets that are no message: number, place and parameter are the whole read's, and the other fields 0
-  pub verdict : Verdict
+  pub verdict : Result ℕ Fault
   pub judged : Judges (language_of (book_of e y)) o verdict
   pub refused : 1 ≤ (message.told verdict).number →
       Unpacked e (message.told verdict).number (message.told verdict).place (message.told verdict).parameter 0 0 w

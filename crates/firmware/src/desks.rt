@@ -76,12 +76,9 @@ fn places_in(cells: &[u8]) -> [u32; PLACES]
     requires { length cells.now ≡ desk_size }
     ensures { result ≡ record_of.places_in place_count (drop 4 cells.now) }
 {
-    let mut places: [u32; PLACES] = [0; PLACES];
-    let mut i = 0;
-    while i < PLACES {
-        let place = place_in(&cells[4 + 3 * i..]);
-        places[i] = place;
-        i += 1;
+    let mut places = [0u32; PLACES];
+    for i in 0..PLACES {
+        places[i] = place_in(&cells[4 + 3 * i..]);
     }
     places
 }
@@ -143,11 +140,8 @@ fn lay_places(cells: &mut [u8], places: [u32; PLACES])
     requires { length cells.old ≡ desk_size }
     ensures { cells.new ≡ take 4 cells.old ++ record_of.places_cells places }
 {
-    let mut i = 0;
-    while i < PLACES {
-        let place = places[i];
+    for (i, &place) in places.iter().enumerate() {
         lay_place(&mut cells[4 + 3 * i..], place);
-        i += 1;
     }
 }
 

@@ -126,11 +126,7 @@ fn lay_entry(cells: &mut [u8], e: Entry)
 fn clear(cells: &mut [u8])
     ensures { cells.new ≡ replicate (length cells.old) 0 }
 {
-    let mut i = 0;
-    while i < cells.len() {
-        cells[i] = 0;
-        i += 1;
-    }
+    cells.fill(0);
 }
 
 // How many entries were laid down, and how many text octets.
@@ -161,8 +157,7 @@ fn lay_entries(book: Book, octets: &[u8], cells: &mut [u8], texts: &mut [u8]) ->
 {
     let mut at: usize = 2;
     let mut used: usize = 0;
-    let mut count: usize = 0;
-    while count < rules::MOST {
+    for count in 0..rules::MOST {
         let taken = reader::entry(book, octets, at, used);
         match taken {
             Taken::Next { entry, text, place } => {
@@ -172,14 +167,16 @@ fn lay_entries(book: Book, octets: &[u8], cells: &mut [u8], texts: &mut [u8]) ->
                 copy(&octets[start..end], &mut texts[used..]);
                 used += text;
                 at = place;
-                count += 1;
             }
             Taken::End => {
                 return Filled { count, used };
             }
         }
     }
-    Filled { count, used }
+    Filled {
+        count: rules::MOST,
+        used,
+    }
 }
 
 // The record of a message's draft, whatever it held, and the texts; how many text octets there are.

@@ -22,9 +22,8 @@ ghost use Rattle.firmware.specs.Sizes.{listener_size, draft_size, part_size};
 use caption::Shown;
 use desks::DESK;
 use listener::{Answer, Listener};
-use message::{Part, Verdict};
+use message::Part;
 use parts::PART;
-use reader::Fitting;
 use rules::{Fault, Spot, Stage, State};
 
 // The octets of a listener's record.
@@ -417,13 +416,11 @@ fn read_into(edition: u8, way: u8, octets: &[u8], cells: &mut [u8], texts: &mut 
     let book = rules::book_of(edition, way);
     let fitting = reader::fits(book, octets, texts.len());
     match fitting {
-        Fitting::Fits => {
+        Ok(_) => {
             let used = drafts::lay_draft(book, octets, cells, texts);
             packed(edition, 0, 0, 0, used as u16, 0)
         }
-        Fitting::Refused { fault } => {
-            packed(edition, fault.number, fault.place, fault.parameter, 0, 0)
-        }
+        Err(fault) => { packed(edition, fault.number, fault.place, fault.parameter, 0, 0) }
     }
 }
 
@@ -445,8 +442,8 @@ fn counted_in(edition: u8, way: u8, octets: &[u8], kind: u8) -> u64
     let book = rules::book_of(edition, way);
     let part = message::counted(book, octets, kind);
     match part {
-        Part::At { start, length: n } => packed(edition, 0, 0, 0, n as u16, start),
-        Part::Nowhere => packed(edition, 0, 0, 0, 0, 0),
+        Some(Part { start, length: n }) => packed(edition, 0, 0, 0, n as u16, start),
+        None => packed(edition, 0, 0, 0, 0, 0),
     }
 }
 
@@ -457,10 +454,8 @@ fn counted_by(edition: u8, way: u8, octets: &[u8], kind: u8) -> u64
     let book = rules::book_of(edition, way);
     let verdict = message::judge(book, octets);
     match verdict {
-        Verdict::Accepted { size: _ } => counted_in(edition, way, octets, kind),
-        Verdict::Declined { fault } => {
-            packed(edition, fault.number, fault.place, fault.parameter, 0, 0)
-        }
+        Ok(_) => counted_in(edition, way, octets, kind),
+        Err(fault) => { packed(edition, fault.number, fault.place, fault.parameter, 0, 0) }
     }
 }
 

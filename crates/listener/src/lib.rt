@@ -238,33 +238,30 @@ fn by_octets(
     let mut index = first;
     let mut memory = kept;
     let mut q = spot;
-    let mut i = from;
-    while i < octets.len() {
+    for i in from..octets.len() {
         let x = octets[i];
         let row = row_in(class, kinds, x);
-        if contents::content_ok(class, f.length, index, memory, row, x) {
-            let next = further(book, f, index, memory, q, x);
-            index = next.index;
-            memory = next.memory;
-            q = next.spot;
-            if index == f.length {
-                return Ran {
-                    state: State::Waiting(Stage::Header { room: f.room }, q),
-                    taken: i + 1,
-                };
-            }
-            i += 1;
-        } else {
+        if !contents::content_ok(class, f.length, index, memory, row, x) {
             let here = content_at(f, index, memory);
             return Ran {
                 state: declined(book, here, 5, q, q.parameter),
                 taken: i + 1,
             };
         }
+        let next = further(book, f, index, memory, q, x);
+        index = next.index;
+        memory = next.memory;
+        q = next.spot;
+        if index == f.length {
+            return Ran {
+                state: State::Waiting(Stage::Header { room: f.room }, q),
+                taken: i + 1,
+            };
+        }
     }
     Ran {
         state: State::Waiting(content_at(f, index, memory), q),
-        taken: i,
+        taken: octets.len(),
     }
 }
 
@@ -381,24 +378,21 @@ fn onward(book: Book, stage: Stage, q: Spot, octets: &[u8], i: usize) -> Ran
     }
 }
 
+#[tactic(auto, using(rules::proofs::Telling::telling), unfolding(rules::specs::Contents::within))]
 fn between(lo: u32, hi: u32, x: u32) -> bool
     ensures { result ≡ within (lo, hi) x }
 {
     lo <= x && x <= hi
 }
 
+#[tactic(auto, using(rules::proofs::Telling::telling), unfolding(rules::specs::Judge::given))]
 fn known_number(book: Book, k: u8) -> bool
     ensures { result ≡ given (rules_of book) k }
 {
-    if between(1, 6, k as u32) {
-        true
-    } else if k == 10 {
-        rules::is_strict(book)
-    } else {
-        false
-    }
+    between(1, 6, k as u32) || (k == 10 && rules::is_strict(book))
 }
 
+#[tactic(auto, using(rules::proofs::Telling::telling), unfolding(rules::specs::Judge::place_fits))]
 fn place_fits(stage: Stage, at: u16) -> bool
     ensures { result ≡ place_fits stage at }
 {
@@ -407,13 +401,7 @@ fn place_fits(stage: Stage, at: u16) -> bool
         Stage::Kind => at == 0,
         Stage::Size => at == 1,
         Stage::Header { room } => between(5, 257, place + room as u32),
-        Stage::Length { class: _, room } => {
-            if 1 <= room {
-                between(6, 258, place + room as u32)
-            } else {
-                false
-            }
-        }
+        Stage::Length { class: _, room } => { 1 <= room && between(6, 258, place + room as u32) }
         Stage::Content {
             class: _,
             length,
@@ -422,11 +410,7 @@ fn place_fits(stage: Stage, at: u16) -> bool
             room,
         } => {
             let i = index as u32;
-            if index < length {
-                between(5 + i, 257 + i, place + length as u32 + room as u32)
-            } else {
-                false
-            }
+            index < length && between(5 + i, 257 + i, place + length as u32 + room as u32)
         }
     }
 }
@@ -438,6 +422,7 @@ fn amid(count: u32, index: u32, place: u32) -> bool
     1 <= count && 3 * count + index <= place
 }
 
+#[tactic(auto, using(rules::proofs::Telling::telling), unfolding(rules::specs::Judge::count_fits, rules::specs::Judge::behind))]
 fn count_fits(stage: Stage, at: u16, parameter: u8) -> bool
     ensures { result ≡ count_fits stage at parameter }
 {
@@ -459,16 +444,14 @@ fn count_fits(stage: Stage, at: u16, parameter: u8) -> bool
 }
 
 // Is it the number of a type, a length or contents, which stand in a parameter?
+#[tactic(auto, using(rules::proofs::Telling::telling))]
 fn in_parameter(number: u8) -> bool
     ensures { result ≡ (within (3, 5) number or number =? 10) }
 {
-    if between(3, 5, number as u32) {
-        true
-    } else {
-        number == 10
-    }
+    between(3, 5, number as u32) || number == 10
 }
 
+#[tactic(auto, using(rules::proofs::Telling::telling), unfolding(rules::specs::Judge::named))]
 fn named(number: u8, parameter: u8) -> bool
     ensures { result ≡ judge.named number parameter }
 {
@@ -479,28 +462,18 @@ fn named(number: u8, parameter: u8) -> bool
     }
 }
 
+#[tactic(auto, using(rules::proofs::Telling::telling), unfolding(rules::specs::Judge::in_range))]
 fn fault_in_range(book: Book, f: Fault) -> bool
     ensures { result ≡ in_range (rules_of book) (state.Refused f) }
 {
-    if known_number(book, f.number) {
-        if f.place <= 257 {
-            named(f.number, f.parameter)
-        } else {
-            false
-        }
-    } else {
-        false
-    }
+    known_number(book, f.number) && f.place <= 257 && named(f.number, f.parameter)
 }
 
+#[tactic(auto, using(rules::proofs::Telling::telling), unfolding(rules::specs::Judge::in_range))]
 fn spot_in_range(book: Book, stage: Stage, q: Spot) -> bool
     ensures { result ≡ in_range (rules_of book) (state.Waiting stage q) }
 {
-    if place_fits(stage, q.place) {
-        count_fits(stage, q.place, q.parameter)
-    } else {
-        false
-    }
+    place_fits(stage, q.place) && count_fits(stage, q.place, q.parameter)
 }
 
 fn in_range(book: Book, s: State) -> bool

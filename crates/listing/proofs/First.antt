@@ -1,6 +1,7 @@
 -- showmsg looks at 259 octets and no further: what follows them does not change the listing, since an answer comes
 -- after 258 at the latest.
 -- Assumes nothing.
+use Rattle.std.proofs.Common.{ℕ, Result, Ok, Err}
 use Prim.Native.Nat.{ℕ, ◌≤◌, ◌<◌}
 use mathlib.Core.Path.{◌≡◌, sym, ◌∙◌, ap}
 use mathlib.Core.Logic.{◌⊎◌, inl, inr}
@@ -23,8 +24,7 @@ use Rattle.rules.proofs.Language.{in_range-run}
 use Rattle.rules.proofs.Grammar.{spoken_of, demand3_of}
 use Rattle.rules.specs.declared.State.{State}
 use Rattle.rules.specs.declared.State.TheVariants.{Waiting, Message, Refused}
-use Rattle.message.specs.declared.Verdict.{Verdict}
-use Rattle.message.specs.declared.Verdict.TheVariants.{Accepted, Declined}
+use Rattle.rules.specs.declared.Fault.{Fault}
 use Rattle.message.specs.Verdict.{judged, verdict_of}
 use Rattle.listing.specs.Listing.{written, verdict_lines, listing_of}
 
@@ -44,12 +44,12 @@ module _ (a b : List ℕ) (q : Octets a) (long : length a ≡ 259) where
   same_lines l (Waiting s p) t h = absurd (omega (arith, h tt))
   same_lines l (Message n) t h =
       let k = high 6 258 n t in
-      ap (λ (v : Verdict). written (verdict_lines (rules_of PresentLenient) a v))
-      (pick_not (length a =? n) (Accepted n) (Declined (noted 7 n)) (late n k))
+      ap (λ (v : Result ℕ Fault). written (verdict_lines (rules_of PresentLenient) a v))
+      (pick_not (length a =? n) (Ok n) (Err (noted 7 n)) (late n k))
       ∙ sym (ap (λ (w : State). written (verdict_lines (rules_of PresentLenient) (a ++ b) (judged (a ++ b) w)))
       ((demand3_of PresentLenient).message_stays n b)
-      ∙ ap (λ (v : Verdict). written (verdict_lines (rules_of PresentLenient) (a ++ b) v))
-      (pick_not (length (a ++ b) =? n) (Accepted n) (Declined (noted 7 n)) (later n k l)))
+      ∙ ap (λ (v : Result ℕ Fault). written (verdict_lines (rules_of PresentLenient) (a ++ b) v))
+      (pick_not (length (a ++ b) =? n) (Ok n) (Err (noted 7 n)) (later n k l)))
   same_lines l (Refused f) t h =
       sym (ap (λ (w : State). written (verdict_lines (rules_of PresentLenient) (a ++ b) (judged (a ++ b) w)))
       ((demand3_of PresentLenient).refusal_stays f b))

@@ -29,7 +29,7 @@ use Rattle.listing.specs.declared.ListingText.{ListingText}
 use Rattle.listing.specs.Numerals.{decimal}
 use Rattle.listing.proofs.Numerals.{one_digit, two_digits, three_digits}
 use Rattle.listing.proofs.Values.{surplus, surplus_most, value}
-use Rattle.listing.proofs.Keys.{key_at, key_spans}
+use Rattle.listing.proofs.Keys.{key_short}
 use Rattle.listing.specs.Listing.{Line, line_text, written, line_of, lines_for, row_lines, kind_line, carried_line, message_lines, refusal_lines, buffer_of, row_at, row_count, written_one, written-append, buffer_size}
 
 -- ---- lines
@@ -251,8 +251,7 @@ row_short i h v f =
     omega (
       arith,
       line_long (line_of R (row_at i) v),
-      key_spans i h,
-      (key_at i h).ends,
+      key_short i h,
       (value c).wide v f,
       surplus_most (style_of c),
       fits_short c v f,

@@ -1,6 +1,7 @@
 -- The sentences on a listing leave one text: lines that are told by the message and rise in one order are the same
 -- lines, and a refusal is the verdict's.
 -- Assumes nothing.
+use Rattle.std.proofs.Common.{ℕ, Result, Ok, Err}
 use Prim.Native.Nat.{ℕ, suc, ◌-◌, ◌≤◌}
 use mathlib.Core.Path.{◌≡◌, refl, sym, ◌∙◌, ap, ap₂}
 use mathlib.Core.Logic.{◌⊎◌, inl, inr}
@@ -11,9 +12,8 @@ use lib.Seq.{length-take-le}
 use Rattle.rules.specs.Table.{Rules}
 use Rattle.rules.specs.Message.{Message}
 use Rattle.rules.specs.Language.{calls}
+use Rattle.rules.specs.declared.Fault.{Fault}
 use Rattle.message.proofs.Told.{told-declined, accepted_iff, some_number}
-use Rattle.message.specs.declared.Verdict.{Verdict}
-use Rattle.message.specs.declared.Verdict.TheVariants.{Accepted, Declined}
 use Rattle.message.proofs.One.{judges_one}
 use Rattle.listing.specs.declared.ListingText.{ListingText}
 use Rattle.listing.specs.Listing.{Line, written, buffer_size}
@@ -60,11 +60,11 @@ module _ (R : Rules) where
       (λ l h. (B.said l).1 ((A.said l).0 h)) (λ l h. (A.said l).1 ((B.said l).0 h))
 
   module _ (o : List ℕ) (r s : ListingText) (A : Lists R o r) (B : Lists R o s) where
-    same_lines : (v : Verdict) → A.verdict ≡ v → A.lines ≡ B.lines
-    same_lines (Accepted n) e =
+    same_lines : (v : Result ℕ Fault) → A.verdict ≡ v → A.lines ≡ B.lines
+    same_lines (Ok n) e =
         let a = ((accepted_iff A.judged n).0 e).1 in
         lines_one a.0 _ _ (A.message a.0 a.1 a.2) (B.message a.0 a.1 a.2)
-    same_lines (Declined f) e =
+    same_lines (Err f) e =
         let k = f.number in
         let p = f.place in
         let b = f.parameter in

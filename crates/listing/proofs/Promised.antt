@@ -1,5 +1,6 @@
 -- What the promise of `listing` says of any octets, over the written rules.
 -- Assumes nothing.
+use Rattle.std.proofs.Common.{ℕ, Result, Ok, Err}
 use Prim.Native.Nat.{ℕ, ◌-◌}
 use mathlib.Core.Path.{◌≡◌, refl, sym, ◌∙◌, ap, subst}
 use mathlib.Core.List.{List}
@@ -15,12 +16,10 @@ use Rattle.rules.specs.Message as message
 use Rattle.rules.specs.Message.{octets, LegalMessage, Accepts}
 use Rattle.rules.specs.declared.Fault.{Fault}
 use Rattle.message.proofs.Told.{told-declined, accepted_iff}
-use Rattle.message.specs.declared.Verdict.{Verdict}
-use Rattle.message.specs.declared.Verdict.TheVariants.{Accepted, Declined}
 use Rattle.message.specs.Verdict.{verdict_of}
 use Rattle.message.proofs.Judges.{judges_of}
 use Rattle.message.specs.Parameters.{message_in}
-use Rattle.message.proofs.Parameters.{message_in_lem}
+use Rattle.message.proofs.Standing.{message_in_lem}
 use Rattle.listing.specs.declared.ListingText.{ListingText}
 use Rattle.listing.specs.Listing.{written, message_lines, verdict_lines, refusal_lines}
 use Rattle.listing.specs.Listing.{listing_of, buffer_of, buffer_size}
@@ -64,10 +63,10 @@ module _ (o : List ℕ) (r : ListingText) (h : ListingGives o r) where
   unfolding listing_of verdict_lines
   lists_message m l e =
       let w : Accepts (rules_of PresentLenient) o = (m, l, e) in
-      let v : verdict_of (rules_of PresentLenient) o ≡ Accepted (length o) =
+      let v : verdict_of (rules_of PresentLenient) o ≡ Ok (length o) =
       (accepted_iff (judges_of PresentLenient o ((unique_in PresentLenient).octets o w)) (length o)).1 (refl, w) in
       lists
-      ∙ ap (λ (x : Verdict). written (verdict_lines (rules_of PresentLenient) o x)) v
+      ∙ ap (λ (x : Result ℕ Fault). written (verdict_lines (rules_of PresentLenient) o x)) v
       ∙ ap (λ (x : message.Message). written (message_lines (rules_of PresentLenient) x))
       (ap message_in (sym e) ∙ message_in_lem (rules_of PresentLenient) (sound_rules PresentLenient) m l)
 
@@ -77,10 +76,10 @@ module _ (o : List ℕ) (r : ListingText) (h : ListingGives o r) where
   lists_lines m l e = ap cut (lists_message m l e) ∙ lines_back m l
 
   -- of a refusal: number, place and parameter, as the verdict has them
-  pub lists_refusal : (f : Fault) → verdict_of (rules_of PresentLenient) o ≡ Declined f →
+  pub lists_refusal : (f : Fault) → verdict_of (rules_of PresentLenient) o ≡ Err f →
       shown r ≡ written (refusal_lines f)
   unfolding listing_of verdict_lines
-  lists_refusal f e = lists ∙ ap (λ (x : Verdict). written (verdict_lines (rules_of PresentLenient) o x)) e
+  lists_refusal f e = lists ∙ ap (λ (x : Result ℕ Fault). written (verdict_lines (rules_of PresentLenient) o x)) e
 
 -- all the sentences on a listing
 module _ (o : List ℕ) (q : Octets o) where

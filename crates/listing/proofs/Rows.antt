@@ -1,6 +1,7 @@
 -- What the functions over rows owe their callers: the line of a row, one compared with it, the lines of the rows so
 -- far, and how many parameters are carried.
 -- Assumes nothing.
+use Rattle.std.proofs.Common.{Option, Some, None, zero, not, cond, filter}
 use Prim.Native.Nat.{ℕ, suc, ◌+◌, ◌-◌, ◌≤◌, ◌<◌}
 use mathlib.Core.Path.{◌≡◌, refl, sym, ◌∙◌, ap, ap₂}
 use mathlib.Core.List.{List, [], ◌∷◌, ◌++◌, append_assoc, append-nil}
@@ -19,32 +20,30 @@ use Rattle.rules.specs.declared.Class.{Class}
 use Rattle.rules.specs.declared.Book.TheVariants.{PresentLenient}
 use Rattle.rules.specs.Counting.{carried_in}
 use Rattle.rules.specs.declared.Fault.{Fault}
-use Rattle.message.specs.declared.Found.TheVariants.{Parameter, Nothing}
 use Rattle.message.specs.declared.Part.{Part}
-use Rattle.message.specs.declared.Part.TheVariants.{At, Nowhere}
-use Rattle.message.specs.Parts.{parameter_at, counted_at, part_of}
+use Rattle.message.specs.Parts.{found_at, part_at, parameter_at, counted_at, part_of}
 use Rattle.message.proofs.Places.{counted_inside}
-use Rattle.message.specs.Parameters.{parameters_from, parameters_in}
-use Rattle.message.proofs.Parameters.{no_more, none_here, one_here}
+use Rattle.message.specs.Parameters.{found, parameters_from, parameters_in}
+use Rattle.message.specs.declared.Found.{Found}
+use Rattle.message.specs.Walk.{found_then, founds_from}
 use Rattle.listing.specs.Put.{Room, Put, put_then, put_same, put_none}
 use Rattle.listing.specs.Listing.{line_text, written, written_one, written-append, line_of, says_line, lines_for, part_lines, rows_at, row_at, kind_line, carried_line, lines_at, number_line, refusal_lines, row_count, row_count_lem}
-use Rattle.listing.proofs.Keys.{kinds, key_at}
 
 -- ---- where contents stand, they lie inside
-pub part_inside : (o : List ℕ) (t : ℕ) (p : Part) (s n : ℕ) → p ≡ counted_at (rules_of PresentLenient) o t →
-    p ≡ At s n → s + n ≤ length o
+pub part_inside : (o : List ℕ) (t : ℕ) (p : Option Part) (s n : ℕ) → p ≡ counted_at (rules_of PresentLenient) o t →
+    p ≡ part_at s n → s + n ≤ length o
 part_inside o t p s n e q = omega (arith, counted_inside o (rules_of PresentLenient) t s n (sym e ∙ q))
 
 -- ---- the line of a row
-module _ (o : List ℕ) (i : ℕ) (h : i < row_count) (p : Part)
-    (e : p ≡ counted_at (rules_of PresentLenient) o (get_or kinds i 0)) where
+module _ (o : List ℕ) (i t : ℕ) (h : t ≡ (row_at i).kind) (p : Option Part)
+    (e : p ≡ counted_at (rules_of PresentLenient) o t) where
   stands : part_lines (rules_of PresentLenient) o (row_at i) ≡ lines_for (rules_of PresentLenient) (row_at i) (part_of o p)
   unfolding part_lines
   stands =
-      ap (λ (x : Part). lines_for (rules_of PresentLenient) (row_at i) (part_of o x))
-      (ap (counted_at (rules_of PresentLenient) o) (sym (key_at i h).kind) ∙ sym e)
+      ap (λ (x : Option Part). lines_for (rules_of PresentLenient) (row_at i) (part_of o x))
+      (ap (counted_at (rules_of PresentLenient) o) (sym h) ∙ sym e)
 
-  pub row_line : (s n : ℕ) → p ≡ At s n →
+  pub row_line : (s n : ℕ) → p ≡ part_at s n →
       line_text (line_of (rules_of PresentLenient) (row_at i) (take (s + n - s) (drop s o))) ≡
       written (part_lines (rules_of PresentLenient) o (row_at i))
   unfolding lines_for part_of
@@ -52,11 +51,11 @@ module _ (o : List ℕ) (i : ℕ) (h : i < row_count) (p : Part)
       let z : s + n - s ≡ n = omega arith in
       ap (λ (k : ℕ). line_text (line_of (rules_of PresentLenient) (row_at i) (take k (drop s o)))) z
       ∙ sym (written_one (line_of (rules_of PresentLenient) (row_at i) (take n (drop s o))))
-      ∙ ap written (sym (stands ∙ ap (λ (x : Part). lines_for (rules_of PresentLenient) (row_at i) (part_of o x)) q))
+      ∙ ap written (sym (stands ∙ ap (λ (x : Option Part). lines_for (rules_of PresentLenient) (row_at i) (part_of o x)) q))
 
-  pub row_none : p ≡ Nowhere → [] ≡ written (part_lines (rules_of PresentLenient) o (row_at i))
+  pub row_none : p ≡ None → [] ≡ written (part_lines (rules_of PresentLenient) o (row_at i))
   unfolding lines_for part_of written
-  row_none q = ap written (sym (stands ∙ ap (λ (x : Part). lines_for (rules_of PresentLenient) (row_at i) (part_of o x)) q))
+  row_none q = ap written (sym (stands ∙ ap (λ (x : Option Part). lines_for (rules_of PresentLenient) (row_at i) (part_of o x)) q))
 
 -- ---- a line compared with that of a row
 module _ (i : ℕ) (v l : List ℕ) where
@@ -66,11 +65,11 @@ module _ (i : ℕ) (v l : List ℕ) where
   pub no_row_says : row_count ≤ i → false ≡ said
   no_row_says h = and_f _ _ _ (no_le (suc i) row_count (omega arith)) refl
 
-  module _ (h : i < row_count) (c : Class) (e : c ≡ class_of (rules_of PresentLenient) (get_or kinds i 0)) (b : Bool)
-      (q : b ≡ contents_fit c v) where
+  module _ (h : i < row_count) (t : ℕ) (k : t ≡ (row_at i).kind) (c : Class) (e : c ≡ class_of (rules_of PresentLenient) t)
+      (b : Bool) (q : b ≡ contents_fit c v) where
     row_fits : b ≡ contents_fit (class_of (rules_of PresentLenient) (row_at i).kind) v
     row_fits =
-        q ∙ ap (λ (k : Class). contents_fit k v) (e ∙ ap (class_of (rules_of PresentLenient)) (key_at i h).kind)
+        q ∙ ap (λ (d : Class). contents_fit d v) (e ∙ ap (class_of (rules_of PresentLenient)) k)
 
     in_rows : (r : Bool) → r ≡ says_line (rules_of PresentLenient) (row_at i) v l → r ≡ said
     in_rows r z = and_t r _ _ (yes_le (suc i) row_count (omega arith)) z
@@ -152,48 +151,27 @@ module _ (o : List ℕ) where
         put_same _ _ at old end now (ap (λ (n : ℕ). rows_text (take n rows)) z) p
 
 -- ---- how many are carried
-module _ (o : List ℕ) where
-  abbrev pub CarriedSoFar : ℕ → ℕ → ℕ → Type 0
-  CarriedSoFar count at turns =
-      (count + carried_in (rules_of PresentLenient) (parameters_from turns o at) ≡ carried_in (rules_of PresentLenient)
-      (parameters_in o)) × (count + turns ≤ most)
+abbrev pub carries : Found → Bool
+carries f = not (listed (rules_of PresentLenient) f.kind)
 
-  pub none_counted : CarriedSoFar 0 2 most
-  unfolding parameters_in
-  none_counted = (omega arith, omega arith)
+one_more : (b : Bool) (f : Found) (fs : List Found) (n : ℕ) → length fs ≡ n →
+    length (cond (not b) (f ∷ fs) fs) ≡ pick b n (suc n)
+unfolding pick
+one_more true f fs n e = e
+one_more false f fs n e = omega (arith, e)
 
-  one_more : (b : Bool) (n : ℕ) → pick b n (suc n) ≡ pick b 0 1 + n
-  unfolding pick
-  one_more true n = omega arith
-  one_more false n = omega arith
-
-  few : (b : Bool) → pick b 0 1 ≤ 1
-  unfolding pick
-  few true = omega arith
-  few false = omega arith
-
-  module _ (count at turns : ℕ) (i : CarriedSoFar count at turns) where
-    module _ (h : 0 < turns) (k s n x : ℕ) (e : Parameter k s n ≡ parameter_at o at)
-        (d : x ≡ pick (listed (rules_of PresentLenient) k) 0 1) where
-      pub counted_small : count + x ≤ most
-      counted_small = omega (arith, few (listed (rules_of PresentLenient) k), i.1)
-
-      pub counted_more : CarriedSoFar (count + x) (s + n) (turns - 1)
-      unfolding carried_in
-      counted_more =
-          let p = ap (carried_in (rules_of PresentLenient)) (one_here turns o at h k s n e)
-          ∙ one_more (listed (rules_of PresentLenient) k)
-          (carried_in (rules_of PresentLenient) (parameters_from (turns - 1) o (s + n))) in
-          (omega (arith, i.0), omega (arith, i.1, few (listed (rules_of PresentLenient) k)))
-
-    pub counted_none : 0 < turns → Nothing ≡ parameter_at o at →
-        count ≡ carried_in (rules_of PresentLenient) (parameters_in o)
-    unfolding carried_in
-    counted_none h e = let p = ap (carried_in (rules_of PresentLenient)) (none_here turns o at h e) in omega (arith, i.0)
-
-    pub counted_end : turns ≤ 0 → count ≡ carried_in (rules_of PresentLenient) (parameters_in o)
-    unfolding carried_in
-    counted_end h = let p = ap (carried_in (rules_of PresentLenient)) (no_more turns o at h) in omega (arith, i.0)
+pub carried_founds : (turns : ℕ) (o : List ℕ) (at : ℕ) →
+    length (filter carries (founds_from turns o at)) ≡ carried_in (rules_of PresentLenient) (parameters_from turns o at)
+unfolding carried_in founds_from found_then parameters_from found
+carried_founds zero o at = refl
+carried_founds (suc turns) o at = go (carried_founds turns o) (parameter_at o at)
+  where
+    go : ((p : ℕ) → length (filter carries (founds_from turns o p)) ≡ carried_in (rules_of PresentLenient)
+        (parameters_from turns o p)) → (x : Option Found) →
+        length (filter carries (found_then x (founds_from turns o))) ≡ carried_in (rules_of PresentLenient)
+        (found o x (parameters_from turns o))
+    go ih None = refl
+    go ih (Some f) = one_more (listed (rules_of PresentLenient) f.kind) f _ _ (ih (f.start + f.length))
 
 -- ---- the whole text
 pub carried_line_lem : (n : ℕ) → number_line (ascii "carried=") n ≡ line_text (carried_line n)

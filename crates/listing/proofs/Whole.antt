@@ -1,6 +1,7 @@
 -- What `listing` owes its callers: the lines from an accepted message's octets are those of the message that they
 -- are, and they fit the buffer.
 -- Assumes nothing.
+use Rattle.std.proofs.Common.{ℕ, Result, Ok, Err}
 use Prim.Native.Nat.{ℕ, ◌+◌, ◌-◌, ◌≤◌}
 use mathlib.Core.Path.{◌≡◌, refl, sym, ◌∙◌, ap, ap₂, subst}
 use mathlib.Core.List.{List, [], ◌∷◌, ◌++◌}
@@ -17,15 +18,13 @@ use Rattle.rules.specs.Message.{octets, LegalMessage, Accepts}
 use Rattle.rules.specs.Counting.{counted, carried_in}
 use Rattle.rules.specs.declared.Fault.{Fault}
 use Rattle.rules.proofs.Grammar.{spoken_of}
-use Rattle.message.specs.declared.Verdict.{Verdict}
-use Rattle.message.specs.declared.Verdict.TheVariants.{Accepted, Declined}
 use Rattle.message.specs.Verdict.{verdict_of}
 use Rattle.message.proofs.Judges.{judges_of, told_small, near_declined, few_declined}
 use Rattle.message.proofs.Told.{accepted_iff, number_of_lem}
 use Rattle.message.specs.Parts.{counted_at, part_of}
 use Rattle.message.proofs.Searching.{counted_part}
 use Rattle.message.specs.Parameters.{parameters_in, message_in}
-use Rattle.message.proofs.Parameters.{message_in_lem}
+use Rattle.message.proofs.Standing.{message_in_lem}
 use Rattle.listing.specs.Put.{Room, Put, put_first}
 use Rattle.listing.specs.Listing.{Line, written, kind_line, carried_line, lines_for, row_lines, message_lines, part_lines, rows_at, lines_at, verdict_lines, refusal_lines, listing_of, buffer_of, buffer_size}
 use Rattle.listing.proofs.Pieces.{alone_room}
@@ -57,8 +56,8 @@ pub record Fitting (o v : List ℕ) : Type 0 where
   pub is : v ≡ listing_of (rules_of PresentLenient) o
   pub short : length v ≤ buffer_size
 
-module _ (o : List ℕ) (q : Octets o) (v : Verdict) (e : v ≡ verdict_of (rules_of PresentLenient) o) where
-  pub lists_message : (n : ℕ) → v ≡ Accepted n → Fitting o (written (lines_at (rules_of PresentLenient) o))
+module _ (o : List ℕ) (q : Octets o) (v : Result ℕ Fault) (e : v ≡ verdict_of (rules_of PresentLenient) o) where
+  pub lists_message : (n : ℕ) → v ≡ Ok n → Fitting o (written (lines_at (rules_of PresentLenient) o))
   unfolding listing_of verdict_lines
   lists_message n d = go ((accepted_iff (judges_of PresentLenient o q) n).0 (sym e ∙ d)).1
     where
@@ -72,7 +71,7 @@ module _ (o : List ℕ) (q : Octets o) (v : Verdict) (e : v ≡ verdict_of (rule
           let k : message_in o ≡ m =
           ap message_in (sym a.2) ∙ message_in_lem (rules_of PresentLenient) (sound_rules PresentLenient) m l in
           record {
-            is = ap written s ∙ ap (λ (x : Verdict). written (verdict_lines (rules_of PresentLenient) o x)) (sym d ∙ e);
+            is = ap written s ∙ ap (λ (x : Result ℕ Fault). written (verdict_lines (rules_of PresentLenient) o x)) (sym d ∙ e);
             short =
                 omega (
                   arith,
@@ -82,12 +81,12 @@ module _ (o : List ℕ) (q : Octets o) (v : Verdict) (e : v ≡ verdict_of (rule
                 );
           }
 
-  pub lists_refusal : (f : Fault) → v ≡ Declined f → Fitting o (written (refusal_lines f))
+  pub lists_refusal : (f : Fault) → v ≡ Err f → Fitting o (written (refusal_lines f))
   unfolding listing_of verdict_lines
   lists_refusal f d =
       let j = judges_of PresentLenient o q in
       record {
-        is = ap (λ (x : Verdict). written (verdict_lines (rules_of PresentLenient) o x)) (sym d ∙ e);
+        is = ap (λ (x : Result ℕ Fault). written (verdict_lines (rules_of PresentLenient) o x)) (sym d ∙ e);
         short =
             refusal_short f (omega (arith, (told_small (spoken_of PresentLenient) _ (number_of_lem j f (sym e ∙ d))).1))
             (omega (arith, near_declined j f (sym e ∙ d))) (omega (arith, few_declined j f (sym e ∙ d)));
@@ -97,10 +96,10 @@ module _ (o : List ℕ) (q : Octets o) (v : Verdict) (e : v ≡ verdict_of (rule
 pub listing_short : (o : List ℕ) → Octets o → length (listing_of (rules_of PresentLenient) o) ≤ buffer_size
 listing_short o q = go (verdict_of (rules_of PresentLenient) o) refl
   where
-    go : (v : Verdict) → v ≡ verdict_of (rules_of PresentLenient) o →
+    go : (v : Result ℕ Fault) → v ≡ verdict_of (rules_of PresentLenient) o →
         length (listing_of (rules_of PresentLenient) o) ≤ buffer_size
-    go (Accepted n) e = let f = lists_message o q _ e n refl in omega (arith, ap length f.is, f.short)
-    go (Declined g) e = let f = lists_refusal o q _ e g refl in omega (arith, ap length f.is, f.short)
+    go (Ok n) e = let f = lists_message o q _ e n refl in omega (arith, ap length f.is, f.short)
+    go (Err g) e = let f = lists_refusal o q _ e g refl in omega (arith, ap length f.is, f.short)
 
 -- ---- in the buffer
 zeros : (n k z : ℕ) → n ≤ k → drop n (replicate k z) ≡ replicate (k - n) z

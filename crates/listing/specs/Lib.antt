@@ -4,3 +4,4 @@ pub mod Put
 pub mod Listing
 pub mod Lists
 pub mod Examples
+pub mod Seen

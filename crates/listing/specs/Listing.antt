@@ -1,6 +1,6 @@
 -- The listing of any octets (document 01, What showmsg prints).
 -- Assumes nothing.
-use Rattle.std.specs.Prelude.{ℕ, ◌+◌, ◌-◌, ◌≡◌, refl, Bool, List, [], ◌∷◌, ◌++◌, length, get_or, drop, replicate}
+use Rattle.std.specs.Prelude.{ℕ, ◌+◌, ◌-◌, ◌≡◌, refl, Bool, List, [], ◌∷◌, ◌++◌, length, get_or, drop, replicate, Result, Ok, Err}
 use Rattle.std.proofs.Common.{sym, ◌∙◌, ap, append_assoc, append-nil}
 use Rattle.std.proofs.Math.Option.{Option, none, some}
 use Rattle.rules.specs.Tests.{◌=?◌, ◌and◌, pick}
@@ -11,8 +11,6 @@ use Rattle.rules.specs.Message.{Message}
 use Rattle.rules.specs.Counting.{counted, carried_in}
 use Rattle.rules.specs.declared.Fault.{Fault}
 use Rattle.rules.specs.declared.Class.TheVariants.{Carried}
-use Rattle.message.specs.declared.Verdict.{Verdict}
-use Rattle.message.specs.declared.Verdict.TheVariants.{Accepted, Declined}
 use Rattle.message.specs.Verdict.{verdict_of}
 use Rattle.message.specs.Parts.{counted_at, part_of}
 use Rattle.message.specs.Parameters.{parameters_in, message_in}
@@ -158,9 +156,9 @@ refusal_lines f =
     ∷ []
 
 -- an accepted message has its lines, and a refusal its three
-unfoldable pub verdict_lines : Rules → List ℕ → Verdict → List Line
-verdict_lines R o (Accepted n) = message_lines R (message_in o)
-verdict_lines R o (Declined f) = refusal_lines f
+unfoldable pub verdict_lines : Rules → List ℕ → Result ℕ Fault → List Line
+verdict_lines R o (Ok n) = message_lines R (message_in o)
+verdict_lines R o (Err f) = refusal_lines f
 
 -- what showmsg prints of octets
 unfoldable pub listing_of : Rules → List ℕ → List ℕ

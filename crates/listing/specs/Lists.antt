@@ -1,7 +1,7 @@
 -- What a listing says of any octets, over the written rules (document 01, What showmsg prints): which lines it has,
 -- in which order, and nothing else.
 -- Assumes nothing.
-use Rattle.std.specs.Prelude.{ℕ, suc, ◌-◌, ◌≤◌, ◌≡◌, ◌⊎◌, ◌↔◌, List, [], ◌∷◌, ◌++◌, length, take, drop, replicate}
+use Rattle.std.specs.Prelude.{ℕ, suc, ◌-◌, ◌≤◌, ◌≡◌, ◌⊎◌, ◌↔◌, List, [], ◌∷◌, ◌++◌, length, take, drop, replicate, Result}
 use Rattle.std.proofs.Math.Option.{some}
 use Rattle.rules.specs.Tests.{pick}
 use Rattle.rules.specs.Pairwise.{same_octets}
@@ -10,7 +10,7 @@ use Rattle.rules.specs.Message.{Message, octets, LegalMessage}
 use Rattle.rules.specs.Counting.{counted, carried_in}
 use Rattle.rules.specs.Language.{calls}
 use Rattle.rules.specs.Refusals.{noted_in}
-use Rattle.message.specs.declared.Verdict.{Verdict}
+use Rattle.rules.specs.declared.Fault.{Fault}
 use Rattle.message.specs.Told.{told, refusal}
 use Rattle.message.specs.Judges.{Judges}
 use Rattle.listing.specs.declared.ListingText.{ListingText}
@@ -59,7 +59,7 @@ pub record Lines (R : Rules) (m : Message) (ls : List Line) : Type 0 where
 -- the octets o went in, and r came back
 pub record Lists (R : Rules) (o : List ℕ) (r : ListingText) : Type 0 where
   -- a refusal, as the whole read declines the octets, has three lines: its number, its place and its parameter
-  pub verdict : Verdict
+  pub verdict : Result ℕ Fault
   pub judged : Judges (calls R) o verdict
   pub lines : List Line
   pub refused : (k p b : ℕ) → 1 ≤ k → told verdict ≡ refusal k p b → lines ≡ refusal_lines (noted_in k p b)

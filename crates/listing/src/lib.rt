@@ -4,17 +4,18 @@
 #![tactic(auto)]
 
 ghost use Rattle.std.specs.Prelude.{◌≡◌, [], ◌∷◌, ◌++◌, suc, ◌<◌, ◌≤◌, length, drop, T};
-ghost use Rattle.rules.specs.Tests.{◌≤?◌, ◌and◌, pick};
+ghost use Rattle.rules.specs.Tests.{◌≤?◌, ◌and◌};
 ghost use Rattle.rules.specs.Pairwise.{same_octets};
-ghost use Rattle.rules.specs.Table.{rules_of, listed, class_of, contents_fit, style_of, ascii};
+ghost use Rattle.rules.specs.Table.{rules_of, class_of, contents_fit, style_of, ascii};
 ghost use Rattle.rules.specs.declared.Book.TheVariants as book;
 ghost use Rattle.rules.specs.Counting.{carried_in};
 ghost use Rattle.message.specs.Parameters.{parameters_in};
 ghost use Rattle.listing.specs.Numerals.{hex_digit, hex, decimal};
-ghost use Rattle.listing.specs.Put.{Room, Put, part};
+ghost use Rattle.listing.specs.Put.{Room, Put};
+ghost use Rattle.listing.specs.Seen.{ones, told};
 ghost use Rattle.listing.specs.Listing.{half, seconds, coded, clock, lamp_word, state_word, reference, identity, moment, duration, charge, selector_word, selected, terminal, printed, kind_line, carried_line, number_line, line_text, line_of, says_line, row_at, row_count, part_lines, rows_at, lines_at, written, refusal_lines, listing_of, buffer_of};
 
-use message::{Found, Part, Verdict};
+use message::{Parameters, Part};
 use rules::{Book, Class, Fault};
 
 // No listing is longer.
@@ -30,19 +31,142 @@ pub struct ListingText {
     pub length: usize,
 }
 
-// The rows of the listing: their types in its order, and where the key of each begins in the row of keys; behind the
-// last, where they end: 255, the most that an octet holds.
+// A row of the listing: a parameter type and its key.
+#[derive(Clone, Copy)]
+struct Row {
+    kind: u8,
+    key: &'static [u8],
+}
+
 pub const ROWS: usize = 27;
 
-const TYPES: [u8; ROWS] = [
-    0x01, 0x02, 0x03, 0x04, 0x07, 0x08, 0x0B, 0x0D, 0x0E, 0x0F, 0x10, 0x11, 0x12, 0x13, 0x15, 0x16,
-    0x1A, 0x20, 0x21, 0x22, 0x23, 0x30, 0x31, 0x40, 0x50, 0x55, 0xE0,
+// The rows in the listing's order.
+const TABLE: &[Row] = &[
+    Row {
+        kind: 0x01,
+        key: b"time",
+    },
+    Row {
+        kind: 0x02,
+        key: b"caller",
+    },
+    Row {
+        kind: 0x03,
+        key: b"called",
+    },
+    Row {
+        kind: 0x04,
+        key: b"caller-absent",
+    },
+    Row {
+        kind: 0x07,
+        key: b"name",
+    },
+    Row {
+        kind: 0x08,
+        key: b"name-absent",
+    },
+    Row {
+        kind: 0x0B,
+        key: b"lamp",
+    },
+    Row {
+        kind: 0x0D,
+        key: b"message",
+    },
+    Row {
+        kind: 0x0E,
+        key: b"depositor",
+    },
+    Row {
+        kind: 0x0F,
+        key: b"left-time",
+    },
+    Row {
+        kind: 0x10,
+        key: b"network-caller",
+    },
+    Row {
+        kind: 0x11,
+        key: b"call-type",
+    },
+    Row {
+        kind: 0x12,
+        key: b"first-called",
+    },
+    Row {
+        kind: 0x13,
+        key: b"waiting",
+    },
+    Row {
+        kind: 0x15,
+        key: b"forwarded",
+    },
+    Row {
+        kind: 0x16,
+        key: b"user",
+    },
+    Row {
+        kind: 0x1A,
+        key: b"redirecting",
+    },
+    Row {
+        kind: 0x20,
+        key: b"charge",
+    },
+    Row {
+        kind: 0x21,
+        key: b"additional-charge",
+    },
+    Row {
+        kind: 0x22,
+        key: b"extra-charge",
+    },
+    Row {
+        kind: 0x23,
+        key: b"duration",
+    },
+    Row {
+        kind: 0x30,
+        key: b"provider",
+    },
+    Row {
+        kind: 0x31,
+        key: b"carrier",
+    },
+    Row {
+        kind: 0x40,
+        key: b"terminal",
+    },
+    Row {
+        kind: 0x50,
+        key: b"display",
+    },
+    Row {
+        kind: 0x55,
+        key: b"service",
+    },
+    Row {
+        kind: 0xE0,
+        key: b"extension",
+    },
 ];
 
-const STARTS: [u8; ROWS + 1] = [
-    0, 5, 12, 19, 33, 38, 50, 55, 63, 73, 83, 98, 108, 121, 129, 139, 144, 156, 163, 181, 194, 203,
-    212, 220, 229, 237, 245, 255,
-];
+#[tactic(auto, unfolding(rules::specs::Table::rules_of, rules::specs::Table::ascii))]
+fn table() -> &'static [Row]
+    ensures said { ones result.now ≡ told (rules_of book.PresentLenient).rows }
+    ensures long { length result.now ≡ row_count }
+{
+    TABLE
+}
+
+fn entry(i: usize) -> &'static Row
+    requires { i < row_count }
+    ensures kind { result.now.kind ≡ (row_at i).kind }
+    ensures key { result.now.key.now ≡ (row_at i).key }
+{
+    &table()[i]
+}
 
 // ---- octets put behind those that stand there
 
@@ -53,13 +177,6 @@ fn put(text: &[u8], out: &mut [u8], at: usize) -> usize
     let end = at + text.len();
     out[at..end].copy_from_slice(text);
     end
-}
-
-fn put_part(text: &[u8], start: usize, end: usize, out: &mut [u8], at: usize) -> usize
-    requires { (start ≤ end) × (end ≤ length text.now) × Room (part text.now start end) at out.old }
-    ensures { Put (part text.now start end) at out.old result out.new }
-{
-    put(&text[start..end], out, at)
 }
 
 fn put_octet(x: u8, out: &mut [u8], at: usize) -> usize
@@ -268,34 +385,34 @@ fn put_terminal(contents: &[u8], out: &mut [u8], at: usize) -> usize
 }
 
 // The value that contents say, in the style of their class.
+#[tactic(auto, unfolding(rules::specs::Table::style_of, crate::specs::Listing::printed, crate::specs::Listing::display))]
 fn put_value(class: Class, contents: &[u8], out: &mut [u8], at: usize) -> usize
     requires { Room (printed (style_of class) contents.now) at out.old }
     ensures { Put (printed (style_of class) contents.now) at out.old result out.new }
 {
     match class {
-        Class::Carried => at,
+        Class::Carried | Class::Unlisted => at,
         Class::Date => put_clock(contents, out, at),
-        Class::Number => put(contents, out, at),
-        Class::Absent => put(contents, out, at),
-        Class::Name => put(contents, out, at),
         Class::Lamp => put_lamp(message::octet(contents, 0), out, at),
         Class::Identity => put_identity(contents, out, at),
-        Class::CallType => put_hex(message::octet(contents, 0), out, at),
         Class::Waiting => put_decimal(message::octet(contents, 0) as u16, out, at),
-        Class::Forwarded => put_hex(message::octet(contents, 0), out, at),
-        Class::User => put_hex(message::octet(contents, 0), out, at),
-        Class::ShortText => put(contents, out, at),
         Class::Moment => put_moment(contents, out, at),
         Class::Charge => put_charge(contents, out, at),
         Class::Duration => put_duration(contents, out, at),
         Class::Terminal => put_terminal(contents, out, at),
         Class::Display => put_coded(contents, 0, out, at),
-        Class::Service => put_hex(message::octet(contents, 0), out, at),
-        Class::Extension => put(contents, out, at),
-        Class::OldNumber => put(contents, out, at),
-        Class::OldForwarded => put_hex(message::octet(contents, 0), out, at),
-        Class::OldUser => put_hex(message::octet(contents, 0), out, at),
-        Class::Unlisted => at,
+        Class::CallType
+        | Class::Forwarded
+        | Class::User
+        | Class::Service
+        | Class::OldForwarded
+        | Class::OldUser => put_hex(message::octet(contents, 0), out, at),
+        Class::Number
+        | Class::Absent
+        | Class::Name
+        | Class::ShortText
+        | Class::Extension
+        | Class::OldNumber => put(contents, out, at),
     }
 }
 
@@ -306,22 +423,15 @@ fn put_key(i: usize, out: &mut [u8], at: usize) -> usize
     requires { (i < row_count) × Room ((row_at i).key ++ ascii "=") at out.old }
     ensures { Put ((row_at i).key ++ ascii "=") at out.old result out.new }
 {
-    let start = STARTS[i] as usize;
-    let end = STARTS[i + 1] as usize;
-    put_part(
-        b"time=caller=called=caller-absent=name=name-absent=lamp=message=depositor=left-time=network-caller=call-type=first-called=waiting=forwarded=user=redirecting=charge=additional-charge=extra-charge=duration=provider=carrier=terminal=display=service=extension=",
-        start,
-        end,
-        out,
-        at,
-    )
+    let key = put(entry(i).key, out, at);
+    put_octet(b'=', out, key)
 }
 
 fn put_line(i: usize, contents: &[u8], out: &mut [u8], at: usize) -> usize
     requires { (i < row_count) × Room (line_text (line_of (rules_of book.PresentLenient) (row_at i) contents.now)) at out.old }
     ensures { Put (line_text (line_of (rules_of book.PresentLenient) (row_at i) contents.now)) at out.old result out.new }
 {
-    let class = rules::class_of(Book::PresentLenient, TYPES[i]);
+    let class = rules::class_of(Book::PresentLenient, entry(i).kind);
     let key = put_key(i, out, at);
     let value = put_value(class, contents, out, key);
     put_octet(b'\n', out, value)
@@ -342,13 +452,13 @@ fn put_row(octets: &[u8], i: usize, out: &mut [u8], at: usize) -> usize
     requires { (i < row_count) × Room (written (part_lines (rules_of book.PresentLenient) octets.now (row_at i))) at out.old }
     ensures { Put (written (part_lines (rules_of book.PresentLenient) octets.now (row_at i))) at out.old result out.new }
 {
-    let part = message::counted(Book::PresentLenient, octets, TYPES[i]);
+    let part = message::counted(Book::PresentLenient, octets, entry(i).kind);
     match part {
-        Part::At { start, length } => {
+        Some(Part { start, length }) => {
             let end = start + length as usize;
             put_line(i, &octets[start..end], out, at)
         }
-        Part::Nowhere => at,
+        None => at,
     }
 }
 
@@ -357,10 +467,8 @@ fn put_rows(octets: &[u8], out: &mut [u8], at: usize) -> usize
     ensures { Put (written (rows_at (rules_of book.PresentLenient) octets.now (rules_of book.PresentLenient).rows)) at out.old result out.new }
 {
     let mut end = at;
-    let mut i: usize = 0;
-    while i < ROWS {
+    for i in 0..ROWS {
         end = put_row(octets, i, out, end);
-        i += 1;
     }
     end
 }
@@ -396,38 +504,14 @@ fn put_kind(x: u8, out: &mut [u8], at: usize) -> usize
 
 // ---- the listing
 
-fn one_if_carried(kind: u8) -> u16
-    ensures { result ≡ pick (listed (rules_of book.PresentLenient) kind) 0 1 }
-{
-    if rules::is_listed(Book::PresentLenient, kind) {
-        0
-    } else {
-        1
-    }
-}
-
 // How many parameters are carried, repeats too.
 fn carried(octets: &[u8]) -> u16
     ensures { result ≡ carried_in (rules_of book.PresentLenient) (parameters_in octets.now) }
 {
     let mut count: u16 = 0;
-    let mut at: usize = 2;
-    let mut turns: usize = rules::MOST;
-    while 0 < turns {
-        let found = message::parameter(octets, at);
-        match found {
-            Found::Parameter {
-                kind,
-                start,
-                length,
-            } => {
-                count += one_if_carried(kind);
-                at = start + length as usize;
-                turns -= 1;
-            }
-            Found::Nothing => {
-                return count;
-            }
+    for found in Parameters::new(octets, rules::MOST) {
+        if !rules::is_listed(Book::PresentLenient, found.kind) {
+            count += 1;
         }
     }
     count
@@ -458,14 +542,14 @@ pub fn listing(octets: &[u8]) -> ListingText
     let mut out = [0u8; LONGEST];
     let verdict = message::judge(Book::PresentLenient, octets);
     match verdict {
-        Verdict::Accepted { size: _ } => {
+        Ok(_) => {
             let length = put_message(octets, &mut out);
             ListingText {
                 octets: out,
                 length,
             }
         }
-        Verdict::Declined { fault } => {
+        Err(fault) => {
             let length = put_refusal(fault, &mut out);
             ListingText {
                 octets: out,
@@ -479,21 +563,14 @@ pub fn listing(octets: &[u8]) -> ListingText
 pub fn kind_at(i: usize) -> u8
     ensures { result ≡ (row_at i).kind }
 {
-    if i < ROWS { TYPES[i] } else { 0 }
+    if i < ROWS { entry(i).kind } else { 0 }
 }
 
 // How many octets the key of a row has; 0 behind the last.
 pub fn key_length(i: usize) -> usize
     ensures { result ≡ length (row_at i).key }
 {
-    if i < ROWS {
-        let start = STARTS[i] as usize;
-        let end = STARTS[i + 1] as usize;
-        // `=` stands behind it
-        end - start - 1
-    } else {
-        0
-    }
+    if i < ROWS { entry(i).key.len() } else { 0 }
 }
 
 // Is this the line of a row with these contents, which fit its class?
@@ -501,7 +578,7 @@ pub fn says(i: usize, contents: &[u8], line: &[u8]) -> bool
     ensures { result ≡ (suc i ≤? row_count and says_line (rules_of book.PresentLenient) (row_at i) contents.now line.now) }
 {
     if i < ROWS {
-        let class = rules::class_of(Book::PresentLenient, TYPES[i]);
+        let class = rules::class_of(Book::PresentLenient, entry(i).kind);
         if contents::fits(class, contents) {
             is_line(i, contents, line)
         } else {

@@ -2,7 +2,7 @@
 -- The argument: a verdict is read off the machine's answer, way by way, and demand 3 says of each answer what it
 -- means over the written rules; the numbers 7 and 8 are none that the machine gives, so each way is told apart.
 -- Assumes nothing.
-use Rattle.std.proofs.Common.{◌≡◌, ℕ, ◌<◌, ◌≤◌, T, ◌⊎◌, ◌↔◌, List, length, take, sym, refl, ap, ◌∙◌, subst, inl, inr, arith}
+use Rattle.std.proofs.Common.{◌≡◌, ℕ, ◌<◌, ◌≤◌, T, ◌⊎◌, ◌↔◌, List, length, take, sym, refl, ap, ◌∙◌, subst, inl, inr, arith, Result, Ok, Err}
 use mathlib.Core.Logic.Iff
 use lib.Seq.{take-length}
 use Rattle.rules.specs.Tests.{◌or◌, ◌≤?◌, ◌=?◌, pick}
@@ -23,8 +23,6 @@ use Rattle.rules.proofs.InRange.{low, high, inside, given_lenient}
 use Rattle.rules.specs.declared.Fault.{Fault}
 use Rattle.rules.specs.declared.State.{State}
 use Rattle.rules.specs.declared.State.TheVariants.{Waiting, Message, Refused}
-use Rattle.message.specs.declared.Verdict.{Verdict}
-use Rattle.message.specs.declared.Verdict.TheVariants.{Accepted, Declined}
 use Rattle.message.specs.Judges.{Judges, verdict_number}
 use Rattle.message.proofs.Told.{told_accepted, told-declined}
 use Rattle.message.specs.Told.{told, Clear}
@@ -76,7 +74,7 @@ verdict_lenient R k e = (λ t. to (either _ _ t), λ d. of d.0 d.1 (decide (k �
     of a b (inl t) = left _ _ ((given_lenient R k e).1 (a, le_of _ _ t))
     of a b (inr n) = let h = not_le _ _ n in right _ _ (inside _ _ _ (omega arith) b)
 
-fault_of : (f g : Fault) → Declined f ≡ Declined g → f ≡ g
+fault_of : (f g : Fault) → ◌≡◌ {A = Result ℕ Fault} (Err f) (Err g) → f ≡ g
 fault_of f g e = cc
 
 module _ {L : Language} (S : Spoken L) (o : List ℕ) (q : Octets o) where
@@ -87,16 +85,16 @@ module _ {L : Language} (S : Spoken L) (o : List ℕ) (q : Octets o) where
   ranged = in_range-run S (start L.machine) o q S.in_range_start
 
   -- ---- the verdict and the machine's answer
-  accepted_state : (s : State) (n : ℕ) → (judged o s ≡ Accepted n) ↔ ((s ≡ Message n) × (length o ≡ n))
+  accepted_state : (s : State) (n : ℕ) → (judged o s ≡ Ok n) ↔ ((s ≡ Message n) × (length o ≡ n))
   unfolding judged
   accepted_state (Waiting s p) n = (λ e. clash cc, λ e. clash (cc e.0))
   accepted_state (Message m) n = (
     λ e. picked_by _ _ _ _ _ e (λ t d. let k : m ≡ n = cc in (ap Message k, eq_of _ _ t ∙ k)) (λ _ d. clash cc),
-    λ e. let k : m ≡ n = cc e.0 in pick_yes _ _ _ (of_eq _ _ (e.1 ∙ sym k)) ∙ ap Accepted k,
+    λ e. let k : m ≡ n = cc e.0 in pick_yes _ _ _ (of_eq _ _ (e.1 ∙ sym k)) ∙ ap Ok k,
   )
   accepted_state (Refused f) n = (λ e. clash cc, λ e. clash (cc e.0))
 
-  refused-state : (s : State) (f : Fault) → T (L.given f.number) → (judged o s ≡ Declined f) ↔ (s ≡ Refused f)
+  refused-state : (s : State) (f : Fault) → T (L.given f.number) → (judged o s ≡ Err f) ↔ (s ≡ Refused f)
   unfolding judged
   refused-state (Waiting s p) f l = (
     λ e. let k = ap (λ (x : Fault). x.number) (fault_of _ _ e) in
@@ -108,14 +106,14 @@ module _ {L : Language} (S : Spoken L) (o : List ℕ) (q : Octets o) where
         (λ _ d. let k = ap (λ (x : Fault). x.number) (fault_of _ _ d) in absurd ((given_apart S _ l).0 (sym k))),
     λ e. clash cc,
   )
-  refused-state (Refused g) f l = (λ e. ap Refused (fault_of _ _ e), λ e. let k : g ≡ f = cc in ap Declined k)
+  refused-state (Refused g) f l = (λ e. ap Refused (fault_of _ _ e), λ e. let k : g ≡ f = cc in ap Err k)
 
   early_state : (s : State) (p : ℕ) → T (L.in_range s) →
-      (judged o s ≡ Declined (noted 8 p)) ↔ ((p ≡ length o) × Waits s)
+      (judged o s ≡ Err (noted 8 p)) ↔ ((p ≡ length o) × Waits s)
   unfolding judged
   early_state (Waiting s r) p t = (
     λ e. (sym (ap (λ (x : Fault). x.place) (fault_of _ _ e)), tt),
-    λ e. ap (λ (k : ℕ). Declined (noted 8 k))
+    λ e. ap (λ (k : ℕ). Err (noted 8 k))
         (sym e.0),
   )
   early_state (Message m) p t = (
@@ -130,7 +128,7 @@ module _ {L : Language} (S : Spoken L) (o : List ℕ) (q : Octets o) where
   )
 
   followed_state : (s : State) (p : ℕ) → T (L.in_range s) →
-      (judged o s ≡ Declined (noted 7 p)) ↔ ((s ≡ Message p) × (length o ≡ p → ⊥))
+      (judged o s ≡ Err (noted 7 p)) ↔ ((s ≡ Message p) × (length o ≡ p → ⊥))
   unfolding judged
   followed_state (Waiting s r) p t =
       (λ e. let k = ap (λ (x : Fault). x.number) (fault_of _ _ e) in absurd (omega arith), λ e. clash (cc e.0))
@@ -139,7 +137,7 @@ module _ {L : Language} (S : Spoken L) (o : List ℕ) (q : Octets o) where
         (λ n d. let k = ap (λ (x : Fault). x.place) (fault_of _ _ d) in
         (ap Message k, λ l. n (of_eq _ _ (l ∙ sym k)))),
     λ e. let k : m ≡ p = cc e.0 in
-        pick_not _ _ _ (λ l. e.1 (eq_of _ _ l ∙ k)) ∙ ap (λ (x : ℕ). Declined (noted 7 x)) k,
+        pick_not _ _ _ (λ l. e.1 (eq_of _ _ l ∙ k)) ∙ ap (λ (x : ℕ). Err (noted 7 x)) k,
   )
   followed_state (Refused g) p t = (
     λ e. let k = ap (λ (x : Fault). x.number) (fault_of _ _ e) in
@@ -156,7 +154,7 @@ module _ {L : Language} (S : Spoken L) (o : List ℕ) (q : Octets o) where
   unfolding verdict_number
   added k a b = right _ _ (inside _ _ _ a b)
 
-  numbers_state : (s : State) (f : Fault) → T (L.in_range s) → judged o s ≡ Declined f → T (verdict_number L f.number)
+  numbers_state : (s : State) (f : Fault) → T (L.in_range s) → judged o s ≡ Err f → T (verdict_number L f.number)
   unfolding judged
   numbers_state (Waiting s r) f t e =
       let k = ap (λ (x : Fault). x.number) (fault_of _ _ e) in
@@ -172,9 +170,9 @@ module _ {L : Language} (S : Spoken L) (o : List ℕ) (q : Octets o) where
   near_state (Message m) t l = go (decide (length o =? m))
     where
       go : T (length o =? m) ⊎ (T (length o =? m) → ⊥) →
-          (told (pick (length o =? m) (Accepted m) (Declined (noted 7 m)))).place ≤ 258
-      go (inl e) = rw (pick_yes _ (Accepted m) (Declined (noted 7 m)) e) (omega arith)
-      go (inr n) = rw (pick_not _ (Accepted m) (Declined (noted 7 m)) n) (omega (arith, (S.sized m t).1))
+          (told (pick (length o =? m) (Ok m) (Err (noted 7 m)))).place ≤ 258
+      go (inl e) = rw (pick_yes _ (Ok m) (Err (noted 7 m)) e) (omega arith)
+      go (inr n) = rw (pick_not _ (Ok m) (Err (noted 7 m)) n) (omega (arith, (S.sized m t).1))
   near_state (Refused g) t l = omega (arith, (S.refused g t).1)
 
   -- the parameter is that of the machine's refusal, and 0 with the numbers that the verdict adds
@@ -183,7 +181,7 @@ module _ {L : Language} (S : Spoken L) (o : List ℕ) (q : Octets o) where
   unfolding judged told
   none_state (Waiting s r) t u = refl
   none_state (Message m) t u =
-      pick_case (λ (v : Verdict). (told v).parameter ≡ 0) (length o =? m) _ _ (λ _. refl) (λ _. refl)
+      pick_case (λ (v : Result ℕ Fault). (told v).parameter ≡ 0) (length o =? m) _ _ (λ _. refl) (λ _. refl)
   none_state (Refused g) t u =
       absurd ((S.numbers _ (S.refused g t).0).2 (inside 7 9 _ (low 7 8 _ u) (omega (arith, high 7 8 _ u))))
 
@@ -191,7 +189,7 @@ module _ {L : Language} (S : Spoken L) (o : List ℕ) (q : Octets o) where
   unfolding judged told
   few_state (Waiting s r) t = omega arith
   few_state (Message m) t =
-      pick_case (λ (v : Verdict). (told v).parameter ≤ 85) (length o =? m) _ _ (λ _. omega arith) (λ _. omega arith)
+      pick_case (λ (v : Result ℕ Fault). (told v).parameter ≤ 85) (length o =? m) _ _ (λ _. omega arith) (λ _. omega arith)
   few_state (Refused g) t = (S.refused g t).2
 
   -- ---- and the rules
@@ -216,24 +214,24 @@ module _ {L : Language} (S : Spoken L) (o : List ℕ) (q : Octets o) where
       more : (n p : ℕ) → p ≤ n → (n ≡ p → ⊥) → p < n
       more n p h d = omega arith
 
-  done_of : (v : Verdict) → ((n : ℕ) → (v ≡ Accepted n) ↔ ((length o ≡ n) × L.Accepts o)) →
-      ((f : Fault) → v ≡ Declined f → T (verdict_number L f.number)) → ((told v).number ≡ 0) ↔ L.Accepts o
+  done_of : (v : Result ℕ Fault) → ((n : ℕ) → (v ≡ Ok n) ↔ ((length o ≡ n) × L.Accepts o)) →
+      ((f : Fault) → v ≡ Err f → T (verdict_number L f.number)) → ((told v).number ≡ 0) ↔ L.Accepts o
   unfolding told
-  done_of (Accepted n) a d = (λ _. ((a n).0 refl).1, λ _. refl)
-  done_of (Declined f) a d = (
+  done_of (Ok n) a d = (λ _. ((a n).0 refl).1, λ _. refl)
+  done_of (Err f) a d = (
     λ e. absurd (omega (arith, (told_small S _ (d f refl)).0)),
     λ x. clash (cc ((a (length o)).1 (refl, x))),
   )
 
-  clear_of : (v : Verdict) → ((f : Fault) → v ≡ Declined f → T (verdict_number L f.number)) → Clear v
-  clear_of (Accepted n) d = tt
-  clear_of (Declined f) d = (told_small S _ (d f refl)).0
+  clear_of : (v : Result ℕ Fault) → ((f : Fault) → v ≡ Err f → T (verdict_number L f.number)) → Clear v
+  clear_of (Ok n) d = tt
+  clear_of (Err f) d = (told_small S _ (d f refl)).0
 
-  number_of_lem : (v : Verdict) → ((f : Fault) → v ≡ Declined f → T (verdict_number L f.number)) →
+  number_of_lem : (v : Result ℕ Fault) → ((f : Fault) → v ≡ Err f → T (verdict_number L f.number)) →
       1 ≤ (told v).number → T (verdict_number L (told v).number)
   unfolding told
-  number_of_lem (Accepted n) d l = absurd (omega arith)
-  number_of_lem (Declined f) d l = d f refl
+  number_of_lem (Ok n) d l = absurd (omega arith)
+  number_of_lem (Err f) d l = d f refl
 
   pub judges : Judges L o (judged o (answer L.machine o))
   judges = record {
@@ -258,19 +256,19 @@ module _ {L : Language} (S : Spoken L) (o : List ℕ) (q : Octets o) where
       clear : Clear (judged o w)
       clear = clear_of (judged o w) (λ f e. numbers_state w f ranged e)
 
-      accepted_is : (n : ℕ) → (judged o w ≡ Accepted n) ↔ ((length o ≡ n) × L.Accepts o)
+      accepted_is : (n : ℕ) → (judged o w ≡ Ok n) ↔ ((length o ≡ n) × L.Accepts o)
       accepted_is n = Iff.trans (accepted_state w n) (whole_of n)
 
 -- the place of a refusal, by the fault that it names
-pub near_declined : {L : Language} {o : List ℕ} {v : Verdict} → Judges L o v → (f : Fault) →
-    v ≡ Declined f → f.place ≤ 258
+pub near_declined : {L : Language} {o : List ℕ} {v : Result ℕ Fault} → Judges L o v → (f : Fault) →
+    v ≡ Err f → f.place ≤ 258
 unfolding told
-near_declined j f e = subst (λ (x : Verdict). (told x).place ≤ 258) e j.near
+near_declined j f e = subst (λ (x : Result ℕ Fault). (told x).place ≤ 258) e j.near
 
-pub few_declined : {L : Language} {o : List ℕ} {v : Verdict} → Judges L o v → (f : Fault) →
-    v ≡ Declined f → f.parameter ≤ 85
+pub few_declined : {L : Language} {o : List ℕ} {v : Result ℕ Fault} → Judges L o v → (f : Fault) →
+    v ≡ Err f → f.parameter ≤ 85
 unfolding told
-few_declined j f e = subst (λ (x : Verdict). (told x).parameter ≤ 85) e j.few
+few_declined j f e = subst (λ (x : Result ℕ Fault). (told x).parameter ≤ 85) e j.few
 
 -- call messages and notices by any sound rules
 pub judges_calls : (R : Rules) → SoundRules R → (o : List ℕ) → Octets o → Judges (calls R) o (verdict_of R o)

@@ -1,6 +1,6 @@
 -- The root of the proofs.
 pub mod Searching
-pub mod Parameters
+pub mod Standing
 pub mod Places
 pub mod Told
 pub mod Judges
@@ -9,3 +9,4 @@ pub mod Promised
 pub mod One
 pub mod Opening
 pub mod Ways
+pub mod Walking

@@ -1,6 +1,6 @@
 -- The opening of a message, its type and L, and the verdict from where the parameters behind them came to.
 -- Assumes nothing.
-use Rattle.std.proofs.Common.{◌≡◌, ℕ, ◌+◌, ◌-◌, ◌%◌, ◌<◌, ◌≤◌, true, false, List, [], ◌∷◌, length, get_or, take, drop, sym, refl, ap, ◌∙◌, subst, ap₂, zero-add, arith, length-drop, take_all}
+use Rattle.std.proofs.Common.{◌≡◌, ℕ, ◌+◌, ◌-◌, ◌%◌, ◌<◌, ◌≤◌, true, false, List, [], ◌∷◌, length, get_or, take, drop, sym, refl, ap, ◌∙◌, subst, ap₂, zero-add, arith, length-drop, take_all, Ok, Err}
 use Rattle.rules.specs.Tests.{◌=?◌, pick}
 use Rattle.rules.proofs.Tests.{eq_of, pick_not}
 use Rattle.rules.proofs.Returns.{yes_le, no_le}
@@ -20,7 +20,6 @@ use Rattle.rules.specs.declared.State.{State}
 use Rattle.rules.specs.declared.State.TheVariants.{Waiting, Message, Refused}
 use Rattle.turns.specs.declared.Stop.{Stop}
 use Rattle.turns.specs.Turns.{Turned, from}
-use Rattle.message.specs.declared.Verdict.TheVariants.{Accepted, Declined}
 use Rattle.message.specs.Verdict.{judged, verdict_at, verdict_of}
 
 commuted : (n : ℕ) → n + 2 ≡ 2 + n
@@ -34,7 +33,7 @@ module _ (R : Rules) (o b : List ℕ) (room sum : ℕ) where
   abbrev on : State
   on = from R b 0 room sum 0 2 0
 
-  waiting : (w : State) → Waits w → Declined (noted 8 (length o)) ≡ judged o w
+  waiting : (w : State) → Waits w → Err (noted 8 (length o)) ≡ judged o w
   unfolding judged
   waiting (Waiting s q) t = refl
   waiting (Message n) t = absurd t
@@ -44,20 +43,20 @@ module _ (R : Rules) (o b : List ℕ) (room sum : ℕ) where
       verdict_at o s.number (s.place + 2) s.parameter ≡ judged o on
   unfolding verdict_at judged pick ◌=?◌
   came_to s (Turned.whole n f) =
-      ap (λ (k : ℕ). pick (length o =? k) (Accepted k) (Declined (noted 7 k))) (commuted n)
+      ap (λ (k : ℕ). pick (length o =? k) (Ok k) (Err (noted 7 k))) (commuted n)
       ∙ sym (ap (judged o) (f 2 0))
   came_to s (Turned.early n r v c a w) = waiting on (w 2 0)
-  came_to s (Turned.unsealed n f) = ap (λ (p : ℕ). Declined (noted 6 p)) (commuted n) ∙ sym (ap (judged o) (f 2 0))
+  came_to s (Turned.unsealed n f) = ap (λ (p : ℕ). Err (noted 6 p)) (commuted n) ∙ sym (ap (judged o) (f 2 0))
   came_to s (Turned.spoilt k n c x y z f) =
       pick_not (k =? 0) _ _ (λ t. x (eq_of _ _ t)) ∙ pick_not (k =? 8) _ _ (λ t. z (eq_of _ _ t))
-      ∙ ap₂ (λ (p b : ℕ). Declined (noted_in k p b)) (commuted n) (sym (zero-add c)) ∙ sym (ap (judged o) (f 2 0))
+      ∙ ap₂ (λ (p b : ℕ). Err (noted_in k p b)) (commuted n) (sym (zero-add c)) ∙ sym (ap (judged o) (f 2 0))
 
 module _ (R : Rules) where
   abbrev M : Machine
   M = machine R
 
   -- no octet
-  pub none_yet : (o : List ℕ) → length o ≡ 0 → Declined (noted 8 0) ≡ verdict_of R o
+  pub none_yet : (o : List ℕ) → length o ≡ 0 → Err (noted 8 0) ≡ verdict_of R o
   unfolding verdict_of judged run machine
   none_yet [] h = refl
   none_yet (x ∷ o) h = absurd (omega arith)
@@ -72,7 +71,7 @@ module _ (R : Rules) where
         (record { sum = x; place = 1; parameter = 0 }) refl k refl
         (λ i. record { sum = one_octet x h i; place = 1; parameter = 0 })))
 
-    kind_refused : message_kind x ≡ false → Declined (noted 1 0) ≡ verdict_of R (x ∷ o)
+    kind_refused : message_kind x ≡ false → Err (noted 1 0) ≡ verdict_of R (x ∷ o)
     unfolding verdict_of judged run machine final fits fault stands_in
     kind_refused k =
         sym (ap (judged (x ∷ o)) (ap (λ (w : State). run M w o)
@@ -80,13 +79,13 @@ module _ (R : Rules) where
 
   -- L
   module _ (x : ℕ) (k : message_kind x ≡ true) (h : x < 256) where
-    kind_only : (o : List ℕ) → length o ≡ 0 → Declined (noted 8 1) ≡ verdict_of R (x ∷ o)
+    kind_only : (o : List ℕ) → length o ≡ 0 → Err (noted 8 1) ≡ verdict_of R (x ∷ o)
     unfolding verdict_of judged run
     kind_only [] e = sym (ap (judged (x ∷ [])) (kind_on x [] k h))
     kind_only (y ∷ o) e = absurd (omega arith)
 
     module _ (y : ℕ) (b : List ℕ) where
-      size_refused : y < 3 → Declined (noted 2 1) ≡ verdict_of R (x ∷ y ∷ b)
+      size_refused : y < 3 → Err (noted 2 1) ≡ verdict_of R (x ∷ y ∷ b)
       unfolding verdict_of judged run machine final fits fault stands_in
       size_refused l =
           sym (ap (judged (x ∷ y ∷ b)) (kind_on x (y ∷ b) k h ∙ ap (λ (w : State). run M w b)
@@ -121,17 +120,17 @@ module _ (R : Rules) where
 
   -- ---- the same of octets that the code looks up
   pub kind_spoils : (o : List ℕ) → 1 ≤ length o → message_kind (get_or o 0 0) ≡ false →
-      Declined (noted 1 0) ≡ verdict_of R o
+      Err (noted 1 0) ≡ verdict_of R o
   kind_spoils [] h k = absurd (omega arith)
   kind_spoils (x ∷ o) h k = kind_refused x o k
 
   pub kind_alone : (o : List ℕ) → 1 ≤ length o → length o ≤ 1 → message_kind (get_or o 0 0) ≡ true → get_or o 0 0 < 256 →
-      Declined (noted 8 1) ≡ verdict_of R o
+      Err (noted 8 1) ≡ verdict_of R o
   kind_alone [] h l k b = absurd (omega arith)
   kind_alone (x ∷ o) h l k b = kind_only x k b o (omega arith)
 
   pub size_spoils : (o : List ℕ) → 1 < length o → message_kind (get_or o 0 0) ≡ true → get_or o 0 0 < 256 →
-      get_or o 1 0 < 3 → Declined (noted 2 1) ≡ verdict_of R o
+      get_or o 1 0 < 3 → Err (noted 2 1) ≡ verdict_of R o
   size_spoils [] h k b l = absurd (omega arith)
   size_spoils (x ∷ []) h k b l = absurd (omega arith)
   size_spoils (x ∷ y ∷ o) h k b l = size_refused x k b y o l

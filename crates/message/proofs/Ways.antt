@@ -1,13 +1,12 @@
 -- Octets that the strict way accepts, by the lenient way of the same edition: the same verdict; and of all octets the
 -- same parts count (document 02, Q-11).
 -- Assumes nothing.
-use Rattle.std.proofs.Common.{◌≡◌, ℕ, T, List, length, sym, refl, ◌∙◌}
+use Rattle.std.proofs.Common.{◌≡◌, ℕ, T, List, length, sym, refl, ◌∙◌, None}
 use Rattle.rules.specs.Tests.{pick}
 use Rattle.rules.specs.Message.{Accepts}
 use Rattle.rules.specs.Editions.{strict, lenient, edition, book_of}
 use Rattle.rules.proofs.Unique.{unique_in}
 use Rattle.rules.proofs.Ways.{strict_of, lenient_of, strict_accepts, ways_list, ways_rival}
-use Rattle.message.specs.declared.Part.TheVariants.{Nowhere}
 use Rattle.message.specs.Verdict.{verdict_of}
 use Rattle.message.specs.Parts.{search_from, counted_at}
 use Rattle.message.proofs.Told.{accepted_iff}
@@ -28,4 +27,4 @@ module _ (e : ℕ) (k : T (edition e)) (o : List ℕ) where
   same_part t =
       let x = ways_list e k t in
       let y = ways_rival e k t in
-      λ i. pick (x i) (search_from (length o) t (y i) o 2) Nowhere
+      λ i. pick (x i) (search_from (length o) t (y i) o 2) None

@@ -1,13 +1,13 @@
 -- What a verdict says of the octets, over the written rules alone (document 01, Numbers: 1 to 6, then 8, then 7;
 -- document 02, Q-11: 10).
 -- Assumes nothing.
-use Rattle.std.specs.Prelude.{◌≡◌, ℕ, ◌<◌, ◌≤◌, Bool, T, ◌↔◌, List, length, take}
+use Rattle.std.specs.Prelude.{◌≡◌, ℕ, ◌<◌, ◌≤◌, Bool, T, ◌↔◌, List, length, take, Result}
 use Rattle.rules.specs.Tests.{◌or◌}
 use Rattle.rules.specs.Contents.{within}
 use Rattle.rules.specs.Endings.{Ending, Spoilt, Numbered}
 use Rattle.rules.specs.Message.{most}
 use Rattle.rules.specs.Language.{Language}
-use Rattle.message.specs.declared.Verdict.{Verdict}
+use Rattle.rules.specs.declared.Fault.{Fault}
 use Rattle.message.specs.Told.{told, success, refusal, Clear}
 
 -- the numbers of a verdict: those of the language, and 7 and 8
@@ -15,7 +15,7 @@ unfoldable pub verdict_number : Language → ℕ → Bool
 verdict_number L k = L.given k or within (7, 8) k
 
 -- v is the verdict on the octets o
-pub record Judges (L : Language) (o : List ℕ) (v : Verdict) : Type 0 where
+pub record Judges (L : Language) (o : List ℕ) (v : Result ℕ Fault) : Type 0 where
   -- number, place, parameter and size tell it
   pub clear : Clear v
   -- number 0 exactly when they are a message

@@ -5,3 +5,4 @@ pub mod Parts
 pub mod Judges
 pub mod Parameters
 pub mod Places
+pub mod Walk

@@ -1,16 +1,15 @@
 -- The parameters that octets hold, from the first on, and the message that they make.
 -- Assumes nothing.
-use Rattle.std.specs.Prelude.{ℕ, zero, suc, ◌+◌, List, [], ◌∷◌, take, drop, slice_index}
+use Rattle.std.specs.Prelude.{ℕ, zero, suc, ◌+◌, List, [], ◌∷◌, take, drop, slice_index, Option, Some, None}
 use Rattle.rules.specs.Message as message
 use Rattle.rules.specs.Message.{most}
 use Rattle.message.specs.declared.Found.{Found}
-use Rattle.message.specs.declared.Found.TheVariants.{Parameter, Nothing}
 use Rattle.message.specs.Parts.{parameter_at}
 
 -- the parameter found, and those behind it
-unfoldable pub found : List ℕ → Found → (ℕ → List message.Parameter) → List message.Parameter
-found o (Parameter k start n) behind = (record { kind = k; contents = take n (drop start o) }) ∷ behind (start + n)
-found o Nothing behind = []
+unfoldable pub found : List ℕ → Option Found → (ℕ → List message.Parameter) → List message.Parameter
+found o (Some one) behind = (record { kind = one.kind; contents = take one.length (drop one.start o) }) ∷ behind (one.start + one.length)
+found o None behind = []
 
 -- the parameters from a place on, as many as there are turns
 unfoldable pub parameters_from : ℕ → List ℕ → ℕ → List message.Parameter

@@ -1,8 +1,7 @@
 -- What a verdict tells (document 01, The forms we expect: a definition provides number and values for each case).
 -- Assumes nothing.
-use Rattle.std.specs.Prelude.{ℕ, ◌≤◌}
-use Rattle.message.specs.declared.Verdict.{Verdict}
-use Rattle.message.specs.declared.Verdict.TheVariants.{Accepted, Declined}
+use Rattle.std.specs.Prelude.{ℕ, ◌≤◌, Result, Ok, Err}
+use Rattle.rules.specs.declared.Fault.{Fault}
 
 -- number, place and parameter of a refusal, the size of a message; 0 where there is none
 pub record Told : Type 0 where
@@ -11,9 +10,9 @@ pub record Told : Type 0 where
   pub parameter : ℕ
   pub size : ℕ
 
-unfoldable pub told : Verdict → Told
-told (Accepted n) = record { number = 0; place = 0; parameter = 0; size = n }
-told (Declined f) = record { number = f.number; place = f.place; parameter = f.parameter; size = 0 }
+unfoldable pub told : Result ℕ Fault → Told
+told (Ok n) = record { number = 0; place = 0; parameter = 0; size = n }
+told (Err f) = record { number = f.number; place = f.place; parameter = f.parameter; size = 0 }
 
 -- a message of n octets
 abbrev pub success : ℕ → Told
@@ -24,6 +23,6 @@ abbrev pub refusal : ℕ → ℕ → ℕ → Told
 refusal k p b = record { number = k; place = p; parameter = b; size = 0 }
 
 -- a refusal has a number: so what is told tells the verdict
-abbrev pub Clear : Verdict → Type 0
-Clear (Accepted n) = Unit {0}
-Clear (Declined f) = 1 ≤ f.number
+abbrev pub Clear : Result ℕ Fault → Type 0
+Clear (Ok n) = Unit {0}
+Clear (Err f) = 1 ≤ f.number

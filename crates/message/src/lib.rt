@@ -10,57 +10,41 @@ ghost use Rattle.message.specs.Verdict.{verdict_at, verdict_of};
 
 use rules::{Book, Fault};
 
-#[derive(Clone, Copy)]
-pub enum Verdict {
-    Accepted { size: u16 },
-    Declined { fault: Fault },
-}
-
 // Where the parameters came to, as a verdict: 8 at the number of octets where these end early, 7 where octets follow
 // the message.
-fn verdict_at(s: &[u8], number: u8, place: u16, parameter: u8) -> Verdict
+fn verdict_at(s: &[u8], number: u8, place: u16, parameter: u8) -> Result<u16, Fault>
     requires { number ≡ 8 → length s.now < 258 }
     ensures { result ≡ verdict_at s.now number place parameter }
 {
     if number == 0 {
         if s.len() == place as usize {
-            Verdict::Accepted { size: place }
+            Ok(place)
         } else {
-            Verdict::Declined {
-                fault: rules::noted(7, place),
-            }
+            Err(rules::noted(7, place))
         }
     } else if number == 8 {
         let end = s.len() as u16;
-        Verdict::Declined {
-            fault: rules::noted(8, end),
-        }
+        Err(rules::noted(8, end))
     } else {
-        Verdict::Declined {
-            fault: Fault {
-                number,
-                place,
-                parameter,
-            },
-        }
+        Err(Fault {
+            number,
+            place,
+            parameter,
+        })
     }
 }
 
 // L, and then the parameters.
-fn sized(book: Book, s: &[u8]) -> Verdict
+fn sized(book: Book, s: &[u8]) -> Result<u16, Fault>
     requires { (1 ≤ length s.now) × (message_kind (slice_index s.now 0) ≡ true) }
     ensures { result ≡ verdict_of (rules_of book) s.now }
 {
     if s.len() <= 1 {
-        return Verdict::Declined {
-            fault: rules::noted(8, 1),
-        };
+        return Err(rules::noted(8, 1));
     }
     let size = s[1];
     if size < 3 {
-        return Verdict::Declined {
-            fault: rules::noted(2, 1),
-        };
+        return Err(rules::noted(2, 1));
     }
     let sum = std::num::wrapping_add_u8(s[0], size);
     let stop = turns::through(book, &s[2..], size, sum);
@@ -69,36 +53,33 @@ fn sized(book: Book, s: &[u8]) -> Verdict
 
 // The verdict on any octets: 1 to 6 and 10 as the listener gives them; 8 where they end early; 7 where octets follow
 // the message.
-pub fn judge(book: Book, s: &[u8]) -> Verdict
+pub fn judge(book: Book, s: &[u8]) -> Result<u16, Fault>
     ensures { result ≡ verdict_of (rules_of book) s.now }
 {
     if s.len() == 0 {
-        return Verdict::Declined {
-            fault: rules::noted(8, 0),
-        };
+        return Err(rules::noted(8, 0));
     }
     if rules::message_kind(s[0]) {
         sized(book, s)
     } else {
-        Verdict::Declined {
-            fault: rules::noted(1, 0),
-        }
+        Err(rules::noted(1, 0))
     }
 }
 
 // What stands at a place of a message: the type of a parameter, where its contents start and how long they are; the
 // next place is behind them.
 #[derive(Clone, Copy)]
-pub enum Found {
-    Parameter { kind: u8, start: usize, length: u8 },
-    Nothing,
+pub struct Found {
+    pub kind: u8,
+    pub start: usize,
+    pub length: u8,
 }
 
 // Where contents stand.
 #[derive(Clone, Copy)]
-pub enum Part {
-    At { start: usize, length: u8 },
-    Nowhere,
+pub struct Part {
+    pub start: usize,
+    pub length: u8,
 }
 
 // The octet at a place, 0 beyond the end.
@@ -109,65 +90,92 @@ pub fn octet(s: &[u8], i: usize) -> u8
 }
 
 // The parameter that begins at a place, of any octets: of a message, the first begins at 2.
-pub fn parameter(s: &[u8], at: usize) -> Found
+pub fn parameter(s: &[u8], at: usize) -> Option<Found>
     ensures { result ≡ parameter_at s.now at }
 {
     let n = s.len();
     if n < 3 {
-        return Found::Nothing;
+        return None;
     }
     if n - 3 < at {
-        return Found::Nothing;
+        return None;
     }
     let length = s[at + 1];
     if n - 3 - at < length as usize {
-        Found::Nothing
+        None
     } else {
-        Found::Parameter {
+        Some(Found {
             kind: s[at],
             start: at + 2,
             length,
+        })
+    }
+}
+
+// The parameters of octets, each behind the one before it, the first at 2; as many as there are turns.
+#[derive(Clone, Copy)]
+pub struct Parameters<'a> {
+    octets: &'a [u8],
+    place: usize,
+    turns: usize,
+}
+
+impl<'a> Parameters<'a> {
+    ghost use Rattle.message.specs.Walk.{founds_from, founds_left};
+
+    pub fn new(octets: &'a [u8], turns: usize) -> Parameters<'a>
+        ensures { founds_left result ≡ founds_from turns octets.now 2 }
+    {
+        Parameters {
+            octets,
+            place: 2,
+            turns,
         }
     }
 }
 
-fn search(s: &[u8], t: u8, rival: u8) -> Part
+impl<'a> Iterator for Parameters<'a> {
+    ghost use Rattle.std.specs.Iterator.{YieldsFirst, item_count};
+    ghost use Rattle.message.specs.Walk.{founds_left};
+
+    type Item = Found;
+
+    ghost next_gives = { YieldsFirst founds_left };
+
+    ghost remaining = { item_count founds_left };
+
+    fn next(&mut self) -> Option<Found> {
+        if self.turns == 0 {
+            return None;
+        }
+        let found = parameter(self.octets, self.place)?;
+        self.place = found.start + found.length as usize;
+        self.turns -= 1;
+        Some(found)
+    }
+}
+
+fn search(s: &[u8], t: u8, rival: u8) -> Option<Part>
     ensures { result ≡ search_from (length s.now) t rival s.now 2 }
 {
-    let mut at: usize = 2;
-    let mut turns = s.len();
-    while 0 < turns {
-        let found = parameter(s, at);
-        match found {
-            Found::Parameter {
-                kind,
-                start,
-                length,
-            } => {
-                if kind == t {
-                    return Part::At { start, length };
-                }
-                if kind == rival {
-                    return Part::Nowhere;
-                }
-                at = start + length as usize;
-                turns -= 1;
-            }
-            Found::Nothing => {
-                return Part::Nowhere;
-            }
-        }
+    let found = Parameters::new(s, s.len()).find(|found| found.kind == t || found.kind == rival)?;
+    if found.kind == t {
+        Some(Part {
+            start: found.start,
+            length: found.length,
+        })
+    } else {
+        None
     }
-    Part::Nowhere
 }
 
 // Where the contents of a type that count stand, in an accepted message.
-pub fn counted(book: Book, s: &[u8], t: u8) -> Part
+pub fn counted(book: Book, s: &[u8], t: u8) -> Option<Part>
     ensures { result ≡ counted_at (rules_of book) s.now t }
 {
     if rules::is_listed(book, t) {
         search(s, t, rules::rival_of(book, t))
     } else {
-        Part::Nowhere
+        None
     }
 }

@@ -11,7 +11,6 @@ ghost use Rattle.walker.specs.Moves.{begun, seen, advanced};
 
 use caption::Shown;
 use draft::{Draft, Entry, Flat, Value};
-use reader::Packed;
 use rules::{Fault, MOST};
 use std::io;
 use std::io::{Read, Write};
@@ -320,14 +319,14 @@ fn say_read(out: &mut impl Write, edition: u8, way: u8, message: &[u8]) -> io::R
     let answer = reading.answer;
     let draft = reading.draft;
     match answer {
-        Packed::Texts { octets } => {
+        Ok(octets) => {
             say_draft(out, b"read ", draft, octets)?;
             say_both(out, named, draft)?;
             say_entries(out, draft, &area)?;
             say_write(out, way, message, draft, &area)?;
             say_elsewhere(out, edition, way, message)
         }
-        Packed::Refused { fault } => {
+        Err(fault) => {
             say_fault(out, b"read ", fault)?;
             say_both(out, named, draft)
         }
@@ -342,22 +341,22 @@ fn say_default(out: &mut impl Write, edition: u8, message: &[u8]) -> io::Result<
     let answer = reading.answer;
     let draft = reading.draft;
     match answer {
-        Packed::Texts { octets } => {
+        Ok(octets) => {
             say_draft(out, b"default ", draft, octets)?;
             say_both(out, named, draft)?;
             say_entries(out, draft, &area)
         }
-        Packed::Refused { fault } => {
+        Err(fault) => {
             say_fault(out, b"default ", fault)?;
             say_both(out, named, draft)
         }
     }
 }
 
-fn say_texts(out: &mut impl Write, answer: Packed) -> io::Result<()> {
+fn say_texts(out: &mut impl Write, answer: Result<u16, rules::Fault>) -> io::Result<()> {
     match answer {
-        Packed::Texts { octets } => say_number(out, b": texts ", octets as u64),
-        Packed::Refused { fault } => say_fault(out, b": ", fault),
+        Ok(octets) => say_number(out, b": texts ", octets as u64),
+        Err(fault) => say_fault(out, b": ", fault),
     }
 }
 

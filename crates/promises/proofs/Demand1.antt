@@ -10,6 +10,7 @@ use mathlib.Core.Bool.{Bool}
 use mathlib.Core.Logic.{◌⊎◌, inl, inr, ◌↔◌}
 use mathlib.Core.List.{List}
 use mathlib.Core.Option.{Option, none, some}
+use Rattle.std.proofs.Common.{Result, Ok, Err}
 use native.Mathlib.Omega.{arith}
 use lib.ListN.{length, get_or}
 use lib.Dec.{T}
@@ -41,18 +42,12 @@ use Rattle.listener.specs.Answers.{InRange}
 use Rattle.listener.specs.Answers as answers
 use Rattle.listener.proofs.Hears.{B, Ranged, ranged, ways, in_range_number}
 use Rattle.listener.proofs.Promised as listener
-use Rattle.message.specs.declared.Verdict.{Verdict}
-use Rattle.message.specs.declared.Verdict.TheVariants.{Accepted, Declined as Judged}
 use Rattle.message.specs.Judges.{verdict_number}
 use Rattle.message.proofs.Judges.{verdict_number_lem, verdict_lenient, told_small}
 use Rattle.message.proofs.One.{placed, names}
 use Rattle.message.proofs.Promised as message
 use Rattle.draft.specs.declared.Draft.{Draft}
 use Rattle.draft.specs.Draft.{empty_of}
-use Rattle.reader.specs.declared.Packed.{Packed}
-use Rattle.reader.specs.declared.Packed.TheVariants as packed
-use Rattle.reader.specs.declared.Fitting.{Fitting}
-use Rattle.reader.specs.declared.Fitting.TheVariants as fitting
 use Rattle.reader.specs.declared.Reading.{Reading}
 use Rattle.reader.specs.Told.{told}
 use Rattle.reader.specs.Reads.{read_number, Reads}
@@ -158,7 +153,7 @@ pub record Unread (b : Book) (o old : List ℕ) (f : Fault) (area : List ℕ) : 
   pub stays : area ≡ old
 
 read_so : (b : Book) (o old : List ℕ) (r : Reading) (area : List ℕ) → Reads (rules_of b) o old r area → Octets o →
-    (f : Fault) → r.answer ≡ packed.Refused f → Unread b o old f area
+    (f : Fault) → r.answer ≡ Err f → Unread b o old f area
 unfolding read_number
 read_so b o old r area x q f e =
     let y = refused_so x f e in
@@ -170,8 +165,8 @@ read_so b o old r area x q f e =
       stays = y.0;
     }
   where
-    at : (k : ℕ) → f.number ≡ k → 7 ≤ k → k ≤ 9 → packed.Refused f ≡ packed.Refused (noted k f.place)
-    at k z a b = ap packed.Refused (noted_at x f e k z a b)
+    at : (k : ℕ) → f.number ≡ k → 7 ≤ k → k ≤ 9 → ◌≡◌ {A = Result ℕ Fault} (Err f) (Err (noted k f.place))
+    at k z a b = ap Err (noted_at x f e k z a b)
 
     by_number : T ((language_of b).given f.number) ⊎ ((f.number ≡ 7) ⊎ (f.number ≡ 8)) → f.place ≤ length o
     by_number (inl t) = omega (arith, ((spoilt_iff x f (some_number x f e) t).0 e).0.place)
@@ -198,12 +193,12 @@ read_so b o old r area x q f e =
 
 -- by known numbers by their book, the draft empty and of the edition told; by unknown ones 16, and no edition
 pub read_refuses : (e w : ℕ) (o old : List ℕ) (r : Reading) (area : List ℕ) → reader.ReadGives e w o old r area →
-    Octets o → (f : Fault) → r.answer ≡ packed.Refused f →
+    Octets o → (f : Fault) → r.answer ≡ Err f →
     (T (known e w) × Unread (book_of e w) o old f area × (r.draft ≡ empty_of e 0))
     ⊎ (Unknown e w f × (area ≡ old) × (r.draft ≡ empty_of 0 0))
 read_refuses e w o old r area h q f z = go (decide (known e w))
   where
-    fault_of : (x y : Fault) → packed.Refused x ≡ packed.Refused y → x ≡ y
+    fault_of : (x y : Fault) → ◌≡◌ {A = Result ℕ Fault} (Err x) (Err y) → x ≡ y
     fault_of x y k = cc
 
     go : T (known e w) ⊎ (T (known e w) → ⊥) →
@@ -224,15 +219,15 @@ read_refuses e w o old r area h q f z = go (decide (known e w))
           ap (λ (y : Reading). y.draft) x.0,
         )
 
-pub pack_refuses : (b : Book) (o old : List ℕ) (w : Packed) (area : List ℕ) → reader.PackGives b o old w area →
-    Octets o → (f : Fault) → w ≡ packed.Refused f → Unread b o old f area
+pub pack_refuses : (b : Book) (o old : List ℕ) (w : Result ℕ Fault) (area : List ℕ) → reader.PackGives b o old w area →
+    Octets o → (f : Fault) → w ≡ Err f → Unread b o old f area
 pack_refuses b o old w area h q f e =
     let x = reader.packs b o old w area h q in
     read_so b o old x.0 area x.2 q f (x.1 ∙ e)
 
 -- whether a read goes through: the same refusals, and no area is lent
-pub fits_refuses : (b : Book) (o old : List ℕ) (w : Fitting) → reader.FitsGives b o (length old) w → Octets o →
-    (f : Fault) → w ≡ fitting.Refused f → Unread b o old f old
+pub fits_refuses : (b : Book) (o old : List ℕ) (w : Result (Unit {0}) Fault) → reader.FitsGives b o (length old) w → Octets o →
+    (f : Fault) → w ≡ Err f → Unread b o old f old
 fits_refuses b o old w h q f e =
     let x = reader.fits_so b o old w h q in
     let y = read_so b o old x.0 x.2.0 x.2.1 q f (sym (refused_fitting x.0.answer f (sym (x.1 ∙ e)))) in
@@ -343,8 +338,8 @@ settle_refuses e w d o r h q f z = (go (decide (known e w)), x.refusal_stays (om
     go (inr n) = by_none n (numbers (x.unknown n))
 
 -- the verdict, the caption and the walker; nothing is lent for writing but the caption's code, which stays
-pub judge_refuses : (b : Book) (o : List ℕ) (v : Verdict) → message.JudgeGives b o v → Octets o → (f : Fault) →
-    v ≡ Judged f → VerdictLike b o f
+pub judge_refuses : (b : Book) (o : List ℕ) (v : Result ℕ Fault) → message.JudgeGives b o v → Octets o → (f : Fault) →
+    v ≡ Err f → VerdictLike b o f
 judge_refuses b o v h q f e =
     let x = message.verdicts b o v h q in
     (judging.number_of_lem x f e, placed (language_of b) o v x f e, names b o q v x f e)
@@ -574,15 +569,15 @@ anthercup_read_refuses v y o c t w c' t' h q = (
   λ n. firmware.read_seventeen v y o c t w c' t' h n,
 )
   where
-    so : (x : RecordReads v y o c t w c' t') (a : Packed) → x.reading.answer ≡ a →
+    so : (x : RecordReads v y o c t w c' t') (a : Result ℕ Fault) → x.reading.answer ≡ a →
         ZeroOr (read_number (rules_of (book_of v y))) (word_number w) × (1 ≤ word_number w → (c' ≡ c) × (t' ≡ t))
-    so x (packed.Texts n) e =
-        let z = x.word.number ∙ ap (λ (a : Packed). (told a).number) e in
+    so x (Ok n) e =
+        let z = x.word.number ∙ ap (λ (a : Result ℕ Fault). (told a).number) e in
         (inl z, λ k. absurd (omega (arith, z)))
-    so x (packed.Refused f) e =
-        let z = x.word.number ∙ ap (λ (a : Packed). (told a).number) e in
+    so x (Err f) e =
+        let z = x.word.number ∙ ap (λ (a : Result ℕ Fault). (told a).number) e in
         let k = refused_so x.reads f e in
-        let m = ap (λ (a : Packed). (told a).number) e in
+        let m = ap (λ (a : Result ℕ Fault). (told a).number) e in
         let l = some_number x.reads f e in (
           inr (subst (λ (n : ℕ). T (read_number (rules_of (book_of v y)) n)) (sym z) k.2),
           λ _. (x.refused (omega (arith, m, l)), k.0),
@@ -622,10 +617,10 @@ anthercup_counted_refuses e y o t w h q = (λ i. by_known i, λ n. firmware.coun
         of_message d (some v) z =
             (x.counts d.0 d.1 d.2 v ((counted_iff (rules_of (book_of e y)) d.0 t v).0 z)).number
 
-        go : (v : Verdict) → x.verdict ≡ v → ZeroOr (verdict_number (language_of (book_of e y))) (word_number w)
-        go (Accepted n) z = inl (of_message ((judging.accepted_iff x.judged n).0 z).1 _ refl)
-        go (Judged f) u =
-            let z = ap (λ (v : Verdict). (verdict.told v).number) u in
+        go : (v : Result ℕ Fault) → x.verdict ≡ v → ZeroOr (verdict_number (language_of (book_of e y))) (word_number w)
+        go (Ok n) z = inl (of_message ((judging.accepted_iff x.judged n).0 z).1 _ refl)
+        go (Err f) u =
+            let z = ap (λ (v : Result ℕ Fault). (verdict.told v).number) u in
             let l = judging.some_number x.judged f u in
             inr (subst (λ (n : ℕ). T (verdict_number (language_of (book_of e y)) n))
             (sym ((x.refused (omega (arith, z, l))).number ∙ z)) (judging.number_of_lem x.judged f u))

@@ -2,6 +2,7 @@
 -- `read`, `write` and `settle` and of the exports, by every edition and way, whatever outcomes they allow. So do
 -- listings and listings that come back, over the promises of `listing` and `message_of` (document 02, Q-1).
 -- Assumes nothing.
+use Rattle.std.proofs.Common.{Option, Ok}
 use Prim.Native.Nat.{ℕ, ◌≤◌, ◌<◌}
 use mathlib.Core.Path.{◌≡◌, refl, sym, ◌∙◌, ap, subst}
 use mathlib.Core.List.{List, ◌++◌}
@@ -28,7 +29,6 @@ use Rattle.draft.specs.declared.Draft.{Draft}
 use Rattle.draft.specs.Draft.{message_of, Equal}
 use Rattle.rules.specs.Laying.{laid}
 use Rattle.draft.specs.Packing.{draft_of}
-use Rattle.reader.specs.declared.Packed.TheVariants as packed
 use Rattle.reader.specs.declared.Reading.{Reading}
 use Rattle.reader.specs.Reads.{texts, ReadsBy}
 use Rattle.reader.proofs.Promised as reader
@@ -67,7 +67,7 @@ pub writing_follows : (w : ℕ) (d : Draft) (t old : List ℕ) (r : Writing) (ou
 writing_follows w d t old r out h = writer.writing_by w d t old r out h
 
 -- what counts: of a message's octets, the part of the contents of a type that count, and none exactly where none count
-pub counting_follows : (b : Book) (o : List ℕ) (t : ℕ) (p : Part) → messages.CountedGives b o t p →
+pub counting_follows : (b : Book) (o : List ℕ) (t : ℕ) (p : Option Part) → messages.CountedGives b o t p →
     (m : Message) → octets m ≡ o → CountsAt (rules_of b) m t p
 counting_follows b o t p h m e = messages.counts b o t p h m e
 
@@ -212,7 +212,7 @@ pub written_read : (w : ℕ) (d : Draft) (t old : List ℕ) (x : Writing) (n : �
     (before : List ℕ) (r : Reading) (area : List ℕ) →
     reader.ReadGives d.edition w (take n out) before r area →
     length (texts (rules_of (book_of d.edition w)) (message_of d t)) ≤ length before →
-    (r.answer ≡ packed.Texts (length (texts (rules_of (book_of d.edition w)) (message_of d t))))
+    (r.answer ≡ Ok (length (texts (rules_of (book_of d.edition w)) (message_of d t))))
     × Equal d t r.draft area
 unfolding tells.told
 written_read w d t old x n out i h z before r area k p =

@@ -2,6 +2,7 @@
 -- `reset_way`, `reset` and `listen` and of the exports, call after call, whatever outcomes they allow; and a whole read
 -- of the same octets says the same.
 -- Assumes nothing.
+use Rattle.std.proofs.Common.{Result}
 use Prim.Native.Nat.{ℕ, ◌+◌, ◌≤◌}
 use mathlib.Core.Path.{◌≡◌, refl}
 use mathlib.Core.Logic.Iff
@@ -23,13 +24,13 @@ use Rattle.listener.specs.declared.Heard.{Heard}
 use Rattle.listener.specs.declared.Answer.{Answer}
 use Rattle.listener.specs.Told as heard
 use Rattle.listener.proofs.Promised as listener
-use Rattle.reader.specs.declared.Packed.{Packed}
 use Rattle.reader.specs.Told as read
 use Rattle.reader.specs.declared.Reading.{Reading}
 use Rattle.reader.proofs.Promised as reader
 use Rattle.firmware.specs.Word.{packed as word_of, word_number, word_place, word_parameter, word_size}
 use Rattle.firmware.specs.RecordHears.{RecordHears, SameEnd}
 use Rattle.firmware.proofs.Promised as firmware
+use Rattle.rules.specs.declared.Fault.{Fault}
 
 -- by a known edition and way
 module _ (e w : ℕ) (t : T (known e w)) (l : Listener) (h : List ℕ) (d : listener.HasHeard e w l h) (o : List ℕ)
@@ -94,7 +95,7 @@ anthercup_cut_anywhere c x y w w₁ w₂ d d₁ d₂ h h₁ h₂ q a b = firmwar
 
 -- ---- a listener heard h since its reset, and then a run: what it says is what a whole read of all these octets by
 -- the edition and the way of the reset says
-pub record AsListened (b : Book) (o : List ℕ) (w : Answer) (x : Packed) : Type 0 where
+pub record AsListened (b : Book) (o : List ℕ) (w : Answer) (x : Result ℕ Fault) : Type 0 where
   -- number, place, parameter and size tell both
   pub clear : read.Clear x × heard.Clear w
   pub refuses : (k p n : ℕ) → T ((language_of b).given k) →

@@ -2,6 +2,7 @@
 -- but 17 names the edition, that edition and way are kept, and that drafts of two editions are never equal. Over the
 -- promises, whatever outcomes they allow, for any numbers at all.
 -- Assumes nothing.
+use Rattle.std.proofs.Common.{ℕ, Result, Ok, Err}
 use Prim.Native.Nat.{ℕ, zero, suc, ◌≤◌, ◌<◌}
 use mathlib.Core.Path.{◌≡◌, refl, sym, ◌∙◌, ap, subst}
 use mathlib.Core.Bool.{Bool}
@@ -24,9 +25,8 @@ use Rattle.rules.specs.declared.Book.{Book}
 use Rattle.rules.specs.declared.Book.TheVariants.{PresentStrict, PresentLenient, OldStrict, OldLenient}
 use Rattle.rules.specs.Counting.{counted}
 use Rattle.rules.proofs.Counting.{counted_iff}
-use Rattle.message.specs.declared.Verdict.{Verdict}
-use Rattle.message.specs.declared.Verdict.TheVariants.{Accepted, Declined as Judged}
 use Rattle.rules.specs.Language.{language_of}
+use Rattle.rules.specs.declared.Fault.{Fault}
 use Rattle.message.specs.Judges.{verdict_number}
 use Rattle.message.specs.Told as verdict
 use Rattle.message.proofs.Told.{accepted_iff, some_number}
@@ -400,10 +400,10 @@ anthercup_counted_names e y o t w h q = go (decide (known e y))
     of_message x d (some v) z =
         (x.counts d.0 d.1 d.2 v ((counted_iff (rules_of (book_of e y)) d.0 t v).0 z)).edition
 
-    named : (x : RecordCounts e y o t w) (v : Verdict) → x.verdict ≡ v → word_edition w ≡ e
-    named x (Accepted n) z = of_message x ((accepted_iff x.judged n).0 z).1 _ refl
-    named x (Judged f) u =
-        let z = ap (λ (v : Verdict). (verdict.told v).number) u in
+    named : (x : RecordCounts e y o t w) (v : Result ℕ Fault) → x.verdict ≡ v → word_edition w ≡ e
+    named x (Ok n) z = of_message x ((accepted_iff x.judged n).0 z).1 _ refl
+    named x (Err f) u =
+        let z = ap (λ (v : Result ℕ Fault). (verdict.told v).number) u in
         (x.refused (omega (arith, z, some_number x.judged f u))).edition
 
     go : T (known e y) ⊎ (T (known e y) → ⊥) → Naming (word_number w) (word_edition w) e

@@ -2,10 +2,11 @@
 -- Q-11, one list under one claim over the promises of `reset_way` and `reset`, `listen`, `read_way` and `read`,
 -- `write`, `settle` and `counted`, whatever outcomes they allow.
 -- Assumes nothing.
+use Rattle.std.proofs.Common.{Err, Option}
 use Prim.Native.Nat.{ℕ}
 use mathlib.Core.Path.{◌≡◌, refl, ◌∙◌, ap}
 use mathlib.Core.List.{List, [], ◌∷◌, ◌++◌}
-use mathlib.Core.Option.{Option, none, some}
+use mathlib.Core.Option.{Option as Maybe, none, some}
 use lib.ListN.{length, replicate}
 use lib.Dec.{T}
 use Rattle.rules.specs.Tests.{◌≤?◌, ◌=?◌, ◌and◌, ◌or◌, pick}
@@ -28,12 +29,10 @@ use Rattle.listener.specs.declared.Listener.{Listener}
 use Rattle.listener.specs.declared.Heard.{Heard}
 use Rattle.listener.proofs.Promised as listener
 use Rattle.listener.specs.Heard.{new_listener, heard_in, heard_of, answer_of, taken, stopped}
-use Rattle.message.specs.declared.Verdict.TheVariants.{Declined}
 use Rattle.message.specs.declared.Part.{Part}
 use Rattle.message.specs.Verdict.{judged, verdict_of}
 use Rattle.message.proofs.Promised as message
 use Rattle.message.specs.Parts.{parameter_at, matched, search_from, counted_at, part_of}
-use Rattle.reader.specs.declared.Packed.TheVariants as packed
 use Rattle.reader.specs.declared.Reading.{Reading}
 use Rattle.reader.proofs.Promised as reader
 use Rattle.reader.specs.Read.{pack_from, pack_of, read_of}
@@ -65,7 +64,7 @@ pub data Outcomes : Type 0 where
   -- both refuse so
   refused : ℕ → ℕ → ℕ → Outcomes
   -- the contents of a type that count in them
-  counts : ℕ → Option (List ℕ) → Outcomes
+  counts : ℕ → Maybe (List ℕ) → Outcomes
   -- settled on a new desk, they are done and leave this desk
   settles : Desk → Outcomes
   -- a draft without texts says them, and written into an output as long as they are it is answered so
@@ -91,13 +90,13 @@ HeardAs v y o w =
 abbrev ReadAs : ℕ → ℕ → List ℕ → ℕ → ℕ → ℕ → Type 0
 ReadAs v y o k p b =
     (old : List ℕ) (r : Reading) (area : List ℕ) → reader.ReadGives v y o old r area →
-    r.answer ≡ packed.Refused (noted_in k p b)
+    r.answer ≡ Err (noted_in k p b)
 
 abbrev pub Holds : ℕ → ℕ → List ℕ → Outcomes → Type 0
 Holds v y o (heard w) = HeardAs v y o w
 Holds v y o (unread k p b) = ReadAs v y o k p b
 Holds v y o (refused k p b) = HeardAs v y o (answer.Refused (noted_in k p b)) × ReadAs v y o k p b
-Holds v y o (counts t c) = (p : Part) → message.CountedGives (book_of v y) o t p → part_of o p ≡ c
+Holds v y o (counts t c) = (p : Option Part) → message.CountedGives (book_of v y) o t p → part_of o p ≡ c
 Holds v y o (settles d) =
     (r : Settling) → desk.SettleGives v y new_desk o r →
     r ≡ record { edition = v; outcome = record { desk = d; answer = settled.Done } }
@@ -290,7 +289,7 @@ hears v y o w e l n r h =
     ∙ ap (λ (x : Listener). (heard_of x o).answer) (listener.reset_is_new v y l n) ∙ e
 
 reads : (v y : ℕ) (o : List ℕ) (k p b : ℕ) → T (known v y) →
-    verdict_of (rules_of (book_of v y)) o ≡ Declined (noted_in k p b) → ReadAs v y o k p b
+    verdict_of (rules_of (book_of v y)) o ≡ Err (noted_in k p b) → ReadAs v y o k p b
 unfolding read_of pack_of pack_from
 reads v y o k p b t e old r area h =
     ap (λ (x : Reading). x.answer) (reader.read_is v y o old r area h t).0
@@ -299,7 +298,7 @@ reads v y o k p b t e old r area h =
 unreadable_by : (v y : ℕ) (o : List ℕ) → (T (known v y) → ⊥) → ReadAs v y o 16 0 0
 unreadable_by v y o n old r area h = ap (λ (x : Reading). x.answer) (reader.read_none v y o old r area h n).0
 
-finds : (v y : ℕ) (o : List ℕ) (t : ℕ) (c : Option (List ℕ)) →
+finds : (v y : ℕ) (o : List ℕ) (t : ℕ) (c : Maybe (List ℕ)) →
     part_of o (counted_at (rules_of (book_of v y)) o t) ≡ c → Holds v y o (counts t c)
 finds v y o t c e p h = ap (part_of o) (message.counted_is (book_of v y) o t p h) ∙ e
 

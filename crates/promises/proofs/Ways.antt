@@ -3,6 +3,7 @@
 -- same edition accepts, with the same draft, the same settled values and the same desk. Over the promises, whatever
 -- outcomes they allow.
 -- Assumes nothing.
+use Rattle.std.proofs.Common.{ℕ, Result, Ok, Err}
 use Prim.Native.Nat.{ℕ, ◌≤◌, ◌<◌}
 use mathlib.Core.Path.{◌≡◌, refl, sym, ◌∙◌, ap, subst}
 use mathlib.Core.Logic.Iff
@@ -35,8 +36,7 @@ use Rattle.listener.specs.declared.Heard.{Heard}
 use Rattle.listener.specs.Heard.{new_listener}
 use Rattle.listener.specs.Told as heard
 use Rattle.listener.proofs.Promised as listener
-use Rattle.message.specs.declared.Verdict.{Verdict}
-use Rattle.message.specs.declared.Verdict.TheVariants.{Accepted, Declined}
+use Rattle.rules.specs.declared.Fault.{Fault}
 use Rattle.message.specs.Judges.{verdict_number, Judges}
 use Rattle.message.specs.Told as judged
 use Rattle.message.proofs.Judges.{verdict_number_lem}
@@ -45,8 +45,6 @@ use Rattle.message.proofs.Ways.{lenient_accepts}
 use Rattle.draft.specs.declared.Draft.{Draft}
 use Rattle.draft.specs.Draft.{parameter_of}
 use Rattle.reader.specs.declared.Reading.{Reading}
-use Rattle.reader.specs.declared.Packed.{Packed}
-use Rattle.reader.specs.declared.Packed.TheVariants as packed
 use Rattle.reader.specs.Told as read
 use Rattle.reader.specs.Reads.{read_number, Reads, ReadsBy}
 use Rattle.reader.proofs.Promised as reader
@@ -118,7 +116,7 @@ module _ (e w : ℕ) (k : T (known e w)) where
       go (inr (inr u)) = absurd (omega arith)
 
   -- the verdict on a whole message
-  judges_ten : (o : List ℕ) (v : Verdict) → Judges (language_of (book_of e w)) o v → (p b : ℕ) →
+  judges_ten : (o : List ℕ) (v : Result ℕ Fault) → Judges (language_of (book_of e w)) o v → (p b : ℕ) →
       (judged.told v ≡ judged.refusal 10 p b) ↔ AtUnlisted e w o p b
   judges_ten o v j p b = (
     λ x.
@@ -128,7 +126,7 @@ module _ (e w : ℕ) (k : T (known e w)) where
     λ y. (j.spoilt 10 p b (given_ten y.0)).1 ((ten o p b).1 y),
   )
 
-  pub judge_ten : (o : List ℕ) (v : Verdict) → message.JudgeGives (book_of e w) o v → Octets o → (p b : ℕ) →
+  pub judge_ten : (o : List ℕ) (v : Result ℕ Fault) → message.JudgeGives (book_of e w) o v → Octets o → (p b : ℕ) →
       (judged.told v ≡ judged.refusal 10 p b) ↔ AtUnlisted e w o p b
   judge_ten o v h q p b = judges_ten o v (message.verdicts (book_of e w) o v h q) p b
 
@@ -211,13 +209,13 @@ look_ten v r h q k p b =
 abbrev pub WordTen : ℕ → ℕ → ℕ → Type 0
 WordTen w p b = (word_number w ≡ 10) × (word_place w ≡ p) × (word_parameter w ≡ b)
 
-read_fields : (a : Packed) (p b : ℕ) →
+read_fields : (a : Result ℕ Fault) (p b : ℕ) →
     (((read.told a).number ≡ 10) × ((read.told a).place ≡ p) × ((read.told a).parameter ≡ b)) ↔
     (read.told a ≡ read.refusal 10 p b)
 unfolding read.told
-read_fields (packed.Texts n) p b =
+read_fields (Ok n) p b =
     (λ e. absurd (omega (arith, e.0)), λ e. absurd (omega (arith, ap (λ (t : read.Told). t.number) e)))
-read_fields (packed.Refused f) p b = (
+read_fields (Err f) p b = (
   λ e i. read.refusal (e.0 i) (e.1 i) (e.2 i),
   λ e. (
     ap (λ (t : read.Told). t.number) e,
@@ -226,13 +224,13 @@ read_fields (packed.Refused f) p b = (
   ),
 )
 
-judged_fields : (v : Verdict) (p b : ℕ) →
+judged_fields : (v : Result ℕ Fault) (p b : ℕ) →
     (((judged.told v).number ≡ 10) × ((judged.told v).place ≡ p) × ((judged.told v).parameter ≡ b)) ↔
     (judged.told v ≡ judged.refusal 10 p b)
 unfolding judged.told
-judged_fields (Accepted n) p b =
+judged_fields (Ok n) p b =
     (λ e. absurd (omega (arith, e.0)), λ e. absurd (omega (arith, ap (λ (t : judged.Told). t.number) e)))
-judged_fields (Declined f) p b = (
+judged_fields (Err f) p b = (
   λ e i. judged.refusal (e.0 i) (e.1 i) (e.2 i),
   λ e. (
     ap (λ (t : judged.Told). t.number) e,
@@ -343,7 +341,7 @@ module _ (e : ℕ) (k : T (edition e)) where
   no_nine n (inl u) z = omega arith
   no_nine n (inr t) z = omega (arith, ((nine_lenient e k n).0 t).1)
 
-  pub judge_lenient : (o : List ℕ) (v : Verdict) → message.JudgeGives (book_of e lenient) o v → Octets o →
+  pub judge_lenient : (o : List ℕ) (v : Result ℕ Fault) → message.JudgeGives (book_of e lenient) o v → Octets o →
       (judged.told v).number ≡ 10 → ⊥
   judge_lenient o v h q z =
       no_eight _ (inr ((message.verdicts (book_of e lenient) o v h q).numbers (omega (arith, z)))) z

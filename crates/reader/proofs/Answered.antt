@@ -1,6 +1,7 @@
 -- A read says and leaves what is promised: by the verdict on the octets, the room for the texts, and the draft of the
 -- message that accepted octets are.
 -- Assumes nothing.
+use Rattle.std.proofs.Common.{ℕ, Result, Ok, Err}
 use Prim.Native.Nat.{ℕ, ◌≤◌, ◌<◌}
 use mathlib.Core.Path.{◌≡◌, refl, sym, ◌∙◌, ap, subst}
 use mathlib.Core.Logic.Iff
@@ -22,24 +23,19 @@ use Rattle.rules.specs.Language.{calls}
 use Rattle.rules.proofs.Grammar.{spoken, accepted_size}
 use Rattle.rules.proofs.InRange.{low, high}
 use Rattle.rules.specs.declared.Fault.{Fault}
-use Rattle.message.specs.declared.Verdict.{Verdict}
-use Rattle.message.specs.declared.Verdict.TheVariants.{Accepted, Declined}
 use Rattle.message.specs.Verdict.{verdict_of}
 use Rattle.message.specs.Judges.{Judges, verdict_number}
 use Rattle.message.proofs.Judges.{judges_calls, given_apart, told_small, near_declined, few_declined}
 use Rattle.message.proofs.Told.{accepted_iff, spoilt_iff, early_iff, followed_iff, no_parameter_of, number_of_lem}
 use Rattle.message.specs.Parameters.{parameters_in, message_in}
-use Rattle.message.proofs.Parameters.{message_in_lem}
+use Rattle.message.proofs.Standing.{message_in_lem}
 use Rattle.draft.specs.Draft.{empty_of, message_of}
 use Rattle.rules.specs.Laying.{laid}
 use Rattle.draft.specs.Packing.{texts_of, draft_of}
 use Rattle.draft.proofs.Packing.{draft_stands}
-use Rattle.reader.specs.declared.Packed.{Packed}
-use Rattle.reader.specs.declared.Packed.TheVariants.{Texts, Refused}
 use Rattle.reader.specs.declared.Reading.{Reading}
 use Rattle.reader.proofs.Turns.{texts_in_body, size_within}
 use Rattle.reader.proofs.Area.{fits_whole}
-use Rattle.reader.specs.declared.Fitting.TheVariants.{Fits}
 use Rattle.reader.specs.Read.{text_size, pack_from, pack_of, fitting_of, area_from, area_after, draft_from, read_of}
 use Rattle.reader.specs.Told.{told, Clear}
 use Rattle.reader.proofs.Told.{told-texts, told-refused}
@@ -52,40 +48,40 @@ area_enough R m l = omega (arith, texts_in_body R m.parameters, some_parameter m
 below : (k : ℕ) → (k ≡ 9 → ⊥) → k ≤ 9 → k ≤ 8
 below k n h = omega (arith, n)
 
-number_is : (f g : Fault) → Refused f ≡ Refused g → f.number ≡ g.number
+number_is : (f g : Fault) → ◌≡◌ {A = Result ℕ Fault} (Err f) (Err g) → f.number ≡ g.number
 number_is f g e = let z : f ≡ g = cc in ap (λ (x : Fault). x.number) z
 
-place_is : (f g : Fault) → Refused f ≡ Refused g → f.place ≡ g.place
+place_is : (f g : Fault) → ◌≡◌ {A = Result ℕ Fault} (Err f) (Err g) → f.place ≡ g.place
 place_is f g e = let z : f ≡ g = cc in ap (λ (x : Fault). x.place) z
 
 module _ (R : Rules) (S : SoundRules R) where
   module _ (o : List ℕ) (room : ℕ) where
     -- ---- which verdict is behind an answer
-    declined_iff : (v : Verdict) (f : Fault) → (f.number ≡ 9 → ⊥) →
-        (pack_from R o room v ≡ Refused f) ↔ (v ≡ Declined f)
+    declined_iff : (v : Result ℕ Fault) (f : Fault) → (f.number ≡ 9 → ⊥) →
+        (pack_from R o room v ≡ Err f) ↔ (v ≡ Err f)
     unfolding pack_from
-    declined_iff (Accepted n) f l = (
+    declined_iff (Ok n) f l = (
       λ e. picked_by _ _ _ _ _ e (λ _ d. clash cc) (λ _ d. absurd (l (sym (number_is _ _ d)))),
       λ e. clash cc,
     )
-    declined_iff (Declined g) f l = (λ e. let z : g ≡ f = cc in ap Declined z, λ e. let z : g ≡ f = cc in ap Refused z)
+    declined_iff (Err g) f l = (λ e. let z : g ≡ f = cc in ap Err z, λ e. let z : g ≡ f = cc in ap Err z)
 
-    short_iff : (v : Verdict) (p : ℕ) → ((f : Fault) → v ≡ Declined f → f.number ≡ 9 → ⊥) →
-        (pack_from R o room v ≡ Refused (noted 9 p)) ↔ ((n : ℕ) × (v ≡ Accepted n) × (p ≡ text_size R o) × (room < p))
+    short_iff : (v : Result ℕ Fault) (p : ℕ) → ((f : Fault) → v ≡ Err f → f.number ≡ 9 → ⊥) →
+        (pack_from R o room v ≡ Err (noted 9 p)) ↔ ((n : ℕ) × (v ≡ Ok n) × (p ≡ text_size R o) × (room < p))
     unfolding pack_from
-    short_iff (Accepted n) p l = (
+    short_iff (Ok n) p l = (
       λ e. picked_by _ _ _ _ _ e (λ _ d. clash cc)
           (λ t d. let z = place_is _ _ d in (n, refl, sym z, omega (arith, not_le _ _ t))),
       λ e. pick_not _ _ _ (λ t. omega (arith, le_of _ _ t, e.2, e.3))
-          ∙ ap (λ (k : ℕ). Refused (noted 9 k)) (sym e.2),
+          ∙ ap (λ (k : ℕ). Err (noted 9 k)) (sym e.2),
     )
-    short_iff (Declined g) p l = (
+    short_iff (Err g) p l = (
       λ e. let z : g ≡ (noted 9 p) = cc in absurd (l g refl (ap (λ (x : Fault). x.number) z)),
       λ e. clash (cc e.1),
     )
 
-    whole_is : (v : Verdict) (n : ℕ) → v ≡ Accepted n → text_size R o ≤ room →
-        pack_from R o room v ≡ Texts (text_size R o)
+    whole_is : (v : Result ℕ Fault) (n : ℕ) → v ≡ Ok n → text_size R o ≤ room →
+        pack_from R o room v ≡ Ok (text_size R o)
     unfolding pack_from
     whole_is v n e h = ap (pack_from R o room) e ∙ pick_yes _ _ _ (of_le _ _ h)
 
@@ -102,17 +98,17 @@ module _ (R : Rules) (S : SoundRules R) where
   size_of m o l e = ap (λ (ps : List Parameter). length (texts_of R ps)) (parameters_in_lem m o l e)
 
   -- an accepted message has at most 258 octets, and 253 are enough for its texts
-  pub accepted_small : (o : List ℕ) → Octets o → (n : ℕ) → verdict_of R o ≡ Accepted n →
+  pub accepted_small : (o : List ℕ) → Octets o → (n : ℕ) → verdict_of R o ≡ Ok n →
       (length o ≤ 258) × (text_size R o ≤ 253)
   accepted_small o q n e =
       let a = ((accepted_iff (judges_calls R S o q) n).0 e).1 in
       ((accepted_size R o a).1, omega (arith, size_of a.0 o a.1 a.2, area_enough R a.0 a.1))
 
-  pub fits_small : (o : List ℕ) → Octets o → (room : ℕ) → Fits ≡ fitting_of (pack_of R o room) → text_size R o ≤ 253
+  pub fits_small : (o : List ℕ) → Octets o → (room : ℕ) → (Ok tt) ≡ fitting_of (pack_of R o room) → text_size R o ≤ 253
   fits_small o q room e = let w = fits_whole R o room e in (accepted_small o q w.octets w.accepted).1
 
   module _ (o old : List ℕ) (q : Octets o) where
-    abbrev v : Verdict
+    abbrev v : Result ℕ Fault
     v = verdict_of R o
 
     abbrev room : ℕ
@@ -121,15 +117,15 @@ module _ (R : Rules) (S : SoundRules R) where
     j : Judges (calls R) o v
     j = judges_calls R S o q
 
-    accepted : (m : Message) → LegalMessage R m → octets m ≡ o → v ≡ Accepted (length o)
+    accepted : (m : Message) → LegalMessage R m → octets m ≡ o → v ≡ Ok (length o)
     accepted m l e = (accepted_iff j (length o)).1 (refl, (m, l, e))
 
-    declined : (f : Fault) → (f.number ≡ 9 → ⊥) → (pack_of R o room ≡ Refused f) ↔ (v ≡ Declined f)
+    declined : (f : Fault) → (f.number ≡ 9 → ⊥) → (pack_of R o room ≡ Err f) ↔ (v ≡ Err f)
     unfolding pack_of
     declined f l = declined_iff o room v f l
 
     short_message : (p : ℕ) →
-        (pack_of R o room ≡ Refused (noted 9 p)) ↔
+        (pack_of R o room ≡ Err (noted 9 p)) ↔
         ((m : Message) × LegalMessage R m × (octets m ≡ o) × (p ≡ length (texts R m)) × (room < p))
     unfolding pack_of
     short_message p =
@@ -141,14 +137,14 @@ module _ (R : Rules) (S : SoundRules R) where
         )
 
     module _ (m : Message) (l : LegalMessage R m) (e : octets m ≡ o) (h : length (texts R m) ≤ room) where
-      packs : pack_of R o room ≡ Texts (length (texts R m))
+      packs : pack_of R o room ≡ Ok (length (texts R m))
       unfolding pack_of
       packs =
-          whole_is o room v (length o) (accepted m l e) (omega (arith, size_of m o l e)) ∙ ap Texts (size_of m o l e)
+          whole_is o room v (length o) (accepted m l e) (omega (arith, size_of m o l e)) ∙ ap Ok (size_of m o l e)
 
       reads : read_of R o room ≡ (record {
         edition = R.edition;
-        answer = Texts (length (texts R m));
+        answer = Ok (length (texts R m));
         draft = draft_of R m;
       })
       unfolding read_of draft_from
@@ -166,36 +162,36 @@ module _ (R : Rules) (S : SoundRules R) where
       unfolding laid
       stands = draft_stands R m (drop (length (texts R m)) old) l
 
-    refused_all : (f : Fault) → pack_of R o room ≡ Refused f →
+    refused_all : (f : Fault) → pack_of R o room ≡ Err f →
         (area_after R o old ≡ old) × ((read_of R o room).draft ≡ empty_of R.edition 0)
     unfolding area_after area_from read_of draft_from
     refused_all f e = (ap (area_from R o old) e, ap (draft_from R o) e)
 
-    numbers_of_lem : (w : Verdict) (f : Fault) →
-        ((g : Fault) → w ≡ Declined g → T (verdict_number (calls R) g.number)) → pack_from R o room w ≡ Refused f →
+    numbers_of_lem : (w : Result ℕ Fault) (f : Fault) →
+        ((g : Fault) → w ≡ Err g → T (verdict_number (calls R) g.number)) → pack_from R o room w ≡ Err f →
         T (read_number R f.number)
     unfolding pack_from read_number
-    numbers_of_lem (Accepted n) f b e =
+    numbers_of_lem (Ok n) f b e =
         picked_by _ _ _ _ _ e (λ _ d. clash cc) (λ _ d. right _ _ (of_eq _ _ (sym (number_is _ _ d))))
-    numbers_of_lem (Declined g) f b e =
+    numbers_of_lem (Err g) f b e =
         left _ _ (subst (λ (k : ℕ). T (verdict_number (calls R) k)) (number_is _ _ e) (b g refl))
 
-    refused-number : (f : Fault) → pack_of R o room ≡ Refused f → T (read_number R f.number)
+    refused-number : (f : Fault) → pack_of R o room ≡ Err f → T (read_number R f.number)
     unfolding pack_of
     refused-number f e = numbers_of_lem v f (number_of_lem j) e
 
     -- numbers, places, parameters and sizes are small: a word has room for them
-    near_of : (w : Verdict) → ((g : Fault) → w ≡ Declined g →
+    near_of : (w : Result ℕ Fault) → ((g : Fault) → w ≡ Err g →
         (g.number ≤ 10) × (g.place ≤ 258) × (g.parameter ≤ 85)) →
-        ((n : ℕ) → w ≡ Accepted n → length o ≤ 258) → Near (pack_from R o room w)
+        ((n : ℕ) → w ≡ Ok n → length o ≤ 258) → Near (pack_from R o room w)
     unfolding pack_from told
-    near_of (Accepted n) b l =
+    near_of (Ok n) b l =
         let z = size_within R o in
         let k = l n refl in
         pick_case Near (text_size R o ≤? room) _ _
         (λ _. record { number = omega arith; place = omega arith; parameter = omega arith; size = omega arith })
         (λ _. record { number = omega arith; place = omega arith; parameter = omega arith; size = omega arith })
-    near_of (Declined g) b l =
+    near_of (Err g) b l =
         let x = b g refl in
         record { number = omega (arith, x.0); place = x.1; parameter = x.2; size = omega arith }
 
@@ -206,31 +202,31 @@ module _ (R : Rules) (S : SoundRules R) where
         (λ n e. (accepted_size R o ((accepted_iff j n).0 e).1).1)
 
     -- 7, 8 and 9 are in no parameter
-    none_of : (w : Verdict) → ((g : Fault) → w ≡ Declined g → T (within (7, 9) g.number) → g.parameter ≡ 0) →
+    none_of : (w : Result ℕ Fault) → ((g : Fault) → w ≡ Err g → T (within (7, 9) g.number) → g.parameter ≡ 0) →
         T (within (7, 9) (told (pack_from R o room w)).number) → (told (pack_from R o room w)).parameter ≡ 0
     unfolding pack_from told
-    none_of (Accepted n) b t =
-        pick_case (λ (p : Packed). (told p).parameter ≡ 0) (text_size R o ≤? room) _ _ (λ _. refl) (λ _. refl)
-    none_of (Declined g) b t = b g refl t
+    none_of (Ok n) b t =
+        pick_case (λ (p : Result ℕ Fault). (told p).parameter ≡ 0) (text_size R o ≤? room) _ _ (λ _. refl) (λ _. refl)
+    none_of (Err g) b t = b g refl t
 
     none : T (within (7, 9) (told (pack_of R o room)).number) → (told (pack_of R o room)).parameter ≡ 0
     unfolding pack_of
     none = none_of v by
       where
-        by : (g : Fault) → v ≡ Declined g → T (within (7, 9) g.number) → g.parameter ≡ 0
+        by : (g : Fault) → v ≡ Err g → T (within (7, 9) g.number) → g.parameter ≡ 0
         by g e t =
             let k = (told_small (spoken R S) _ (number_of_lem j g e)).2 in
             no_parameter_of j g e (low _ _ _ t) (below _ k (high _ _ _ t))
 
-    only_message : (n : ℕ) → pack_of R o room ≡ Texts n → Accepts R o
+    only_message : (n : ℕ) → pack_of R o room ≡ Ok n → Accepts R o
     unfolding fitting_of
     only_message n e =
         let w = fits_whole R o room (ap fitting_of (sym e)) in
         ((accepted_iff j w.octets).0 w.accepted).1
 
-    clear_of : (p : Packed) → ((f : Fault) → p ≡ Refused f → 1 ≤ f.number) → Clear p
-    clear_of (Texts n) b = tt
-    clear_of (Refused f) b = b f refl
+    clear_of : (p : Result ℕ Fault) → ((f : Fault) → p ≡ Err f → 1 ≤ f.number) → Clear p
+    clear_of (Ok n) b = tt
+    clear_of (Err f) b = b f refl
 
     clear : Clear (pack_of R o room)
     unfolding read_number
@@ -241,16 +237,16 @@ module _ (R : Rules) (S : SoundRules R) where
         some f (inr t) = omega (arith, eq_of _ _ t)
 
     -- the same of what is told
-    told_only : (p : Packed) → pack_of R o room ≡ p → (told p).number ≡ 0 → Accepts R o
+    told_only : (p : Result ℕ Fault) → pack_of R o room ≡ p → (told p).number ≡ 0 → Accepts R o
     unfolding told
-    told_only (Texts n) e z = only_message n e
-    told_only (Refused f) e z = absurd (omega (arith, z, subst Clear e clear))
+    told_only (Ok n) e z = only_message n e
+    told_only (Err f) e z = absurd (omega (arith, z, subst Clear e clear))
 
-    told_all : (p : Packed) → pack_of R o room ≡ p → 1 ≤ (told p).number →
+    told_all : (p : Result ℕ Fault) → pack_of R o room ≡ p → 1 ≤ (told p).number →
         (area_after R o old ≡ old) × ((read_of R o room).draft ≡ empty_of R.edition 0) × T (read_number R (told p).number)
     unfolding told
-    told_all (Texts n) e l = absurd (omega arith)
-    told_all (Refused f) e l = ((refused_all f e).0, (refused_all f e).1, refused-number f e)
+    told_all (Ok n) e l = absurd (omega arith)
+    told_all (Err f) e l = ((refused_all f e).0, (refused_all f e).1, refused-number f e)
 
     pub reads_of : Reads R o old (read_of R o room) (area_after R o old)
     unfolding read_of

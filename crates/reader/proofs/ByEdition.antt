@@ -1,6 +1,7 @@
 -- What is said of a read by any edition and way: by known ones it has a number up to 10 and names their edition, as its
 -- draft does; by unknown ones it is 16.
 -- Assumes nothing.
+use Rattle.std.proofs.Common.{Result, Ok, Err}
 use Prim.Native.Nat.{ℕ}
 use mathlib.Core.Path.{◌≡◌, refl, sym, ◌∙◌, ap, subst}
 use mathlib.Core.Logic.{◌⊎◌, inl, inr}
@@ -20,12 +21,11 @@ use Rattle.message.specs.Judges.{verdict_number}
 use Rattle.message.proofs.Judges.{told_small}
 use Rattle.draft.specs.Draft.{empty_of}
 use Rattle.draft.specs.Packing.{draft_of}
-use Rattle.reader.specs.declared.Packed.{Packed}
-use Rattle.reader.specs.declared.Packed.TheVariants.{Texts, Refused}
 use Rattle.reader.specs.declared.Reading.{Reading}
 use Rattle.reader.specs.Read.{draft_from, read_of, unreadable}
 use Rattle.reader.specs.Told.{Told, told, refusal, Clear}
 use Rattle.reader.specs.Reads.{read_number, Reads, ReadsBy}
+use Rattle.rules.specs.declared.Fault.{Fault}
 
 number_is : {x y : Told} → x ≡ y → x.number ≡ y.number
 number_is d = ap (λ (x : Told). x.number) d
@@ -40,10 +40,10 @@ never_16 b t = go (either _ _ t)
     go (inr v) = let x = eq_of _ _ v in omega arith
 
 -- the draft of a read is of its book's edition, the empty one too
-draft_edition : (R : Rules) (o : List ℕ) (p : Packed) → (draft_from R o p).edition ≡ R.edition
+draft_edition : (R : Rules) (o : List ℕ) (p : Result ℕ Fault) → (draft_from R o p).edition ≡ R.edition
 unfolding draft_from draft_of empty_of
-draft_edition R o (Texts n) = refl
-draft_edition R o (Refused f) = refl
+draft_edition R o (Ok n) = refl
+draft_edition R o (Err f) = refl
 
 module _ (e w : ℕ) (o old : List ℕ) (r : Reading) (area : List ℕ) where
   pub by_known : T (known e w) → r ≡ read_of (rules_of (book_of e w)) o (length old) →

@@ -1,6 +1,7 @@
 -- How texts are laid down one behind the other, and entries taken one after the other: what holds between the turns
 -- of the loops.
 -- Assumes nothing.
+use Rattle.std.proofs.Common.{Result, Ok, Err}
 use Prim.Native.Nat.{ℕ, suc, ◌+◌, ◌-◌, ◌≤◌, ◌<◌}
 use mathlib.Core.Path.{◌≡◌, refl, sym, ◌∙◌, ap, ap₂}
 use mathlib.Core.List.{List, [], ◌∷◌, ◌++◌, append-nil, append_assoc}
@@ -12,7 +13,7 @@ use Rattle.rules.specs.Table.{Rules}
 use Rattle.rules.specs.declared.Fault.{Fault}
 use Rattle.rules.specs.Message.{Parameter, most}
 use Rattle.message.specs.Parameters.{parameters_from, parameters_in, message_in}
-use Rattle.message.proofs.Parameters.{no_more}
+use Rattle.message.proofs.Standing.{no_more}
 use Rattle.draft.specs.declared.Entry.{Entry}
 use Rattle.draft.specs.declared.Draft.{Draft}
 use Rattle.draft.specs.Draft.{no_entry, empty_of}
@@ -20,8 +21,6 @@ use Rattle.rules.specs.Laying.{laid, laid_at}
 use Rattle.rules.proofs.Laying.{laid_front, laid_behind, laid_length}
 use Rattle.draft.specs.Packing.{texts_of, entries_of, draft_of}
 use Rattle.draft.proofs.Packing.{entries_length}
-use Rattle.reader.specs.declared.Packed.{Packed}
-use Rattle.reader.specs.declared.Packed.TheVariants as packed
 use Rattle.reader.specs.declared.Taken.TheVariants as taken
 use Rattle.reader.specs.declared.Text.TheVariants as text
 use Rattle.reader.specs.Read.{text_size, text_at, taken_at, pack_of, draft_from, read_of}
@@ -206,18 +205,18 @@ module _ (R : Rules) (o : List ℕ) where
         λ i. record { kind = k i; edition = v i; count = a i; entries = b i }
 
 -- ---- what becomes of the octets, and the draft to it
-module _ (R : Rules) (o : List ℕ) (room : ℕ) (p : Packed) (d : Draft) (e : p ≡ pack_of R o room) where
+module _ (R : Rules) (o : List ℕ) (room : ℕ) (p : Result ℕ Fault) (d : Draft) (e : p ≡ pack_of R o room) where
   reads : (v : ℕ) → v ≡ R.edition → d ≡ draft_from R o p →
       (record { edition = v; answer = p; draft = d }) ≡ read_of R o room
   unfolding read_of
   reads v h q = let z = q ∙ ap (draft_from R o) e in λ i. record { edition = h i; answer = e i; draft = z i }
 
-  pub reads_whole : (v n : ℕ) → v ≡ R.edition → p ≡ packed.Texts n → d ≡ draft_of R (message_in o) →
+  pub reads_whole : (v n : ℕ) → v ≡ R.edition → p ≡ Ok n → d ≡ draft_of R (message_in o) →
       (record { edition = v; answer = p; draft = d }) ≡ read_of R o room
   unfolding draft_from
   reads_whole v n h q f = reads v h (f ∙ ap (draft_from R o) (sym q))
 
-  pub reads_refused : (v : ℕ) (f : Fault) → v ≡ R.edition → p ≡ packed.Refused f → d ≡ empty_of v 0 →
+  pub reads_refused : (v : ℕ) (f : Fault) → v ≡ R.edition → p ≡ Err f → d ≡ empty_of v 0 →
       (record { edition = v; answer = p; draft = d }) ≡ read_of R o room
   unfolding draft_from
   reads_refused v f h q g = reads v h (g ∙ ap (λ (x : ℕ). empty_of x 0) h ∙ ap (draft_from R o) (sym q))

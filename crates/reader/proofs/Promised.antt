@@ -1,5 +1,6 @@
 -- What the promises of `read_way`, `read`, `pack` and `fits` say of any octets and any area, over the written rules.
 -- Assumes nothing.
+use Rattle.std.proofs.Common.{Result, Ok, Err}
 use Prim.Native.Nat.{ℕ}
 use mathlib.Core.Path.{◌≡◌, refl, sym, ◌∙◌, subst}
 use mathlib.Core.Logic.{◌⊎◌, inl, inr}
@@ -12,9 +13,6 @@ use Rattle.rules.specs.Octets.{Octets}
 use Rattle.rules.specs.Table.{rules_of}
 use Rattle.rules.proofs.ContentLaw.{sound_rules}
 use Rattle.rules.specs.declared.Book.{Book}
-use Rattle.reader.specs.declared.Packed.{Packed}
-use Rattle.reader.specs.declared.Packed.TheVariants.{Texts, Refused}
-use Rattle.reader.specs.declared.Fitting.{Fitting}
 use Rattle.reader.specs.declared.Reading.{Reading}
 use Rattle.reader.specs.Read.{pack_of, fitting_of, read_of, area_after, unreadable, read_in, area_in}
 use Rattle.reader.specs.Told.{told, told_fitting}
@@ -25,6 +23,7 @@ use Rattle.reader.proofs.read_way.Reads as read_way
 use Rattle.reader.proofs.read.Reads as read
 use Rattle.reader.proofs.pack.Reads as pack
 use Rattle.reader.proofs.fits.Reads as fits
+use Rattle.rules.specs.declared.Fault.{Fault}
 
 -- by the edition e and the way w, of the octets o, `read_way` answers r; the area held `old` and then holds `area`
 abbrev pub ReadWayGives : ℕ → ℕ → List ℕ → List ℕ → Reading → List ℕ → Type 0
@@ -55,23 +54,23 @@ read_told e w o old r area (inr (z, h)) = (
 )
 
 -- likewise by a book `pack`, which lays down the texts and gives no draft
-abbrev pub PackGives : Book → List ℕ → List ℕ → Packed → List ℕ → Type 0
+abbrev pub PackGives : Book → List ℕ → List ℕ → Result ℕ Fault → List ℕ → Type 0
 PackGives b o old w area =
     (κs : _) × (a : _) × (s : _) × pack.Post κs a w s × (a.0 ≡ b) × (a.1.0.now ≡ o) × (a.1.1.0.now ≡ old)
     × (s.1.1.0.now ≡ area)
 
 -- likewise `fits`, of an area of so many octets: it lays nothing down
-abbrev pub FitsGives : Book → List ℕ → ℕ → Fitting → Type 0
+abbrev pub FitsGives : Book → List ℕ → ℕ → Result (Unit {0}) Fault → Type 0
 FitsGives b o room w =
     (κs : _) × (a : _) × (s : _) × fits.Post κs a w s × (a.0 ≡ b) × (a.1.0.now ≡ o) × (a.1.1.0 ≡ room)
 
 -- whether a read goes through tells its number, place and parameter
-same_refusal : (p : Packed) →
+same_refusal : (p : Result ℕ Fault) →
     ((told_fitting (fitting_of p)).number ≡ (told p).number) × ((told_fitting (fitting_of p)).place ≡ (told p).place)
     × ((told_fitting (fitting_of p)).parameter ≡ (told p).parameter)
 unfolding told_fitting fitting_of told
-same_refusal (Texts n) = (refl, refl, refl)
-same_refusal (Refused f) = (refl, refl, refl)
+same_refusal (Ok n) = (refl, refl, refl)
+same_refusal (Err f) = (refl, refl, refl)
 
 module _ (b : Book) (o old : List ℕ) where
   reads_so : (r : Reading) (area : List ℕ) → r ≡ read_of (rules_of b) o (length old) →
@@ -82,7 +81,7 @@ module _ (b : Book) (o old : List ℕ) where
       (reads_of (rules_of b) (sound_rules b) o old q))
 
   -- `pack` answers and lays down what a read does
-  pub packs : (w : Packed) (area : List ℕ) → PackGives b o old w area → Octets o →
+  pub packs : (w : Result ℕ Fault) (area : List ℕ) → PackGives b o old w area → Octets o →
       (r : Reading) × (r.answer ≡ w) × Reads (rules_of b) o old r area
   unfolding read_of
   packs w area h q =
@@ -91,7 +90,7 @@ module _ (b : Book) (o old : List ℕ) where
       (read_of (rules_of b) o (length old), sym e, reads_so _ area refl f q)
 
   -- `fits` says whether a read goes through with an area of this size
-  pub fits_so : (w : Fitting) → FitsGives b o (length old) w → Octets o →
+  pub fits_so : (w : Result (Unit {0}) Fault) → FitsGives b o (length old) w → Octets o →
       (r : Reading) × (fitting_of r.answer ≡ w) × ((area : List ℕ) × Reads (rules_of b) o old r area)
   unfolding read_of
   fits_so w h q =
@@ -99,18 +98,18 @@ module _ (b : Book) (o old : List ℕ) where
       (read_of (rules_of b) o (length old), sym e, (area_after (rules_of b) o old, reads_so _ _ refl refl q))
 
   -- and tells the number, the place and the parameter that the read does
-  pub fits_tells : (w : Fitting) → FitsGives b o (length old) w → Octets o →
+  pub fits_tells : (w : Result (Unit {0}) Fault) → FitsGives b o (length old) w → Octets o →
       (r : Reading) × ((told_fitting w).number ≡ (told r.answer).number)
       × ((told_fitting w).place ≡ (told r.answer).place)
       × ((told_fitting w).parameter ≡ (told r.answer).parameter)
       × ((area : List ℕ) × Reads (rules_of b) o old r area)
   fits_tells w h q =
       let x = fits_so w h q in
-      let n = subst (λ (z : Fitting). (told_fitting z).number ≡ (told x.0.answer).number) x.1
+      let n = subst (λ (z : Result (Unit {0}) Fault). (told_fitting z).number ≡ (told x.0.answer).number) x.1
       (same_refusal x.0.answer).0 in
-      let p = subst (λ (z : Fitting). (told_fitting z).place ≡ (told x.0.answer).place) x.1
+      let p = subst (λ (z : Result (Unit {0}) Fault). (told_fitting z).place ≡ (told x.0.answer).place) x.1
       (same_refusal x.0.answer).1 in
-      let q = subst (λ (z : Fitting). (told_fitting z).parameter ≡ (told x.0.answer).parameter) x.1
+      let q = subst (λ (z : Result (Unit {0}) Fault). (told_fitting z).parameter ≡ (told x.0.answer).parameter) x.1
       (same_refusal x.0.answer).2 in
       (x.0, n, p, q, x.2)
 

@@ -1,6 +1,7 @@
 -- Number, place, parameter and size tell the answer of a read, since a refusal has a number; and what is read, case by
 -- case.
 -- Assumes nothing.
+use Rattle.std.proofs.Common.{Result, Ok, Err}
 use Prim.Native.Nat.{ℕ, ◌≤◌, ◌<◌}
 use mathlib.Core.Path.{◌≡◌, sym, ◌∙◌, ap, subst}
 use mathlib.Core.Logic.Iff
@@ -20,8 +21,6 @@ use Rattle.rules.specs.Laying.{laid}
 use Rattle.rules.specs.declared.Fault.{Fault}
 use Rattle.draft.specs.Draft.{empty_of, message_of}
 use Rattle.draft.specs.Packing.{draft_of}
-use Rattle.reader.specs.declared.Packed.{Packed}
-use Rattle.reader.specs.declared.Packed.TheVariants.{Texts, Refused}
 use Rattle.reader.specs.declared.Reading.{Reading}
 use Rattle.reader.specs.Told.{Told, told, success, refusal, Clear}
 use Rattle.reader.specs.Reads.{texts, read_number, Reads}
@@ -29,45 +28,45 @@ use Rattle.reader.specs.Reads.{texts, read_number, Reads}
 number_is : {s t : Told} → s ≡ t → s.number ≡ t.number
 number_is e = ap (λ (t : Told). t.number) e
 
-pub told-texts : (a : Packed) (n : ℕ) → Clear a → (told a ≡ success n) ↔ (a ≡ Texts n)
+pub told-texts : (a : Result ℕ Fault) (n : ℕ) → Clear a → (told a ≡ success n) ↔ (a ≡ Ok n)
 unfolding told
-told-texts (Texts m) n c = (
-  λ e. ap (λ (t : Told). Texts t.size) e,
+told-texts (Ok m) n c = (
+  λ e. ap (λ (t : Told). Ok t.size) e,
   λ e. let d : m ≡ n = cc in ap (λ (x : ℕ). success x) d,
 )
-told-texts (Refused f) n c = (λ e. absurd (omega (arith, number_is e)), λ e. clash cc)
+told-texts (Err f) n c = (λ e. absurd (omega (arith, number_is e)), λ e. clash cc)
 
-pub told-refused : (a : Packed) (k p b : ℕ) → 1 ≤ k → (told a ≡ refusal k p b) ↔ (a ≡ Refused (noted_in k p b))
+pub told-refused : (a : Result ℕ Fault) (k p b : ℕ) → 1 ≤ k → (told a ≡ refusal k p b) ↔ (a ≡ Err (noted_in k p b))
 unfolding told
-told-refused (Texts n) k p b l = (λ e. absurd (omega (arith, number_is e)), λ e. clash cc)
-told-refused (Refused f) k p b l = (
-  λ e i. Refused (noted_in (e i).number (e i).place (e i).parameter),
+told-refused (Ok n) k p b l = (λ e. absurd (omega (arith, number_is e)), λ e. clash cc)
+told-refused (Err f) k p b l = (
+  λ e i. Err (noted_in (e i).number (e i).place (e i).parameter),
   λ e. let d : f ≡ noted_in k p b = cc in ap (λ (g : Fault). refusal g.number g.place g.parameter) d,
 )
 
 -- ---- what is read, case by case
 module _ {R : Rules} {o old : List ℕ} {r : Reading} {area : List ℕ} (x : Reads R o old r area) where
   pub spoilt_iff : (f : Fault) → 1 ≤ f.number → T ((calls R).given f.number) →
-      (r.answer ≡ Refused f) ↔
+      (r.answer ≡ Err f) ↔
       (Spoilt (Accepts R) o f.place
       × Numbered (Accepts R) (calls R).roles o f.place f.number f.parameter)
   spoilt_iff f l t =
       Iff.trans (Iff.symm (told-refused _ f.number f.place f.parameter l))
       (x.spoilt f.number f.place f.parameter t)
 
-  pub early_iff : (p : ℕ) → (r.answer ≡ Refused (noted 8 p)) ↔ ((p ≡ length o) × Ending (Accepts R) o)
+  pub early_iff : (p : ℕ) → (r.answer ≡ Err (noted 8 p)) ↔ ((p ≡ length o) × Ending (Accepts R) o)
   early_iff p = Iff.trans (Iff.symm (told-refused _ 8 p 0 (omega arith))) (x.early p)
 
-  pub followed_iff : (p : ℕ) → (r.answer ≡ Refused (noted 7 p)) ↔ ((p < length o) × Accepts R (take p o))
+  pub followed_iff : (p : ℕ) → (r.answer ≡ Err (noted 7 p)) ↔ ((p < length o) × Accepts R (take p o))
   followed_iff p = Iff.trans (Iff.symm (told-refused _ 7 p 0 (omega arith))) (x.followed p)
 
   pub short_iff : (p : ℕ) →
-      (r.answer ≡ Refused (noted 9 p)) ↔
+      (r.answer ≡ Err (noted 9 p)) ↔
       ((m : Message) × LegalMessage R m × (octets m ≡ o) × (p ≡ length (texts R m)) × (length old < p))
   short_iff p = Iff.trans (Iff.symm (told-refused _ 9 p 0 (omega arith))) (x.short p)
 
   pub drafted_as : (m : Message) → LegalMessage R m → octets m ≡ o → length (texts R m) ≤ length old →
-      (r ≡ (record { edition = R.edition; answer = Texts (length (texts R m)); draft = draft_of R m })) × (area ≡ laid (texts R m) old)
+      (r ≡ (record { edition = R.edition; answer = Ok (length (texts R m)); draft = draft_of R m })) × (area ≡ laid (texts R m) old)
       × (message_of r.draft area ≡ m)
   drafted_as m l e h =
       let y = x.drafted m l e h in
@@ -76,27 +75,27 @@ module _ {R : Rules} {o old : List ℕ} {r : Reading} {area : List ℕ} (x : Rea
       let v = x.names in
       ((λ i. record { edition = v i; answer = a i; draft = d i }), y.2, y.3)
 
-  pub texts_accepted : (n : ℕ) → r.answer ≡ Texts n → Accepts R o
+  pub texts_accepted : (n : ℕ) → r.answer ≡ Ok n → Accepts R o
   unfolding told
-  texts_accepted n e = x.only (ap (λ (a : Packed). (told a).number) e)
+  texts_accepted n e = x.only (ap (λ (a : Result ℕ Fault). (told a).number) e)
 
   -- 7, 8 and 9 are in no parameter
-  pub noted_at : (f : Fault) → r.answer ≡ Refused f → (k : ℕ) → f.number ≡ k → 7 ≤ k → k ≤ 9 → f ≡ noted k f.place
+  pub noted_at : (f : Fault) → r.answer ≡ Err f → (k : ℕ) → f.number ≡ k → 7 ≤ k → k ≤ 9 → f ≡ noted k f.place
   unfolding told
   noted_at f e k z a b =
-      let n = ap (λ (y : Packed). (told y).number) e in
+      let n = ap (λ (y : Result ℕ Fault). (told y).number) e in
       let q : f.parameter ≡ 0 =
-      sym (ap (λ (y : Packed). (told y).parameter) e) ∙ x.no_parameter (inside 7 9 _ (omega arith) (omega arith)) in
+      sym (ap (λ (y : Result ℕ Fault). (told y).parameter) e) ∙ x.no_parameter (inside 7 9 _ (omega arith) (omega arith)) in
       λ i. noted_in (z i) f.place (q i)
 
   -- a refusal has a number, which is one of a read's; the area stays, and the draft is empty
-  pub some_number : (f : Fault) → r.answer ≡ Refused f → 1 ≤ f.number
+  pub some_number : (f : Fault) → r.answer ≡ Err f → 1 ≤ f.number
   some_number f e = subst Clear e x.clear
 
-  pub refused_so : (f : Fault) → r.answer ≡ Refused f →
+  pub refused_so : (f : Fault) → r.answer ≡ Err f →
       (area ≡ old) × (r.draft ≡ empty_of R.edition 0) × T (read_number R f.number)
   unfolding told
   refused_so f e =
-      let z = ap (λ (a : Packed). (told a).number) e in
+      let z = ap (λ (a : Result ℕ Fault). (told a).number) e in
       let y = x.refused (omega (arith, z, some_number f e)) in
       (y.0, y.1, subst (λ (k : ℕ). T (read_number R k)) z y.2)

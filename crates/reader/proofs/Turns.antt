@@ -1,5 +1,7 @@
 -- How the texts and entries go on from parameter to parameter.
 -- Assumes nothing.
+use Rattle.std.proofs.Common.{Option, Some, None, sum_by}
+use Rattle.std.proofs.lemmas.List.Sums.{sum_by-cons}
 use Prim.Native.Nat.{ℕ, zero, suc, ◌+◌, ◌-◌, ◌*◌, ◌≤◌, ◌<◌}
 use mathlib.Core.Path.{◌≡◌, refl, sym, ◌∙◌, ap, ap₂}
 use mathlib.Core.List.{List, [], ◌∷◌, ◌++◌}
@@ -12,13 +14,13 @@ use Rattle.rules.specs.Table.{Rules}
 use Rattle.rules.specs.declared.Form.{Form}
 use Rattle.rules.specs.declared.Form.TheVariants.{DateValue, CodeValue, StateValue, TextValue, CarriedValue, MomentValue, DurationValue, MarkedValue}
 use Rattle.rules.specs.Message.{Parameter, body, most}
-use Rattle.message.specs.Parts.{parameter_at}
+use Rattle.message.specs.Parts.{found_at, parameter_at}
+use Rattle.message.specs.Walk.{found_then, founds_from}
 use Rattle.message.specs.Parameters as message
 use Rattle.message.specs.Parameters.{parameters_from, parameters_in}
-use Rattle.message.proofs.Parameters.{none_here, one_here}
+use Rattle.message.proofs.Standing.{none_here, one_here}
 use Rattle.message.proofs.Searching.{found_inside, found_behind}
 use Rattle.message.specs.declared.Found.{Found}
-use Rattle.message.specs.declared.Found.TheVariants as found
 use Rattle.draft.specs.declared.Value.{Value}
 use Rattle.draft.specs.declared.Entry.{Entry}
 use Rattle.draft.specs.Meaning.{Meaning, date_is, code_is, state_is, text_is, carried_is, moment_is, duration_is, marked_is, kind_of, meant, text_in}
@@ -117,29 +119,29 @@ module _ (R : Rules) (o : List ℕ) (turns at : ℕ) (h : 0 < turns) where
   unfolding text_at text_from texts_of
   text_here start n place e = go (parameter_at o at) refl e
     where
-      go : (f : Found) → f ≡ parameter_at o at → text.At start n place ≡ text_from R o f → TextHere start n place
-      go (found.Parameter k s l) q e =
-          let i = found_inside o at (found.Parameter k s l) k s l q refl in
-          let a : start ≡ s + l - length (text_of R (standing o k s l)) = cc in
-          let b : n ≡ length (text_of R (standing o k s l)) = cc in
-          let d : place ≡ s + l = cc in
+      go : (f : Option Found) → f ≡ parameter_at o at → text.At start n place ≡ text_from R o f → TextHere start n place
+      go (Some one) q e =
+          let i = found_inside o at (found_at one.kind one.start one.length) one.kind one.start one.length q refl in
+          let a : start ≡ one.start + one.length - length (text_of R (standing o one.kind one.start one.length)) = cc in
+          let b : n ≡ length (text_of R (standing o one.kind one.start one.length)) = cc in
+          let d : place ≡ one.start + one.length = cc in
           record {
-            lies = omega (arith, text_short R o k s l (omega arith));
+            lies = omega (arith, text_short R o one.kind one.start one.length (omega arith));
             texts =
-                ap (texts_of R) (one_here turns o at h k s l q)
-                ∙ ap (λ (v : List ℕ). v ++ texts_of R (parameters_from (turns - 1) o (s + l)))
-                (sym (text_stands R o k s l (omega arith)))
+                ap (texts_of R) (one_here turns o at h one.kind one.start one.length q)
+                ∙ ap (λ (v : List ℕ). v ++ texts_of R (parameters_from (turns - 1) o (one.start + one.length)))
+                (sym (text_stands R o one.kind one.start one.length (omega arith)))
                 ∙ (λ i. take (sym b i) (drop (sym a i) o) ++ texts_of R (parameters_from (turns - 1) o (sym d i)));
           }
-      go found.Nothing q e = clash cc
+      go None q e = clash cc
 
   pub text_none : text.End ≡ text_at R o at → parameters_from turns o at ≡ []
   unfolding text_at text_from
   text_none e = go (parameter_at o at) refl e
     where
-      go : (f : Found) → f ≡ parameter_at o at → text.End ≡ text_from R o f → parameters_from turns o at ≡ []
-      go (found.Parameter k s l) q e = clash cc
-      go found.Nothing q e = none_here turns o at h q
+      go : (f : Option Found) → f ≡ parameter_at o at → text.End ≡ text_from R o f → parameters_from turns o at ≡ []
+      go (Some one) q e = clash cc
+      go None q e = none_here turns o at h q
 
   module _ (used : ℕ) where
     -- an entry was found: the other entries stand behind it, and the texts so far are shorter than what they were
@@ -154,20 +156,20 @@ module _ (R : Rules) (o : List ℕ) (turns at : ℕ) (h : 0 < turns) where
     unfolding taken_at taken_from entries_of
     entry_here e n place t = go (parameter_at o at) refl t
       where
-        go : (f : Found) → f ≡ parameter_at o at → taken.Next e n place ≡ taken_from R o used f → EntryHere e n place
-        go (found.Parameter k s l) q t =
-            let a : entry_of R used (standing o k s l) ≡ e = cc in
-            let b : length (text_of R (standing o k s l)) ≡ n = cc in
-            let d : s + l ≡ place = cc in
-            let i = found_inside o at (found.Parameter k s l) k s l q refl in
+        go : (f : Option Found) → f ≡ parameter_at o at → taken.Next e n place ≡ taken_from R o used f → EntryHere e n place
+        go (Some one) q t =
+            let a : entry_of R used (standing o one.kind one.start one.length) ≡ e = cc in
+            let b : length (text_of R (standing o one.kind one.start one.length)) ≡ n = cc in
+            let d : one.start + one.length ≡ place = cc in
+            let i = found_inside o at (found_at one.kind one.start one.length) one.kind one.start one.length q refl in
             record {
               entries =
-                  ap (entries_of R used) (one_here turns o at h k s l q)
+                  ap (entries_of R used) (one_here turns o at h one.kind one.start one.length q)
                   ∙ (λ i. a i ∷ entries_of R (used + b i) (parameters_from (turns - 1) o (d i)));
-              behind = omega (arith, text_short R o k s l (omega arith), found_behind o at k s l q);
+              behind = omega (arith, text_short R o one.kind one.start one.length (omega arith), found_behind o at one.kind one.start one.length q);
               lies = omega arith;
             }
-        go found.Nothing q t = clash cc
+        go None q t = clash cc
 
     -- its text ends where the parameter ends
     pub entry-text : (e : Entry) (n place : ℕ) → taken.Next e n place ≡ taken_at R o at used →
@@ -175,21 +177,21 @@ module _ (R : Rules) (o : List ℕ) (turns at : ℕ) (h : 0 < turns) where
     unfolding taken_at taken_from text_at text_from
     entry-text e n place t = go (parameter_at o at) refl t
       where
-        go : (f : Found) → f ≡ parameter_at o at → taken.Next e n place ≡ taken_from R o used f →
+        go : (f : Option Found) → f ≡ parameter_at o at → taken.Next e n place ≡ taken_from R o used f →
             text.At (place - n) n place ≡ text_from R o f
-        go (found.Parameter k s l) q t =
-            let b : n ≡ length (text_of R (standing o k s l)) = cc in
-            let d : place ≡ s + l = cc in
+        go (Some one) q t =
+            let b : n ≡ length (text_of R (standing o one.kind one.start one.length)) = cc in
+            let d : place ≡ one.start + one.length = cc in
             λ i. text.At (d i - b i) (b i) (d i)
-        go found.Nothing q t = clash cc
+        go None q t = clash cc
 
     pub entry_none : taken.End ≡ taken_at R o at used → parameters_from turns o at ≡ []
     unfolding taken_at taken_from
     entry_none e = go (parameter_at o at) refl e
       where
-        go : (f : Found) → f ≡ parameter_at o at → taken.End ≡ taken_from R o used f → parameters_from turns o at ≡ []
-        go (found.Parameter k s l) q e = clash cc
-        go found.Nothing q e = none_here turns o at h q
+        go : (f : Option Found) → f ≡ parameter_at o at → taken.End ≡ taken_from R o used f → parameters_from turns o at ≡ []
+        go (Some one) q e = clash cc
+        go None q e = none_here turns o at h q
 
 -- ---- texts are no longer than what they are read from
 pub texts_within : (R : Rules) (turns : ℕ) (o : List ℕ) (at : ℕ) →
@@ -198,19 +200,19 @@ unfolding parameters_from message.found texts_of
 texts_within R zero o at = omega arith
 texts_within R (suc turns) o at = go (texts_within R turns o) (parameter_at o at) refl
   where
-    go : ((p : ℕ) → length (texts_of R (parameters_from turns o p)) ≤ length o - p) → (f : Found) →
+    go : ((p : ℕ) → length (texts_of R (parameters_from turns o p)) ≤ length o - p) → (f : Option Found) →
         f ≡ parameter_at o at → length (texts_of R (message.found o f (parameters_from turns o))) ≤ length o - at
-    go ih (found.Parameter k s l) q =
-        let i = found_inside o at (found.Parameter k s l) k s l q refl in
+    go ih (Some one) q =
+        let i = found_inside o at (found_at one.kind one.start one.length) one.kind one.start one.length q refl in
         omega (
           arith,
-          ih (s + l),
-          found_behind o at k s l q,
-          text_short R o k s l (omega arith),
+          ih (one.start + one.length),
+          found_behind o at one.kind one.start one.length q,
+          text_short R o one.kind one.start one.length (omega arith),
           length-append
-              (text_of R (standing o k s l)) (texts_of R (parameters_from turns o (s + l))),
+              (text_of R (standing o one.kind one.start one.length)) (texts_of R (parameters_from turns o (one.start + one.length))),
         )
-    go ih found.Nothing q = omega arith
+    go ih None q = omega arith
 
 -- and two octets a parameter are no text's
 pub texts_in_body : (R : Rules) (ps : List Parameter) → length (texts_of R ps) + 2 * length ps ≤ length (body ps)
@@ -230,6 +232,32 @@ pub size_within : (R : Rules) (o : List ℕ) → text_size R o ≤ length o
 unfolding text_size parameters_in
 size_within R o = omega (arith, texts_within R most o 2)
 
+-- the texts of those that a walk finds, summed up
+abbrev pub text_in_found : Rules → Found → ℕ
+text_in_found R f = text_part (kind_of R f.kind) f.length
+
+pub texts_sum : (R : Rules) (o : List ℕ) (turns at : ℕ) →
+    sum_by (text_in_found R) (founds_from turns o at) ≡ length (texts_of R (parameters_from turns o at))
+unfolding founds_from found_then parameters_from message.found texts_of
+texts_sum R o zero at = refl
+texts_sum R o (suc turns) at = go (texts_sum R o turns) (parameter_at o at) refl
+  where
+    go : ((p : ℕ) → sum_by (text_in_found R) (founds_from turns o p) ≡ length (texts_of R (parameters_from turns o p))) →
+        (x : Option Found) → x ≡ parameter_at o at →
+        sum_by (text_in_found R) (found_then x (founds_from turns o)) ≡
+        length (texts_of R (message.found o x (parameters_from turns o)))
+    go ih None e = refl
+    go ih (Some f) e =
+        omega (
+          arith,
+          sum_by-cons (text_in_found R) f (founds_from turns o (f.start + f.length)),
+          ih (f.start + f.length),
+          text_length R o f.kind f.start f.length
+              (omega (arith, found_inside o at _ f.kind f.start f.length e refl)),
+          length-append (text_of R (standing o f.kind f.start f.length))
+              (texts_of R (parameters_from turns o (f.start + f.length))),
+        )
+
 -- the text that a value tells of is that of what it means
 value_text : (used : ℕ) (m : Meaning) → text_long (value_at used m) ≡ length (text_in m)
 unfolding text_long value_at text_in
@@ -243,8 +271,8 @@ value_text used (duration_is a b c) = refl
 value_text used (marked_is x v) = refl
 
 -- ---- what was found, from its parts
-module _ (R : Rules) (o : List ℕ) (at : ℕ) (f : Found) (e : f ≡ parameter_at o at) where
-  module _ (k start l n : ℕ) (p : f ≡ found.Parameter k start l) (g : Form) (m : g ≡ kind_of R k)
+module _ (R : Rules) (o : List ℕ) (at : ℕ) (f : Option Found) (e : f ≡ parameter_at o at) where
+  module _ (k start l n : ℕ) (p : f ≡ found_at k start l) (g : Form) (m : g ≡ kind_of R k)
       (q : n ≡ text_part g l) where
     size : n ≡ length (text_of R (standing o k start l))
     size =
@@ -258,7 +286,7 @@ module _ (R : Rules) (o : List ℕ) (at : ℕ) (f : Found) (e : f ≡ parameter_
     unfolding text_at text_from
     text_found = ap (λ (x : ℕ). text.At (start + l - x) x (start + l)) size ∙ ap (text_from R o) (sym p ∙ e)
 
-  pub entry_found : (k start l : ℕ) → f ≡ found.Parameter k start l → (n used : ℕ) (v : Value) (g : Form) →
+  pub entry_found : (k start l : ℕ) → f ≡ found_at k start l → (n used : ℕ) (v : Value) (g : Form) →
       n ≡ text_long v → g ≡ kind_of R k → v ≡ value_at used (meant g (take (start + l - start) (drop start o))) →
       taken.Next (record { kind = k; value = v }) n (start + l) ≡ taken_at R o at used
   unfolding taken_at taken_from entry_of meaning_in text_of
@@ -269,10 +297,10 @@ module _ (R : Rules) (o : List ℕ) (at : ℕ) (f : Found) (e : f ≡ parameter_
       q ∙ ap text_long z ∙ value_text used (meant (kind_of R k) (take l (drop start o))) in
       (λ i. taken.Next (record { kind = k; value = z i }) (t i) (start + l)) ∙ ap (taken_from R o used) (sym p ∙ e)
 
-  pub text_ended : f ≡ found.Nothing → text.End ≡ text_at R o at
+  pub text_ended : f ≡ None → text.End ≡ text_at R o at
   unfolding text_at text_from
   text_ended p = ap (text_from R o) (sym p ∙ e)
 
-  pub entry_ended : (used : ℕ) → f ≡ found.Nothing → taken.End ≡ taken_at R o at used
+  pub entry_ended : (used : ℕ) → f ≡ None → taken.End ≡ taken_at R o at used
   unfolding taken_at taken_from
   entry_ended used p = ap (taken_from R o used) (sym p ∙ e)

@@ -1,20 +1,18 @@
 -- What a read answers, and what the text area then holds (document 01, Drafts; Numbers: 1 to 6, then 8, then 7, then
 -- 9; document 02, Q-11: 10).
 -- Assumes nothing.
-use Rattle.std.specs.Prelude.{ℕ, ◌+◌, ◌-◌, List, length, take, drop}
+use Rattle.std.specs.Prelude.{ℕ, ◌+◌, ◌-◌, List, length, take, drop, Result, Ok, Err, Option, Some, None}
 use Rattle.rules.specs.Tests.{◌≤?◌, pick}
 use Rattle.rules.specs.Table.{Rules, rules_of}
 use Rattle.rules.specs.Editions.{known, book_of}
 use Rattle.rules.specs.Message.{Parameter}
 use Rattle.rules.specs.declared.Form.{Form}
 use Rattle.rules.specs.declared.Form.TheVariants.{DateValue, CodeValue, StateValue, TextValue, CarriedValue, MomentValue, DurationValue, MarkedValue}
+use Rattle.rules.specs.declared.Fault.{Fault}
 use Rattle.message.specs.Verdict.{verdict_of}
 use Rattle.message.specs.Parts.{parameter_at}
 use Rattle.message.specs.Parameters.{parameters_in, message_in}
-use Rattle.message.specs.declared.Verdict.{Verdict}
-use Rattle.message.specs.declared.Verdict.TheVariants.{Accepted, Declined}
 use Rattle.message.specs.declared.Found.{Found}
-use Rattle.message.specs.declared.Found.TheVariants as found
 use Rattle.draft.specs.declared.Value.{Value}
 use Rattle.draft.specs.declared.Value.TheVariants as value
 use Rattle.draft.specs.declared.Draft.{Draft}
@@ -22,10 +20,6 @@ use Rattle.draft.specs.Draft.{empty_of}
 use Rattle.rules.specs.Laying.{laid}
 use Rattle.rules.specs.Refusals.{noted}
 use Rattle.draft.specs.Packing.{entry_of, text_of, texts_of, draft_of}
-use Rattle.reader.specs.declared.Packed.{Packed}
-use Rattle.reader.specs.declared.Packed.TheVariants as packed
-use Rattle.reader.specs.declared.Fitting.{Fitting}
-use Rattle.reader.specs.declared.Fitting.TheVariants as fitting
 use Rattle.reader.specs.declared.Reading.{Reading}
 use Rattle.reader.specs.declared.Taken.{Taken}
 use Rattle.reader.specs.declared.Taken.TheVariants as taken
@@ -39,35 +33,35 @@ text_size R o = length (texts_of R (parameters_in o))
 
 -- an accepted message's texts, if the area has room for them; else 9 with the text octets needed. Other octets are
 -- declined as the verdict says
-unfoldable pub pack_from : Rules → List ℕ → ℕ → Verdict → Packed
-pack_from R o room (Accepted n) =
-    pick (text_size R o ≤? room) (packed.Texts (text_size R o)) (packed.Refused (noted 9 (text_size R o)))
-pack_from R o room (Declined f) = packed.Refused f
+unfoldable pub pack_from : Rules → List ℕ → ℕ → Result ℕ Fault → Result ℕ Fault
+pack_from R o room (Ok n) =
+    pick (text_size R o ≤? room) (Ok (text_size R o)) (Err (noted 9 (text_size R o)))
+pack_from R o room (Err f) = Err f
 
-unfoldable pub pack_of : Rules → List ℕ → ℕ → Packed
+unfoldable pub pack_of : Rules → List ℕ → ℕ → Result ℕ Fault
 pack_of R o room = pack_from R o room (verdict_of R o)
 
 -- whether it goes through: the same without the octets that the texts take
-unfoldable pub fitting_of : Packed → Fitting
-fitting_of (packed.Texts n) = fitting.Fits
-fitting_of (packed.Refused f) = fitting.Refused f
+unfoldable pub fitting_of : Result ℕ Fault → Result (Unit {0}) Fault
+fitting_of (Ok n) = (Ok tt)
+fitting_of (Err f) = Err f
 
 -- of an accepted message: 9 where its texts need more than the area has
-unfoldable pub room_for : Rules → List ℕ → ℕ → Fitting
-room_for R o room = pick (text_size R o ≤? room) fitting.Fits (fitting.Refused (noted 9 (text_size R o)))
+unfoldable pub room_for : Rules → List ℕ → ℕ → Result (Unit {0}) Fault
+room_for R o room = pick (text_size R o ≤? room) (Ok tt) (Err (noted 9 (text_size R o)))
 
 -- the area afterwards: the texts from octet 0 on, later octets as they were; with a refusal all of them
-unfoldable pub area_from : Rules → List ℕ → List ℕ → Packed → List ℕ
-area_from R o old (packed.Texts n) = laid (texts_of R (parameters_in o)) old
-area_from R o old (packed.Refused f) = old
+unfoldable pub area_from : Rules → List ℕ → List ℕ → Result ℕ Fault → List ℕ
+area_from R o old (Ok n) = laid (texts_of R (parameters_in o)) old
+area_from R o old (Err f) = old
 
 unfoldable pub area_after : Rules → List ℕ → List ℕ → List ℕ
 area_after R o old = area_from R o old (pack_of R o (length old))
 
 -- the draft of the message; with a refusal the empty one
-unfoldable pub draft_from : Rules → List ℕ → Packed → Draft
-draft_from R o (packed.Texts n) = draft_of R (message_in o)
-draft_from R o (packed.Refused f) = empty_of R.edition 0
+unfoldable pub draft_from : Rules → List ℕ → Result ℕ Fault → Draft
+draft_from R o (Ok n) = draft_of R (message_in o)
+draft_from R o (Err f) = empty_of R.edition 0
 
 unfoldable pub read_of : Rules → List ℕ → ℕ → Reading
 read_of R o room =
@@ -76,7 +70,7 @@ read_of R o room =
 -- ---- by edition and way (document 02, Q-5 and Q-11)
 -- 16 at 0: the empty draft, and no edition is named
 abbrev pub unreadable : Reading
-unreadable = record { edition = 0; answer = packed.Refused (noted 16 0); draft = empty_of 0 0 }
+unreadable = record { edition = 0; answer = Err (noted 16 0); draft = empty_of 0 0 }
 
 unfoldable pub read_in : ℕ → ℕ → List ℕ → ℕ → Reading
 read_in e w o room = pick (known e w) (read_of (rules_of (book_of e w)) o room) unreadable
@@ -91,19 +85,19 @@ standing o k start n = record { kind = k; contents = take n (drop start o) }
 
 -- the entry of the parameter at a place, its text to be packed at another; how long its text is; the place behind the
 -- parameter
-unfoldable pub taken_from : Rules → List ℕ → ℕ → Found → Taken
-taken_from R o used (found.Parameter k start n) =
-    taken.Next (entry_of R used (standing o k start n)) (length (text_of R (standing o k start n))) (start + n)
-taken_from R o used found.Nothing = taken.End
+unfoldable pub taken_from : Rules → List ℕ → ℕ → Option Found → Taken
+taken_from R o used (Some one) =
+    taken.Next (entry_of R used (standing o one.kind one.start one.length)) (length (text_of R (standing o one.kind one.start one.length))) (one.start + one.length)
+taken_from R o used None = taken.End
 
 unfoldable pub taken_at : Rules → List ℕ → ℕ → ℕ → Taken
 taken_at R o at used = taken_from R o used (parameter_at o at)
 
 -- where the text of the parameter at a place stands, and the place behind the parameter, where the text ends
-unfoldable pub text_from : Rules → List ℕ → Found → Text
-text_from R o (found.Parameter k start n) =
-    let l = length (text_of R (standing o k start n)) in text.At (start + n - l) l (start + n)
-text_from R o found.Nothing = text.End
+unfoldable pub text_from : Rules → List ℕ → Option Found → Text
+text_from R o (Some one) =
+    let l = length (text_of R (standing o one.kind one.start one.length)) in text.At (one.start + one.length - l) l (one.start + one.length)
+text_from R o None = text.End
 
 unfoldable pub text_at : Rules → List ℕ → ℕ → Text
 text_at R o at = text_from R o (parameter_at o at)

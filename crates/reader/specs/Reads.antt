@@ -1,7 +1,7 @@
 -- What a read says of the octets and leaves in the area, over the written rules alone (document 01, Drafts and
 -- Numbers).
 -- Assumes nothing.
-use Rattle.std.specs.Prelude.{ℕ, ◌≤◌, ◌<◌, ◌≡◌, Bool, ◌↔◌, List, length, take, T}
+use Rattle.std.specs.Prelude.{ℕ, ◌≤◌, ◌<◌, ◌≡◌, Bool, ◌↔◌, List, length, take, T, Result}
 use Rattle.rules.specs.Tests.{◌=?◌, ◌or◌}
 use Rattle.rules.specs.Contents.{within}
 use Rattle.rules.specs.Table.{Rules, rules_of}
@@ -13,12 +13,12 @@ use Rattle.message.specs.Judges.{verdict_number}
 use Rattle.draft.specs.Draft.{empty_of, message_of}
 use Rattle.rules.specs.Laying.{laid}
 use Rattle.draft.specs.Packing.{texts_of, draft_of}
-use Rattle.reader.specs.declared.Packed.{Packed}
 use Rattle.reader.specs.declared.Reading.{Reading}
 use Rattle.reader.specs.Told.{told, success, refusal, Clear}
+use Rattle.rules.specs.declared.Fault.{Fault}
 
 -- number, place, parameter and size are small: a word has room for them
-pub record Near (p : Packed) : Type 0 where
+pub record Near (p : Result ℕ Fault) : Type 0 where
   pub number : (told p).number ≤ 10
   pub place : (told p).place ≤ 258
   pub parameter : (told p).parameter ≤ most

@@ -1,11 +1,8 @@
 -- What the answer of a read tells (document 01, The forms we expect: a definition provides number and values for each
 -- case).
 -- Assumes nothing.
-use Rattle.std.specs.Prelude.{ℕ, ◌≤◌}
-use Rattle.reader.specs.declared.Packed.{Packed}
-use Rattle.reader.specs.declared.Packed.TheVariants.{Texts, Refused}
-use Rattle.reader.specs.declared.Fitting.{Fitting}
-use Rattle.reader.specs.declared.Fitting.TheVariants as fitting
+use Rattle.std.specs.Prelude.{ℕ, ◌≤◌, Result, Ok, Err}
+use Rattle.rules.specs.declared.Fault.{Fault}
 
 -- number, place and parameter of a refusal, the size of the text octets laid down; 0 where there is none
 pub record Told : Type 0 where
@@ -14,14 +11,14 @@ pub record Told : Type 0 where
   pub parameter : ℕ
   pub size : ℕ
 
-unfoldable pub told : Packed → Told
-told (Texts n) = record { number = 0; place = 0; parameter = 0; size = n }
-told (Refused f) = record { number = f.number; place = f.place; parameter = f.parameter; size = 0 }
+unfoldable pub told : Result ℕ Fault → Told
+told (Ok n) = record { number = 0; place = 0; parameter = 0; size = n }
+told (Err f) = record { number = f.number; place = f.place; parameter = f.parameter; size = 0 }
 
 -- whether a read goes through tells number, place and parameter of the refusal alike; no texts are laid down
-unfoldable pub told_fitting : Fitting → Told
-told_fitting fitting.Fits = record { number = 0; place = 0; parameter = 0; size = 0 }
-told_fitting (fitting.Refused f) = told (Refused f)
+unfoldable pub told_fitting : Result (Unit {0}) Fault → Told
+told_fitting (Ok tt) = record { number = 0; place = 0; parameter = 0; size = 0 }
+told_fitting (Err f) = told (Err f)
 
 -- a message with n text octets
 abbrev pub success : ℕ → Told
@@ -32,6 +29,6 @@ abbrev pub refusal : ℕ → ℕ → ℕ → Told
 refusal k p b = record { number = k; place = p; parameter = b; size = 0 }
 
 -- a refusal has a number: so what is told tells the answer
-abbrev pub Clear : Packed → Type 0
-Clear (Texts n) = Unit {0}
-Clear (Refused f) = 1 ≤ f.number
+abbrev pub Clear : Result ℕ Fault → Type 0
+Clear (Ok n) = Unit {0}
+Clear (Err f) = 1 ≤ f.number

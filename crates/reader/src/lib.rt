@@ -13,28 +13,14 @@ ghost use Rattle.draft.specs.Packing.{value_at, draft_of, texts_of};
 ghost use Rattle.reader.specs.Read.{text_part, text_long, text_size, text_at, taken_at, room_for, fitting_of, pack_of, area_after, read_of, read_in, area_in};
 
 use draft::{Draft, Entry, Value};
-use message::{Found, Verdict};
+use message::{Found, Parameters};
 use rules::{Book, Fault, Form, MOST};
-
-// What becomes of the octets: how many text octets were laid down; or a number from 1 to 10 with its place.
-#[derive(Clone, Copy)]
-pub enum Packed {
-    Texts { octets: u16 },
-    Refused { fault: Fault },
-}
-
-// Whether a read goes through: its texts fit, or a number from 1 to 10 with its place.
-#[derive(Clone, Copy)]
-pub enum Fitting {
-    Fits,
-    Refused { fault: Fault },
-}
 
 // What a read answers, and the edition that it names, which is the draft's; with a refusal the draft is the empty one.
 #[derive(Clone, Copy)]
 pub struct Reading {
     pub edition: u8,
-    pub answer: Packed,
+    pub answer: Result<u16, Fault>,
     pub draft: Draft,
 }
 
@@ -213,11 +199,13 @@ fn text_at(book: Book, octets: &[u8], at: usize) -> Text
 {
     let found = message::parameter(octets, at);
     match found {
-        Found::Parameter {
-            kind,
-            start,
-            length,
-        } => {
+        Some(
+            Found {
+                kind,
+                start,
+                length,
+            },
+        ) => {
             let place = start + length as usize;
             let text = text_part(form_at(book, kind), length as usize);
             Text::At {
@@ -226,7 +214,7 @@ fn text_at(book: Book, octets: &[u8], at: usize) -> Text
                 place,
             }
         }
-        Found::Nothing => Text::End,
+        None => Text::End,
     }
 }
 
@@ -234,25 +222,9 @@ fn text_at(book: Book, octets: &[u8], at: usize) -> Text
 fn text_size(book: Book, octets: &[u8]) -> usize
     ensures { result ≡ text_size (rules_of book) octets.now }
 {
-    let mut at: usize = 2;
     let mut size: usize = 0;
-    let mut count: usize = 0;
-    while count < MOST {
-        let text = text_at(book, octets, at);
-        match text {
-            Text::At {
-                start: _,
-                length,
-                place,
-            } => {
-                size += length;
-                at = place;
-                count += 1;
-            }
-            Text::End => {
-                return size;
-            }
-        }
+    for found in Parameters::new(octets, MOST) {
+        size += text_part(form_at(book, found.kind), found.length as usize);
     }
     size
 }
@@ -275,8 +247,7 @@ fn lay_texts(book: Book, octets: &[u8], area: &mut [u8]) -> usize
 {
     let mut at: usize = 2;
     let mut used: usize = 0;
-    let mut count: usize = 0;
-    while count < MOST {
+    for count in 0..MOST {
         let text = text_at(book, octets, at);
         match text {
             Text::At {
@@ -287,7 +258,6 @@ fn lay_texts(book: Book, octets: &[u8], area: &mut [u8]) -> usize
                 lay_text(octets, start, length, area, used);
                 used += length;
                 at = place;
-                count += 1;
             }
             Text::End => {
                 return used;
@@ -298,53 +268,39 @@ fn lay_texts(book: Book, octets: &[u8], area: &mut [u8]) -> usize
 }
 
 // An accepted message's texts in an area of so many octets: 9 with the octets that they need, where it has fewer.
-fn short_of(book: Book, octets: &[u8], room: usize) -> Fitting
+fn short_of(book: Book, octets: &[u8], room: usize) -> Result<(), Fault>
     requires { length octets.now ≤ 258 }
     ensures { result ≡ room_for (rules_of book) octets.now room }
 {
     let size = text_size(book, octets);
     if room < size {
-        Fitting::Refused {
-            fault: rules::noted(9, size as u16),
-        }
+        Err(rules::noted(9, size as u16))
     } else {
-        Fitting::Fits
+        Ok(())
     }
 }
 
 // Whether a read goes through with an area of so many octets: the verdict, then 9 (document 01, Numbers). Nothing is
 // laid down.
-pub fn fits(book: Book, octets: &[u8], room: usize) -> Fitting
+pub fn fits(book: Book, octets: &[u8], room: usize) -> Result<(), Fault>
     ensures { result ≡ fitting_of (pack_of (rules_of book) octets.now room) }
 {
-    let verdict = message::judge(book, octets);
-    match verdict {
-        Verdict::Accepted { size: _ } => {
-            if room < rules::LONGEST {
-                short_of(book, octets, room)
-            } else {
-                Fitting::Fits
-            }
-        }
-        Verdict::Declined { fault } => Fitting::Refused { fault },
+    message::judge(book, octets)?;
+    if room < rules::LONGEST {
+        short_of(book, octets, room)
+    } else {
+        Ok(())
     }
 }
 
 // The verdict, then 9, and only then the texts: with a refusal the area is not touched.
-pub fn pack(book: Book, octets: &[u8], area: &mut [u8]) -> Packed
+pub fn pack(book: Book, octets: &[u8], area: &mut [u8]) -> Result<u16, Fault>
     ensures answer { result ≡ pack_of (rules_of book) octets.now (length area.old) }
     ensures area { area.new ≡ area_after (rules_of book) octets.now area.old }
 {
-    let fitting = fits(book, octets, area.len());
-    match fitting {
-        Fitting::Fits => {
-            let size = lay_texts(book, octets, area);
-            Packed::Texts {
-                octets: size as u16,
-            }
-        }
-        Fitting::Refused { fault } => Packed::Refused { fault },
-    }
+    fits(book, octets, area.len())?;
+    let size = lay_texts(book, octets, area);
+    Ok(size as u16)
 }
 
 // How long the text of a value is.
@@ -391,11 +347,13 @@ pub fn entry(book: Book, octets: &[u8], at: usize, used: usize) -> Taken
 {
     let found = message::parameter(octets, at);
     match found {
-        Found::Parameter {
-            kind,
-            start,
-            length,
-        } => {
+        Some(
+            Found {
+                kind,
+                start,
+                length,
+            },
+        ) => {
             let place = start + length as usize;
             let value = value_of(form_at(book, kind), &octets[start..place], used);
             Taken::Next {
@@ -404,7 +362,7 @@ pub fn entry(book: Book, octets: &[u8], at: usize, used: usize) -> Taken
                 place,
             }
         }
-        Found::Nothing => Taken::End,
+        None => Taken::End,
     }
 }
 
@@ -418,15 +376,13 @@ fn draft_of(book: Book, octets: &[u8]) -> Draft
     let edition = rules::edition_of(book);
     let mut at: usize = 2;
     let mut used: usize = 0;
-    let mut count: usize = 0;
-    while count < MOST {
+    for count in 0..MOST {
         let taken = entry(book, octets, at, used);
         match taken {
             Taken::Next { entry, text, place } => {
                 entries[count] = entry;
                 used += text;
                 at = place;
-                count += 1;
             }
             Taken::End => {
                 return Draft {
@@ -441,7 +397,7 @@ fn draft_of(book: Book, octets: &[u8]) -> Draft
     Draft {
         kind,
         edition,
-        count,
+        count: MOST,
         entries,
     }
 }
@@ -454,12 +410,12 @@ fn read_by(book: Book, octets: &[u8], area: &mut [u8]) -> Reading
     let edition = rules::edition_of(book);
     let answer = pack(book, octets, area);
     match answer {
-        Packed::Texts { octets: _ } => Reading {
+        Ok(_) => Reading {
             edition,
             answer,
             draft: draft_of(book, octets),
         },
-        Packed::Refused { fault: _ } => Reading {
+        Err(_) => Reading {
             edition,
             answer,
             draft: draft::empty(edition, 0),
@@ -468,20 +424,18 @@ fn read_by(book: Book, octets: &[u8], area: &mut [u8]) -> Reading
 }
 
 // A whole read: 16 where edition or way is unknown, else as their book says.
+#[tactic(auto, using(rules::proofs::Telling::telling), unfolding(crate::specs::Read::read_in, crate::specs::Read::area_in))]
 pub fn read_way(edition: u8, way: u8, octets: &[u8], area: &mut [u8]) -> Reading
     ensures answer { result ≡ read_in edition way octets.now (length area.old) }
     ensures area { area.new ≡ area_in edition way octets.now area.old }
 {
-    if rules::is_known(edition, way) {
-        read_by(rules::book_of(edition, way), octets, area)
-    } else {
-        Reading {
+    match rules::known_book(edition, way) {
+        Some(book) => read_by(book, octets, area),
+        None => Reading {
             edition: 0,
-            answer: Packed::Refused {
-                fault: rules::noted(16, 0),
-            },
+            answer: Err(rules::noted(16, 0)),
             draft: draft::empty(0, 0),
-        }
+        },
     }
 }
 

@@ -2,7 +2,7 @@
 -- and its listing is the text; the listing of a legal message with each type once, in order, of which each counts, is
 -- valid and says this message.
 -- Assumes nothing.
-use Rattle.std.proofs.Common.{◌≡◌, ℕ, ◌≤◌, T, List, [], ◌∷◌, length, sym, refl, ap, ◌∙◌, inl, inr, arith, length-append}
+use Rattle.std.proofs.Common.{◌≡◌, ℕ, ◌≤◌, T, List, [], ◌∷◌, length, sym, refl, ap, ◌∙◌, inl, inr, arith, length-append, Result, Ok}
 use mathlib.Core.Option.{some}
 use Rattle.rules.specs.Tests.{◌=?◌, ◌≤?◌, pick}
 use Rattle.rules.specs.Table.{rules_of, listed, class_of}
@@ -15,12 +15,11 @@ use Rattle.rules.proofs.Unique.{unique_in}
 use Rattle.rules.specs.Message.{Parameter, Message, body, octets, AllLegal, LegalMessage, Accepts}
 use Rattle.rules.specs.Counting.{counted}
 use Rattle.rules.proofs.Counting.{counted_iff}
-use Rattle.message.specs.declared.Verdict.{Verdict}
-use Rattle.message.specs.declared.Verdict.TheVariants.{Accepted}
+use Rattle.rules.specs.declared.Fault.{Fault}
 use Rattle.message.specs.Verdict.{verdict_of}
 use Rattle.message.proofs.Told.{accepted_iff}
 use Rattle.message.proofs.Judges.{judges_of}
-use Rattle.message.proofs.Parameters.{message_in_lem}
+use Rattle.message.proofs.Standing.{message_in_lem}
 use Rattle.listing.specs.Listing.{written, message_lines, verdict_lines, listing_of}
 use Rattle.listing.specs.Lists.{Has}
 use Rattle.relist.specs.Sentences.{RisingKinds, Says}
@@ -31,10 +30,10 @@ listing_is : (m : Message) → LegalMessage R m → listing_of R (octets m) ≡ 
 unfolding listing_of verdict_lines
 listing_is m l =
     let w : Accepts R (octets m) = (m, l, refl) in
-    let v : verdict_of R (octets m) ≡ Accepted (length (octets m)) =
+    let v : verdict_of R (octets m) ≡ Ok (length (octets m)) =
     (accepted_iff (judges_of PresentLenient (octets m) ((unique_in PresentLenient).octets (octets m) w))
     (length (octets m))).1 (refl, w) in
-    ap (λ (x : Verdict). written (verdict_lines R (octets m) x)) v
+    ap (λ (x : Result ℕ Fault). written (verdict_lines R (octets m) x)) v
     ∙ ap (λ (x : Message). written (message_lines R x)) (message_in_lem R (sound_rules PresentLenient) m l)
 
 -- a parameter has three octets at least

@@ -71,10 +71,8 @@ fn number_at(text: &[u8], from: usize) -> u16
     ensures { result ≡ number_at text.now from }
 {
     let mut number: u32 = 0;
-    let mut i = from;
-    while i < text.len() {
+    for i in from..text.len() {
         number = (10 * number + above_zero(text[i]) as u32) % 65536;
-        i += 1;
     }
     number as u16
 }
@@ -272,14 +270,12 @@ fn find(text: &[u8], from: usize, octet: u8) -> usize
     requires { from ≤ list.length text.now }
     ensures { result ≡ from + index_of octet (list.drop from text.now) }
 {
-    let mut i = from;
-    while i < text.len() {
+    for i in from..text.len() {
         if text[i] == octet {
             return i;
         }
-        i += 1;
     }
-    i
+    text.len()
 }
 
 // The same where lines of these types stand before it.
@@ -329,18 +325,17 @@ fn take_rows(text: &[u8], first: usize, area: &mut [u8]) -> Taken
     let mut at = first;
     let mut count: usize = 0;
     let mut size: usize = 0;
-    let mut i: usize = 0;
-    while i < listing::ROWS {
+    for i in 0..listing::ROWS {
         let end = line_end(text, at);
         let kind = listing::kind_at(i);
         let n = row_length(i, &text[at..end], &kinds[..count], &mut contents);
-        i += 1;
-        if 0 < n {
-            kinds[count] = kind;
-            size = lay_parameter(kind, &contents[..n], area, size);
-            at = end;
-            count += 1;
+        if n == 0 {
+            continue;
         }
+        kinds[count] = kind;
+        size = lay_parameter(kind, &contents[..n], area, size);
+        at = end;
+        count += 1;
     }
     Taken { at, count, size }
 }

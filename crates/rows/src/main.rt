@@ -9,7 +9,6 @@
 ghost use Rattle.std.specs.Prelude.{◌≤◌, IfOk, length};
 
 use listener::{Answer, Listener};
-use message::Verdict;
 use rules::Book;
 use std::io;
 use std::io::{Read, Write};
@@ -95,8 +94,8 @@ fn say_listeners(out: &mut impl Write, edition: u8, way: u8, octets: &[u8]) -> i
 fn say_verdict(out: &mut impl Write, book: Book, octets: &[u8]) -> io::Result<()> {
     let verdict = message::judge(book, octets);
     match verdict {
-        Verdict::Accepted { size } => say_number(out, b" | read size ", size as u64),
-        Verdict::Declined { fault } => {
+        Ok(size) => say_number(out, b" | read size ", size as u64),
+        Err(fault) => {
             say_number(out, b" | read ", fault.number as u64)?;
             say_number(out, b" at ", fault.place as u64)?;
             say_number(out, b" in ", fault.parameter as u64)

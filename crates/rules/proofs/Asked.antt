@@ -14,7 +14,6 @@ use Rattle.rules.specs.Table.{time_ranges, second_range, duration_ranges, displa
 use Rattle.rules.specs.Charge.{charge_by}
 use Rattle.rules.specs.Terminal.{terminal_by}
 use Rattle.rules.specs.Extension.{extension_by}
-use Rattle.rules.specs.Codes.{class_code}
 use Rattle.rules.specs.ContentJudge.{passing, judge_of, text_judge, head_by, ok_at, remember, good_front}
 use Rattle.rules.specs.OctetRows.{kinds_of, ContentKind, digits, numbers, names, kind_set, mixed, asked_kind, Short, moment, charge, duration, extension, asks, pair_by, calendar_by, mixed_by, ok_by, AskedRow}
 use Rattle.rules.proofs.Returns.{T_of}
@@ -169,10 +168,10 @@ text_judged OldForwarded e d = absurd (T_of false e)
 text_judged OldUser e d = absurd (T_of false e)
 text_judged Unlisted e d = absurd (T_of false e)
 
--- no one kind: dates, terminals and displays are told apart by their codes, and the others are short
-pub the_short : (c : Class) → asked_kind c ≡ mixed → (class_code c ≡ 1 → ⊥) → (class_code c ≡ 15 → ⊥) →
-    (class_code c ≡ 16 → ⊥) → Short c
-unfolding asked_kind class_code
+-- no one kind: all but dates, terminals and displays are short
+pub the_short : (c : Class) → asked_kind c ≡ mixed → (c ≡ Date → ⊥) → (c ≡ Terminal → ⊥) → (c ≡ Display → ⊥) →
+    Short c
+unfolding asked_kind
 the_short Carried e p q r = absurd (omega arith)
 the_short Date e p q r = absurd (p refl)
 the_short Number e p q r = absurd (omega arith)
@@ -200,7 +199,7 @@ the_short Unlisted e p q r = absurd (omega arith)
 module _ (n i m row x : ℕ) (e : row ≡ kinds_of x) where
   -- judged by its own row, an octet is judged by the rules
   pub mixed_ok : (c : Class) → asked_kind c ≡ mixed → mixed_by c n i m row x ≡ ok_at c n i m x
-  unfolding mixed_by asked_kind kind_set pick ◌=?◌ class_code judge_of
+  unfolding mixed_by asked_kind kind_set pick ◌=?◌ judge_of
   mixed_ok Date q =
       ap (λ (d : Bool). calendar_by d time_ranges i m x) (row-digit x row e) ∙ date_by time_ranges i m x
   mixed_ok Moment q =

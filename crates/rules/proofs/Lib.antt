@@ -2,6 +2,7 @@
 -- of the code, and that every public promise settles its answer.
 pub mod Tests
 pub mod Returns
+pub mod Telling
 pub mod Octets
 pub mod Pairwise
 pub mod Laying

@@ -1,13 +1,14 @@
 -- The lengths of a class as the code has them: from the least to the most, and perhaps one other.
 -- Assumes nothing.
 use mathlib.Core.Path.{◌≡◌, refl, sym, ◌∙◌, ap}
-use mathlib.Core.Bool.{Bool, true, false}
+use mathlib.Core.Bool.{Bool, true, false, not, ◌&&◌, ◌||◌}
 use mathlib.Core.List.{List, []}
 use Prim.Native.Nat.{ℕ, ◌≤◌, ◌<◌}
 use lib.Dec.{eqb}
 use Rattle.rules.specs.Tests.{◌=?◌, ◌≤?◌, ◌and◌}
 use Rattle.rules.proofs.Tests.{pick_yes, pick_not, of_eq, eq_of, both, join, le_of, of_le}
 use Rattle.rules.proofs.Returns.{or_t, or_f, or_last, yes_le, no_le, same_truth}
+use Rattle.rules.proofs.Telling.{or_is, eq_is, pick_is}
 use Rattle.rules.specs.Contents.{Range, within, in_set, some_length, only}
 use Rattle.rules.specs.Codes.{ranges}
 use Rattle.rules.specs.Judge.{range_possible, some_possible}
@@ -68,3 +69,15 @@ module _ (l m o n : ℕ) (rs : List Range) (e : rs ≡ ranges l m o) where
       rw e (sym (or_f _ _ _ (no_le _ _ h)
       (or_t _ _ _ (yes_le _ _ (omega arith)) refl
       ∙ sym (ap some_length (pick_not (o =? 0) [] (only o) (λ t. z (eq_of o 0 t)))))))
+
+-- the tests of the code: the range, or the other length where there is one
+module _ (l m o n : ℕ) (rs : List Range) (e : rs ≡ ranges l m o) where
+  pub lengths_are : in_set rs n ≡ (within (l, m) n || (not (eqb o 0) && eqb n o))
+  unfolding ranges in_set
+  lengths_are =
+      grind (arith, e, or_is, eq_is, pick_is, is_within o n)
+
+  pub possible_are : some_possible rs n ≡ (range_possible (l, m) n || (not (eqb o 0) && range_possible (o, o) n))
+  unfolding ranges some_possible
+  possible_are =
+      grind (arith, e, or_is, eq_is, pick_is)

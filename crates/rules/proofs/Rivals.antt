@@ -10,8 +10,7 @@ use lib.Dec.{T}
 use Rattle.rules.specs.Tests.{◌=?◌, ◌and◌, ◌or◌, pick, every}
 use Rattle.rules.proofs.Tests.{pick_not, eq_of, both}
 use Rattle.rules.proofs.Returns.{pick_t, pick_f, yes_eq, no_eq, holds, T_of}
-use Rattle.rules.specs.Table.{Row, rules_of, old_book, plain_row, rows01, rows_old, row_in, row_of, listed_in, listed, class_of, rival_of}
-use Rattle.rules.specs.Codes.{class_code}
+use Rattle.rules.specs.Table.{Row, rules_of, old_book, plain_row, rows01, rows_old, row_in, row_of, listed_in, listed, rowed, class_of, rival_of}
 use Rattle.rules.specs.declared.Class.{Class}
 use Rattle.rules.specs.declared.Book.{Book}
 use Rattle.rules.specs.declared.Book.TheVariants.{PresentStrict, PresentLenient, OldStrict, OldLenient}
@@ -31,10 +30,6 @@ pub last_row : (w : Class) (d : Row) (t : ℕ) → w ≡ d.class → w ≡ (row_
 unfolding row_in
 last_row w d t e = e
 
--- ---- the types with a row: those whose class is neither carried nor unlisted
-unfoldable pub rowed : Class → Bool
-rowed c = pick (class_code c =? 0) false (pick (class_code c =? 22) false true)
-
 listed_in_lem : (d : Row) (rs : List Row) (t : ℕ) → rowed d.class ≡ false →
     T (every (λ (r : Row). rowed r.class) rs) → rowed (row_in d rs t).class ≡ listed_in rs t
 unfolding row_in listed_in every pick ◌or◌
@@ -47,26 +42,11 @@ listed_in_lem d (r ∷ rs) t e h = go (listed_in_lem d rs t e (both _ _ h).1) (t
     go ih false = ih
 
 pub listed_are : (b : Book) (t : ℕ) → rowed (class_of (rules_of b) t) ≡ listed (rules_of b) t
-unfolding rowed class_code class_of row_of listed rules_of every ◌and◌ pick ◌=?◌
+unfolding rowed class_of row_of listed rules_of every ◌and◌
 listed_are PresentStrict t = listed_in_lem _ _ t refl tt
 listed_are PresentLenient t = listed_in_lem _ _ t refl tt
 listed_are OldStrict t = listed_in_lem _ _ t refl tt
 listed_are OldLenient t = listed_in_lem _ _ t refl tt
-
-module _ (b : Book) (t k : ℕ) (e : k ≡ class_code (class_of (rules_of b) t)) where
-  pub not_carried : k ≡ 0 → false ≡ listed (rules_of b) t
-  unfolding rowed
-  not_carried z = pick_t _ _ _ _ (yes_eq _ _ (sym e ∙ z)) refl ∙ listed_are b t
-
-  pub not_unlisted : (k ≡ 0 → ⊥) → k ≡ 22 → false ≡ listed (rules_of b) t
-  unfolding rowed
-  not_unlisted n z =
-      pick_f _ _ _ _ (no_eq _ _ (λ x. n (e ∙ x))) (pick_t _ _ _ _ (yes_eq _ _ (sym e ∙ z)) refl) ∙ listed_are b t
-
-  pub with_row : (k ≡ 0 → ⊥) → (k ≡ 22 → ⊥) → true ≡ listed (rules_of b) t
-  unfolding rowed
-  with_row n u =
-      pick_f _ _ _ _ (no_eq _ _ (λ x. n (e ∙ x))) (pick_f _ _ _ _ (no_eq _ _ (λ x. u (e ∙ x))) refl) ∙ listed_are b t
 
 -- ---- a book's class is that of its edition's rows, and of its own class where there is none
 pub in_old : (b : Book) (t : ℕ) (o r : Class) → o ≡ (rules_of b).others → old_book b ≡ true →

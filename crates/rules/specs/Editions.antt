@@ -1,7 +1,7 @@
 -- Editions and ways by their numbers (document 02, Q-5 and Q-11): edition 0 is the present one, 1 the old one; by way 0
 -- types without a row are refused, by way 1 they are carried. Any other number is unknown, and gets 16.
 -- Assumes nothing.
-use Rattle.std.specs.Prelude.{ℕ, Bool}
+use Rattle.std.specs.Prelude.{ℕ, Bool, Option, Some, None}
 use Rattle.rules.specs.Tests.{◌≤?◌, ◌=?◌, ◌and◌, ◌or◌, pick}
 use Rattle.rules.specs.declared.Book.{Book}
 use Rattle.rules.specs.declared.Book.TheVariants.{PresentStrict, PresentLenient, OldStrict, OldLenient}
@@ -32,6 +32,10 @@ book_of e w =
     pick (w =? 1)
     (pick (e =? 0) PresentLenient (pick (e =? 1) OldLenient PresentStrict))
     (pick (e =? 1) OldStrict PresentStrict)
+
+-- the book, where both are known
+abbrev pub known_book : ℕ → ℕ → Option Book
+known_book e w = pick (known e w) (Some (book_of e w)) None
 
 -- the edition that an answer names which has the number k, 0 where it is none: with 16 and 17 it names 0
 unfoldable pub named_by : ℕ → ℕ → ℕ

@@ -9,7 +9,6 @@ use Rattle.rules.specs.Table.{time_ranges, second_range, duration_ranges, displa
 use Rattle.rules.specs.Charge.{charge_by}
 use Rattle.rules.specs.Terminal.{terminal_by}
 use Rattle.rules.specs.Extension.{extension_by}
-use Rattle.rules.specs.Codes.{class_code}
 use Rattle.rules.specs.ContentJudge.{tens_by, ones_by, day_by, head_by, passing, text_judge, ok_at}
 use Rattle.rules.specs.declared.Class.{Class}
 use Rattle.rules.specs.declared.Class.TheVariants.{Carried, Date, Number, Absent, Name, Lamp, Identity, CallType, Waiting, Forwarded, User, ShortText, Moment, Charge, Duration, Terminal, Display, Service, Extension, OldNumber, OldForwarded, OldUser, Unlisted}
@@ -103,14 +102,13 @@ calendar_by d rs (suc (suc (suc (suc i)))) m x = pair_by d rs i m x
 -- may octet x of contents of no one kind stand at index i of n, where m is remembered and the row beside it is what it
 -- is judged by
 unfoldable pub mixed_by : Class → ℕ → ℕ → ℕ → ℕ → ℕ → Bool
-mixed_by c n i m row x =
-    pick (class_code c =? 1) (calendar_by (admitted row 1) time_ranges i m x)
-    (pick (class_code c =? 12) (calendar_by (admitted row 1) (time_ranges ++ second_range ∷ []) i m x)
-    (pick (class_code c =? 13) (charge_by (admitted row 1) (admitted row 8) i m x)
-    (pick (class_code c =? 14) (pair_by (admitted row 1) duration_ranges i m x)
-    (pick (class_code c =? 15) (terminal_by (admitted row 2) n i m x)
-    (pick (class_code c =? 16) (head_by (admitted row 4) display_set i x)
-    (extension_by (admitted row 1) (admitted row 4) i m x))))))
+mixed_by Date n i m row x = calendar_by (admitted row 1) time_ranges i m x
+mixed_by Moment n i m row x = calendar_by (admitted row 1) (time_ranges ++ second_range ∷ []) i m x
+mixed_by Charge n i m row x = charge_by (admitted row 1) (admitted row 8) i m x
+mixed_by Duration n i m row x = pair_by (admitted row 1) duration_ranges i m x
+mixed_by Terminal n i m row x = terminal_by (admitted row 2) n i m x
+mixed_by Display n i m row x = head_by (admitted row 4) display_set i x
+mixed_by c n i m row x = extension_by (admitted row 1) (admitted row 4) i m x
 
 -- the same of any contents
 unfoldable pub ok_by : Class → ℕ → ℕ → ℕ → ℕ → ℕ → Bool

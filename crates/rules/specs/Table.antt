@@ -160,6 +160,12 @@ class_of R t = (row_of R t).class
 unfoldable pub rival_of : Rules → ℕ → ℕ
 rival_of R t = (row_of R t).rival
 
+-- the classes of rows
+unfoldable pub rowed : Class → Bool
+rowed Carried = false
+rowed Unlisted = false
+rowed c = true
+
 -- the number given to a type that cannot stand in its room: 3, and 10 where its class has no length at all (document
 -- 02, Q-11)
 unfoldable pub class_fault : Class → ℕ

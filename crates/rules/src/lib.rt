@@ -3,15 +3,15 @@
 // stand in contents is crate `contents`. Every public function is total.
 #![tactic(auto)]
 
-ghost use Rattle.std.specs.Prelude.{◌≡◌, true, ◌+◌, ◌*◌, ◌-◌};
+ghost use Rattle.std.specs.Prelude.{◌≡◌, true, ◌+◌, ◌*◌, ◌-◌, ◌<◌, MatchResult};
 ghost use Rattle.rules.specs.Tests.{◌=?◌, ◌and◌, ◌or◌};
 ghost use Rattle.rules.specs.Pairwise.{same_octets};
 ghost use Rattle.rules.specs.Octets.{reference_of};
 ghost use Rattle.rules.specs.Contents.{within, in_set};
-ghost use Rattle.rules.specs.Table.{rules_of, old_book, listed, class_of, class_fault, rival_of, form_of, whole, length_fits, row_in, plain_row, rows01, rows_old};
+ghost use Rattle.rules.specs.Table.{rules_of, old_book, listed, rowed, class_of, class_fault, rival_of, form_of, whole, length_fits, row_in, plain_row, rows01, rows_old};
 ghost use Rattle.rules.specs.Codes.{class_code, class_coded, old_codes, code_in, other_length, ranges};
 ghost use Rattle.rules.specs.declared.Book.TheVariants as book;
-ghost use Rattle.rules.specs.Editions.{known, book_of, named_by};
+ghost use Rattle.rules.specs.Editions.{known, book_of, known_book, named_by};
 ghost use Rattle.rules.specs.Editions as editions;
 ghost use Rattle.rules.specs.Message.{message_kind};
 ghost use Rattle.rules.specs.Judge.{room_fits, range_possible};
@@ -34,26 +34,11 @@ const LAST_LISTED: u8 = 21;
 // The first of the classes that the old edition alone has.
 const FIRST_OLD: u8 = 19;
 
-// The codes of classes whose octets are of no one kind.
-pub const DATE: u8 = 1;
-
-pub const MOMENT: u8 = 12;
-
-pub const CHARGE: u8 = 13;
-
-pub const DURATION: u8 = 14;
-
-pub const TERMINAL: u8 = 15;
-
-pub const DISPLAY: u8 = 16;
-
-// The codes of the classes that types without a row have.
+// The code of carried contents.
 const CARRIED: u8 = 0;
 
-const UNLISTED: u8 = 22;
-
 // The classes of contents, in the order of their codes.
-#[derive(Clone, Copy)]
+#[derive(Clone, Copy, PartialEq, Eq)]
 pub enum Class {
     Carried,
     Date,
@@ -178,50 +163,52 @@ pub fn is_edition(edition: u8) -> bool
 }
 
 // Are there an edition and a way of these numbers? Where there are not, the answer is 16 (document 02, Q-5 and Q-11).
+#[tactic(auto, using(crate::proofs::Telling::telling), unfolding(crate::specs::Editions::known))]
 pub fn is_known(edition: u8, way: u8) -> bool
     ensures { result ≡ known edition way }
 {
-    if is_edition(edition) {
-        way <= LENIENT
-    } else {
-        false
-    }
+    is_edition(edition) && way <= LENIENT
 }
 
 // The book of an edition and a way. Ask `is_known` first: where one is unknown it is a strict book, by which nothing is
 // judged but the range of a listener.
+#[tactic(auto, using(crate::proofs::Telling::telling), unfolding(crate::specs::Editions::book_of))]
 pub fn book_of(edition: u8, way: u8) -> Book
     ensures { result ≡ book_of edition way }
 {
-    if way == LENIENT {
-        if edition == PRESENT {
-            Book::PresentLenient
-        } else if edition == OLD {
-            Book::OldLenient
-        } else {
-            Book::PresentStrict
-        }
-    } else if edition == OLD {
-        Book::OldStrict
+    match (edition, way) {
+        (PRESENT, LENIENT) => Book::PresentLenient,
+        (OLD, LENIENT) => Book::OldLenient,
+        (OLD, _) => Book::OldStrict,
+        _ => Book::PresentStrict,
+    }
+}
+
+// The book of an edition and a way that are known; where one is unknown the answer is 16 (document 02, Q-5 and Q-11).
+#[tactic(auto, using(crate::proofs::Telling::telling))]
+pub fn known_book(edition: u8, way: u8) -> Option<Book>
+    ensures { result ≡ known_book edition way }
+{
+    if is_known(edition, way) {
+        Some(book_of(edition, way))
     } else {
-        Book::PresentStrict
+        None
     }
 }
 
 // The edition that an answer names which has this number, 0 where it is none: with 16 and 17 it names 0.
+#[tactic(auto, using(crate::proofs::Telling::telling), unfolding(crate::specs::Editions::named_by))]
 pub fn named_by(number: u8, edition: u8) -> u8
     ensures { result ≡ named_by number edition }
 {
-    if number == 16 {
-        0
-    } else if number == 17 {
-        0
-    } else {
-        edition
+    match number {
+        16 | 17 => 0,
+        _ => edition,
     }
 }
 
 // The class of a code; a code of none is read as carried.
+#[tactic(auto, using(crate::proofs::Telling::telling), unfolding(crate::specs::Codes::class_coded))]
 pub fn class_coded(code: u8) -> Class
     ensures { result ≡ class_coded code }
 {
@@ -252,128 +239,126 @@ pub fn class_coded(code: u8) -> Class
     }
 }
 
+#[tactic(auto, unfolding(crate::specs::Codes::class_code))]
 pub fn code_of(c: Class) -> u8
     ensures { result ≡ class_code c }
 {
-    match c {
-        Class::Carried => 0,
-        Class::Date => 1,
-        Class::Number => 2,
-        Class::Absent => 3,
-        Class::Name => 4,
-        Class::Lamp => 5,
-        Class::Identity => 6,
-        Class::CallType => 7,
-        Class::Waiting => 8,
-        Class::Forwarded => 9,
-        Class::User => 10,
-        Class::ShortText => 11,
-        Class::Moment => 12,
-        Class::Charge => 13,
-        Class::Duration => 14,
-        Class::Terminal => 15,
-        Class::Display => 16,
-        Class::Service => 17,
-        Class::Extension => 18,
-        Class::OldNumber => 19,
-        Class::OldForwarded => 20,
-        Class::OldUser => 21,
-        Class::Unlisted => 22,
+    c as u8
+}
+
+impl From<Class> for u8 {
+    ghost from_gives = { λ c k. k ≡ class_code c };
+
+    #[tactic(auto, unfolding(crate::specs::Codes::class_code))]
+    fn from(class: Class) -> u8 {
+        class as u8
+    }
+}
+
+// A code that no class has.
+#[derive(Clone, Copy, PartialEq, Eq)]
+pub struct UnknownClass(pub u8);
+
+impl TryFrom<u8> for Class {
+    type Error = UnknownClass;
+
+    ghost try_from_gives = { λ k r. MatchResult r (λ c. class_code c ≡ k) (λ e. (e.0 ≡ k) × (22 < k)) };
+
+    #[tactic(auto, unfolding(crate::specs::Codes::class_code))]
+    fn try_from(code: u8) -> Result<Class, UnknownClass> {
+        match code {
+            0 => Ok(Class::Carried),
+            1 => Ok(Class::Date),
+            2 => Ok(Class::Number),
+            3 => Ok(Class::Absent),
+            4 => Ok(Class::Name),
+            5 => Ok(Class::Lamp),
+            6 => Ok(Class::Identity),
+            7 => Ok(Class::CallType),
+            8 => Ok(Class::Waiting),
+            9 => Ok(Class::Forwarded),
+            10 => Ok(Class::User),
+            11 => Ok(Class::ShortText),
+            12 => Ok(Class::Moment),
+            13 => Ok(Class::Charge),
+            14 => Ok(Class::Duration),
+            15 => Ok(Class::Terminal),
+            16 => Ok(Class::Display),
+            17 => Ok(Class::Service),
+            18 => Ok(Class::Extension),
+            19 => Ok(Class::OldNumber),
+            20 => Ok(Class::OldForwarded),
+            21 => Ok(Class::OldUser),
+            22 => Ok(Class::Unlisted),
+            _ => Err(UnknownClass(code)),
+        }
     }
 }
 
 // Is it the code of a class that a row of the old edition has: a date, absent, a lamp, a short text, or one of its own?
+#[tactic(auto, using(crate::proofs::Telling::telling), unfolding(crate::specs::Contents::in_set, crate::specs::Contents::within))]
 fn old_code(code: u8) -> bool
     ensures { result ≡ in_set old_codes code }
 {
-    if among(DATE, DATE, code) {
-        true
-    } else if among(3, 3, code) {
-        true
-    } else if among(5, 5, code) {
-        true
-    } else if among(11, 11, code) {
-        true
-    } else {
-        among(FIRST_OLD, LAST_LISTED, code)
-    }
+    matches!(code, 1 | 3 | 5 | 11 | FIRST_OLD..=LAST_LISTED)
 }
 
 // Is it the code of a class that a book has: one of the edition's rows, or carried where the way is not the strict one?
 // Of an unknown edition, of the rows of any.
+#[tactic(auto, using(crate::proofs::Telling::telling), unfolding(crate::specs::Codes::code_in))]
 pub fn code_in(edition: u8, way: u8, code: u8) -> bool
     ensures { result ≡ code_in edition way code }
 {
-    if code == CARRIED {
-        LENIENT <= way
-    } else if edition == PRESENT {
-        code <= LAST_PRESENT
-    } else if edition == OLD {
-        old_code(code)
-    } else {
-        code <= LAST_LISTED
+    match (code, edition) {
+        (CARRIED, _) => LENIENT <= way,
+        (_, PRESENT) => code <= LAST_PRESENT,
+        (_, OLD) => old_code(code),
+        _ => code <= LAST_LISTED,
     }
 }
 
+#[tactic(auto, unfolding(crate::specs::Table::form_of))]
 pub fn form_of(c: Class) -> Form
     ensures { result ≡ form_of c }
 {
     match c {
-        Class::Carried => Form::CarriedValue,
         Class::Date => Form::DateValue,
-        Class::Number => Form::TextValue,
-        Class::Absent => Form::CodeValue,
-        Class::Name => Form::TextValue,
-        Class::Lamp => Form::CodeValue,
-        Class::Identity => Form::StateValue,
-        Class::CallType => Form::CodeValue,
-        Class::Waiting => Form::CodeValue,
-        Class::Forwarded => Form::CodeValue,
-        Class::User => Form::CodeValue,
-        Class::ShortText => Form::TextValue,
         Class::Moment => Form::MomentValue,
-        Class::Charge => Form::TextValue,
         Class::Duration => Form::DurationValue,
-        Class::Terminal => Form::MarkedValue,
-        Class::Display => Form::MarkedValue,
-        Class::Service => Form::CodeValue,
-        Class::Extension => Form::TextValue,
-        Class::OldNumber => Form::TextValue,
-        Class::OldForwarded => Form::CodeValue,
-        Class::OldUser => Form::CodeValue,
-        Class::Unlisted => Form::CarriedValue,
+        Class::Identity => Form::StateValue,
+        Class::Terminal | Class::Display => Form::MarkedValue,
+        Class::Carried | Class::Unlisted => Form::CarriedValue,
+        Class::Number
+        | Class::Name
+        | Class::ShortText
+        | Class::Charge
+        | Class::Extension
+        | Class::OldNumber => Form::TextValue,
+        _ => Form::CodeValue,
     }
 }
 
 // The classes of the present edition's types (document 01, The message; document 02, Q-4); every other type has the
 // class of types without a row.
+#[tactic(auto, using(crate::proofs::Telling::telling), unfolding(crate::specs::Table::row_in))]
 fn present_class(t: u8, others: Class) -> Class
     ensures { result ≡ (row_in (plain_row t others) rows01 t).class }
 {
     match t {
         0x01 => Class::Date,
-        0x02 => Class::Number,
-        0x03 => Class::Number,
-        0x04 => Class::Absent,
+        0x02 | 0x03 | 0x0E | 0x10 | 0x12 | 0x1A => Class::Number,
+        0x04 | 0x08 => Class::Absent,
         0x07 => Class::Name,
-        0x08 => Class::Absent,
         0x0B => Class::Lamp,
         0x0D => Class::Identity,
-        0x0E => Class::Number,
         0x0F => Class::Moment,
-        0x10 => Class::Number,
         0x11 => Class::CallType,
-        0x12 => Class::Number,
         0x13 => Class::Waiting,
         0x15 => Class::Forwarded,
         0x16 => Class::User,
-        0x1A => Class::Number,
-        0x20 => Class::Charge,
-        0x21 => Class::Charge,
-        0x22 => Class::Charge,
+        0x20 | 0x21 | 0x22 => Class::Charge,
         0x23 => Class::Duration,
-        0x30 => Class::ShortText,
-        0x31 => Class::ShortText,
+        0x30 | 0x31 => Class::ShortText,
         0x40 => Class::Terminal,
         0x50 => Class::Display,
         0x55 => Class::Service,
@@ -383,6 +368,7 @@ fn present_class(t: u8, others: Class) -> Class
 }
 
 // The same in the old edition (document 02, Q-5).
+#[tactic(auto, using(crate::proofs::Telling::telling), unfolding(crate::specs::Table::row_in))]
 fn old_class(t: u8, others: Class) -> Class
     ensures { result ≡ (row_in (plain_row t others) rows_old t).class }
 {
@@ -400,38 +386,32 @@ fn old_class(t: u8, others: Class) -> Class
 }
 
 // Is it a book of the old edition?
+#[tactic(auto, unfolding(crate::specs::Table::old_book))]
 fn is_old(b: Book) -> bool
     ensures { result ≡ old_book b }
 {
-    match b {
-        Book::PresentStrict => false,
-        Book::PresentLenient => false,
-        Book::OldStrict => true,
-        Book::OldLenient => true,
-    }
+    matches!(b, Book::OldStrict | Book::OldLenient)
 }
 
 // The number of a book's edition.
+#[tactic(auto, unfolding(crate::specs::Table::rules_of))]
 pub fn edition_of(b: Book) -> u8
     ensures { result ≡ (rules_of b).edition }
 {
     match b {
-        Book::PresentStrict => PRESENT,
-        Book::PresentLenient => PRESENT,
-        Book::OldStrict => OLD,
-        Book::OldLenient => OLD,
+        Book::PresentStrict | Book::PresentLenient => PRESENT,
+        Book::OldStrict | Book::OldLenient => OLD,
     }
 }
 
 // The class of types without a row: they are carried, or refused.
+#[tactic(auto, unfolding(crate::specs::Table::rules_of))]
 fn others_of(b: Book) -> Class
     ensures { result ≡ (rules_of b).others }
 {
     match b {
-        Book::PresentStrict => Class::Unlisted,
-        Book::PresentLenient => Class::Carried,
-        Book::OldStrict => Class::Unlisted,
-        Book::OldLenient => Class::Carried,
+        Book::PresentStrict | Book::OldStrict => Class::Unlisted,
+        Book::PresentLenient | Book::OldLenient => Class::Carried,
     }
 }
 
@@ -449,41 +429,38 @@ pub fn class_of(b: Book, t: u8) -> Class
 pub fn is_listed(b: Book, t: u8) -> bool
     ensures { result ≡ listed (rules_of b) t }
 {
-    let code = code_of(class_of(b, t));
-    if code == CARRIED {
-        false
-    } else if code == UNLISTED {
-        false
-    } else {
-        true
-    }
+    is_rowed(class_of(b, t))
 }
 
+// Is it the class of a row?
+#[tactic(auto, unfolding(crate::specs::Table::rowed))]
+fn is_rowed(c: Class) -> bool
+    ensures { result ≡ rowed c }
+{
+    !matches!(c, Class::Carried | Class::Unlisted)
+}
+
+#[tactic(auto, using(crate::proofs::Telling::telling), unfolding(crate::specs::Table::rival_of, crate::specs::Table::row_of, crate::specs::Table::row_in, crate::specs::Table::rules_of))]
 fn present_rival(t: u8) -> u8
     ensures { result ≡ rival_of (rules_of book.PresentLenient) t }
 {
-    if t == 0x02 {
-        0x04
-    } else if t == 0x04 {
-        0x02
-    } else if t == 0x07 {
-        0x08
-    } else if t == 0x08 {
-        0x07
-    } else {
-        t
+    match t {
+        0x02 => 0x04,
+        0x04 => 0x02,
+        0x07 => 0x08,
+        0x08 => 0x07,
+        _ => t,
     }
 }
 
+#[tactic(auto, using(crate::proofs::Telling::telling), unfolding(crate::specs::Table::rival_of, crate::specs::Table::row_of, crate::specs::Table::row_in, crate::specs::Table::rules_of))]
 fn old_rival(t: u8) -> u8
     ensures { result ≡ rival_of (rules_of book.OldLenient) t }
 {
-    if t == 0x02 {
-        0x04
-    } else if t == 0x04 {
-        0x02
-    } else {
-        t
+    match t {
+        0x02 => 0x04,
+        0x04 => 0x02,
+        _ => t,
     }
 }
 
@@ -500,15 +477,11 @@ pub fn rival_of(b: Book, t: u8) -> u8
 }
 
 // Are types without a row refused?
+#[tactic(auto, using(crate::proofs::Telling::telling), unfolding(crate::specs::Table::rules_of, crate::specs::Table::class_fault, crate::specs::Table::whole, crate::specs::Contents::some_length))]
 pub fn is_strict(b: Book) -> bool
     ensures { result ≡ (class_fault (rules_of b).others =? 10) }
 {
-    match b {
-        Book::PresentStrict => true,
-        Book::PresentLenient => false,
-        Book::OldStrict => true,
-        Book::OldLenient => false,
-    }
+    matches!(b, Book::PresentStrict | Book::OldStrict)
 }
 
 // The lengths of a class: from the least to the most, and perhaps another.
@@ -519,72 +492,50 @@ struct Lengths {
 }
 
 // The other length of a class; 0 where it has none.
+#[tactic(auto, using(crate::proofs::Telling::telling), unfolding(crate::specs::Codes::other_length, crate::specs::Codes::class_code))]
 fn other_length(c: Class) -> u8
     ensures { result ≡ other_length c }
 {
-    if code_of(c) == MOMENT { 10 } else { 0 }
-}
-
-fn lengths_of(c: Class) -> Lengths
-    ensures { (whole c).lengths ≡ ranges result.least result.most (other_length c) }
-{
     match c {
-        Class::Date => Lengths { least: 8, most: 8 },
-        Class::Number => Lengths { least: 1, most: 20 },
-        Class::Absent => Lengths { least: 1, most: 1 },
-        Class::Name => Lengths { least: 1, most: 50 },
-        Class::Lamp => Lengths { least: 1, most: 1 },
-        Class::Identity => Lengths { least: 3, most: 3 },
-        Class::CallType => Lengths { least: 1, most: 1 },
-        Class::Waiting => Lengths { least: 1, most: 1 },
-        Class::Forwarded => Lengths { least: 1, most: 1 },
-        Class::User => Lengths { least: 1, most: 1 },
-        Class::ShortText => Lengths { least: 1, most: 20 },
-        Class::Moment => Lengths { least: 8, most: 8 },
-        Class::Charge => Lengths {
-            least: 14,
-            most: 14,
-        },
-        Class::Duration => Lengths { least: 6, most: 6 },
-        Class::Terminal => Lengths { least: 2, most: 21 },
-        Class::Display => Lengths {
-            least: 1,
-            most: 253,
-        },
-        Class::Service => Lengths { least: 1, most: 1 },
-        Class::Extension => Lengths {
-            least: 10,
-            most: 10,
-        },
-        Class::OldNumber => Lengths { least: 1, most: 18 },
-        Class::OldForwarded => Lengths { least: 1, most: 1 },
-        Class::OldUser => Lengths { least: 1, most: 1 },
-        Class::Unlisted => Lengths { least: 1, most: 0 },
-        Class::Carried => Lengths {
-            least: 1,
-            most: 253,
-        },
+        Class::Moment => 10,
+        _ => 0,
     }
 }
 
+#[tactic(auto, using(crate::proofs::Telling::telling), unfolding(crate::specs::Codes::other_length, crate::specs::Codes::class_code, crate::specs::Table::whole, crate::specs::Codes::ranges))]
+fn lengths_of(c: Class) -> Lengths
+    ensures { (whole c).lengths ≡ ranges result.least result.most (other_length c) }
+{
+    let (least, most) = match c {
+        Class::Date | Class::Moment => (8, 8),
+        Class::Number | Class::ShortText => (1, 20),
+        Class::Name => (1, 50),
+        Class::Identity => (3, 3),
+        Class::Charge => (14, 14),
+        Class::Duration => (6, 6),
+        Class::Terminal => (2, 21),
+        Class::Extension => (10, 10),
+        Class::OldNumber => (1, 18),
+        Class::Display | Class::Carried => (1, 253),
+        Class::Unlisted => (1, 0),
+        _ => (1, 1),
+    };
+    Lengths { least, most }
+}
+
 // The number given to a type of this class where it cannot stand in its room: 10 where the class has no length at all.
+#[tactic(auto, using(crate::proofs::Telling::telling), unfolding(crate::specs::Table::class_fault, crate::specs::Table::whole, crate::specs::Contents::some_length, crate::specs::Codes::ranges))]
 pub fn class_fault(c: Class) -> u8
     ensures { result ≡ class_fault c }
 {
-    let l = lengths_of(c);
-    let least = l.least;
-    let most = l.most;
-    let other = other_length(c);
-    if least <= most {
-        3
-    } else if other == 0 {
-        10
-    } else {
-        3
+    match c {
+        Class::Unlisted => 10,
+        _ => 3,
     }
 }
 
 // Is a number from the first to the second?
+#[tactic(auto, using(crate::proofs::Telling::telling), unfolding(crate::specs::Contents::within))]
 pub fn among(lo: u8, hi: u8, x: u8) -> bool
     ensures { result ≡ within (lo, hi) x }
 {
@@ -596,55 +547,39 @@ fn length_ok(c: Class, n: u8) -> bool
     ensures { result ≡ length_fits c n }
 {
     let l = lengths_of(c);
-    if among(l.least, l.most, n) {
-        true
-    } else {
-        let other = other_length(c);
-        if other == 0 { false } else { n == other }
-    }
+    among(l.least, l.most, n)
+        || {
+            let other = other_length(c);
+            other != 0 && n == other
+        }
 }
 
 // 0 or at least 3 octets are left after a parameter of this length.
+#[tactic(auto, using(crate::proofs::Telling::telling), unfolding(crate::specs::Judge::room_fits))]
 fn room_ok(n: u8, room: u8) -> bool
     ensures { result ≡ room_fits n room }
 {
     let needs = n as u16;
     let wide = room as u16;
-    if wide == needs + 2 {
-        true
-    } else {
-        needs + 5 <= wide
-    }
+    wide == needs + 2 || needs + 5 <= wide
 }
 
 // May a parameter of the class have this length in its room?
+#[tactic(auto, using(crate::proofs::Telling::telling))]
 pub fn length_fits(c: Class, room: u8, n: u8) -> bool
     ensures { result ≡ (length_fits c n and room_fits n room) }
 {
-    if length_ok(c, n) {
-        room_ok(n, room)
-    } else {
-        false
-    }
+    length_ok(c, n) && room_ok(n, room)
 }
 
+#[tactic(auto, using(crate::proofs::Telling::telling), unfolding(crate::specs::Judge::range_possible))]
 fn room_for(lo: u8, hi: u8, room: u8) -> bool
     ensures { result ≡ range_possible (lo, hi) room }
 {
     let least = lo as u16;
     let most = hi as u16;
     let wide = room as u16;
-    if least + 2 <= wide {
-        if wide <= most + 2 {
-            true
-        } else if least + 5 <= wide {
-            least <= most
-        } else {
-            false
-        }
-    } else {
-        false
-    }
+    least + 2 <= wide && (wide <= most + 2 || least + 5 <= wide && least <= most)
 }
 
 // Does one of the lengths of the class fit the room?
@@ -652,43 +587,27 @@ pub fn possible(c: Class, room: u8) -> bool
     ensures { result ≡ judge.possible c room }
 {
     let l = lengths_of(c);
-    if room_for(l.least, l.most, room) {
-        true
-    } else {
-        let other = other_length(c);
-        if other == 0 {
-            false
-        } else {
-            room_for(other, other, room)
+    room_for(l.least, l.most, room)
+        || {
+            let other = other_length(c);
+            other != 0 && room_for(other, other, room)
         }
-    }
 }
 
 // A call message or a notice.
+#[tactic(auto, using(crate::proofs::Telling::telling), unfolding(crate::specs::Message::message_kind))]
 pub fn message_kind(x: u8) -> bool
     ensures { result ≡ message_kind x }
 {
-    if x == 0x80 { true } else { x == 0x82 }
+    matches!(x, 0x80 | 0x82)
 }
 
 // Are two texts the same, octet by octet?
+#[tactic(auto, using(crate::proofs::Telling::same_is))]
 pub fn same_octets(v: &[u8], w: &[u8]) -> bool
     ensures { result ≡ same_octets v.now w.now }
 {
-    let n = v.len();
-    if n == w.len() {
-        let mut i = 0;
-        while i < n {
-            if v[i] == w[i] {
-                i += 1;
-            } else {
-                return false;
-            }
-        }
-        true
-    } else {
-        false
-    }
+    v == w
 }
 
 // The reference that two octets of 0DH say, the high one first.

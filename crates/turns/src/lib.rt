@@ -33,15 +33,14 @@ fn word(number: u8, place: usize, room: u8, sum: u8, parameter: usize) -> u64
 }
 
 // The sum after the octets from a place to another (000, section 2).
+#[tactic(auto, using(crate::proofs::Sums::summing))]
 fn sum_on(s: &[u8], start: usize, end: usize, sum: u8) -> u8
     requires { (start ≤ end) × (end ≤ long s.now) }
     ensures { result ≡ summed sum (take (end - start) (drop start s.now)) }
 {
     let mut total = sum;
-    let mut i = start;
-    while i < end {
-        total = std::num::wrapping_add_u8(total, s[i]);
-        i += 1;
+    for &x in &s[start..end] {
+        total = total.wrapping_add(x);
     }
     total
 }
@@ -91,20 +90,16 @@ fn reached(class: Class, v: &[u8], length: u8) -> usize
     requires { long v.now ≤ 255 }
     ensures { result ≡ passing (judge_of class) length 0 0 v.now }
 {
-    let n = v.len() as u8;
     let kinds = contents::kinds::KINDS;
     let mut memory: u8 = 0;
-    let mut index: u8 = 0;
-    while index < n {
-        let x = v[index as usize];
-        if contents::content_ok(class, length, index, memory, kinds[x as usize], x) {
-            memory = contents::remember(class, length, index, memory, x);
-            index += 1;
-        } else {
-            return index as usize;
+    for (i, &x) in v.iter().enumerate() {
+        let index = i as u8;
+        if !contents::content_ok(class, length, index, memory, kinds[x as usize], x) {
+            return i;
         }
+        memory = contents::remember(class, length, index, memory, x);
     }
-    index as usize
+    v.len()
 }
 
 // Contents in which the octets end.

@@ -1,5 +1,6 @@
 -- How a walk goes on; it refuses nothing, and what it gives lies inside the octets.
 -- Assumes nothing.
+use Rattle.std.proofs.Common.{ℕ, Result, Ok, Err, Option, Some, None}
 use Prim.Native.Nat.{ℕ, zero, suc, ◌+◌, ◌-◌, ◌≤◌, ◌<◌}
 use mathlib.Core.Path.{◌≡◌, refl, ◌∙◌, ap}
 use mathlib.Core.List.{List}
@@ -10,10 +11,7 @@ use Rattle.rules.specs.Tests.{◌=?◌, pick}
 use Rattle.rules.proofs.Tests.{pick_yes, pick_not, pick_case, of_eq, eq_of, clash}
 use Rattle.rules.specs.declared.Fault.{Fault}
 use Rattle.message.specs.declared.Found.{Found}
-use Rattle.message.specs.declared.Found.TheVariants as found
-use Rattle.message.specs.declared.Verdict.{Verdict}
-use Rattle.message.specs.declared.Verdict.TheVariants.{Accepted, Declined}
-use Rattle.message.specs.Parts.{parameter_at}
+use Rattle.message.specs.Parts.{found_at, parameter_at}
 use Rattle.message.proofs.Searching.{found_inside}
 use Rattle.walker.specs.declared.Step.{Step}
 use Rattle.walker.specs.declared.Step.TheVariants.{Parameter, NoMore, Refused}
@@ -29,15 +27,15 @@ module _ (turns : ℕ) (o : List ℕ) (at place : ℕ) where
   unfolding walk_from
   turned h = let z : turns ≡ suc (turns - 1) = omega arith in ap (λ (n : ℕ). walk_from n o at place) z
 
-  pub none_here : 0 < turns → parameter_at o place ≡ found.Nothing → walk_from turns o at place ≡ NoMore
+  pub none_here : 0 < turns → parameter_at o place ≡ None → walk_from turns o at place ≡ NoMore
   unfolding met
-  none_here h e = turned h ∙ ap (λ (x : Found). met at place x (walk_from (turns - 1) o at)) e
+  none_here h e = turned h ∙ ap (λ (x : Option Found). met at place x (walk_from (turns - 1) o at)) e
 
-  module _ (h : 0 < turns) (k start n : ℕ) (e : parameter_at o place ≡ found.Parameter k start n) where
+  module _ (h : 0 < turns) (k start n : ℕ) (e : parameter_at o place ≡ found_at k start n) where
     pub stands : walk_from turns o at place ≡
         pick (place =? at) (Parameter k start n (start + n)) (walk_from (turns - 1) o at (start + n))
     unfolding met
-    stands = turned h ∙ ap (λ (x : Found). met at place x (walk_from (turns - 1) o at)) e
+    stands = turned h ∙ ap (λ (x : Option Found). met at place x (walk_from (turns - 1) o at)) e
 
     pub here : place ≡ at → walk_from turns o at place ≡ Parameter k start n (start + n)
     here d = stands ∙ pick_yes _ _ _ (of_eq _ _ d)
@@ -58,11 +56,11 @@ module _ (o : List ℕ) where
   unfolding told
   plain_none = (refl, λ f e. clash cc)
 
-  met_plain : (at place : ℕ) (f : Found) (go : ℕ → Step) → ((b : ℕ) → Unrefused (go b)) → Unrefused (met at place f go)
+  met_plain : (at place : ℕ) (f : Option Found) (go : ℕ → Step) → ((b : ℕ) → Unrefused (go b)) → Unrefused (met at place f go)
   unfolding met
-  met_plain at place (found.Parameter k start n) go i =
-      pick_case Unrefused _ _ _ (λ _. plain_given k start n (start + n)) (λ _. i (start + n))
-  met_plain at place found.Nothing go i = plain_none
+  met_plain at place (Some one) go i =
+      pick_case Unrefused _ _ _ (λ _. plain_given one.kind one.start one.length (one.start + one.length)) (λ _. i (one.start + one.length))
+  met_plain at place None go i = plain_none
 
   pub walk_plain : (turns at place : ℕ) → Unrefused (walk_from turns o at place)
   unfolding walk_from
@@ -74,12 +72,12 @@ module _ (o : List ℕ) where
   abbrev Inside : Step → Type 0
   Inside r = (told r).start + (told r).size ≤ length o
 
-  met_inside : (at place : ℕ) (f : Found) → f ≡ parameter_at o place → (go : ℕ → Step) → ((b : ℕ) → Inside (go b)) →
+  met_inside : (at place : ℕ) (f : Option Found) → f ≡ parameter_at o place → (go : ℕ → Step) → ((b : ℕ) → Inside (go b)) →
       Inside (met at place f go)
   unfolding met told
-  met_inside at place (found.Parameter k start n) e go i =
-      pick_case Inside _ _ _ (λ _. omega (arith, found_inside o place _ k start n e refl)) (λ _. i (start + n))
-  met_inside at place found.Nothing e go i = omega arith
+  met_inside at place (Some one) e go i =
+      pick_case Inside _ _ _ (λ _. omega (arith, found_inside o place _ one.kind one.start one.length e refl)) (λ _. i (one.start + one.length))
+  met_inside at place None e go i = omega arith
 
   walk_inside : (turns at place : ℕ) → Inside (walk_from turns o at place)
   unfolding walk_from told
@@ -87,7 +85,7 @@ module _ (o : List ℕ) where
   walk_inside (suc turns) at place =
       met_inside at place (parameter_at o place) refl (walk_from turns o at) (walk_inside turns at)
 
-  pub under_inside : (v : Verdict) (at : ℕ) → Inside (step_under v o at)
+  pub under_inside : (v : Result ℕ Fault) (at : ℕ) → Inside (step_under v o at)
   unfolding step_under told
-  under_inside (Accepted n) at = walk_inside most at 2
-  under_inside (Declined f) at = omega arith
+  under_inside (Ok n) at = walk_inside most at 2
+  under_inside (Err f) at = omega arith

@@ -1,6 +1,7 @@
 -- The walker gives what is promised: its step follows the verdict on the octets, and in a message the walk meets each
 -- parameter where it begins; so one call after the other gives all the parameters in order, then none for ever.
 -- Assumes nothing.
+use Rattle.std.proofs.Common.{ℕ, Result, Ok, Err}
 use Prim.Native.Nat.{ℕ, zero, suc, ◌+◌, ◌≤◌}
 use mathlib.Core.Path.{◌≡◌, refl, sym, ◌∙◌, ap, ap₂, subst}
 use mathlib.Core.Logic.Iff
@@ -18,8 +19,6 @@ use Rattle.rules.specs.Message as message
 use Rattle.rules.specs.Message.{Message, body, front, octets, LegalMessage, most}
 use Rattle.rules.specs.declared.Fault.{Fault}
 use Rattle.rules.specs.Refusals.{noted_in}
-use Rattle.message.specs.declared.Verdict.{Verdict}
-use Rattle.message.specs.declared.Verdict.TheVariants.{Accepted, Declined}
 use Rattle.message.specs.Verdict.{verdict_of}
 use Rattle.message.specs.Judges.{Judges, verdict_number}
 use Rattle.message.proofs.Judges.{judges_calls, told_small}
@@ -39,27 +38,27 @@ use Rattle.walker.specs.Walks.{Begins, Gives, StepAt, Walks}
 
 -- ---- the step and the verdict
 module _ (o : List ℕ) (at : ℕ) where
-  accepted_is : (v : Verdict) (n : ℕ) → v ≡ Accepted n → step_under v o at ≡ walk_from most o at 2
+  accepted_is : (v : Result ℕ Fault) (n : ℕ) → v ≡ Ok n → step_under v o at ≡ walk_from most o at 2
   unfolding step_under
   accepted_is v n e = rw e
 
-  accepted_of : (v : Verdict) → ((f : Fault) → v ≡ Declined f → 1 ≤ f.number) →
-      (told (step_under v o at)).number ≡ 0 → (n : ℕ) × (v ≡ Accepted n)
+  accepted_of : (v : Result ℕ Fault) → ((f : Fault) → v ≡ Err f → 1 ≤ f.number) →
+      (told (step_under v o at)).number ≡ 0 → (n : ℕ) × (v ≡ Ok n)
   unfolding step_under told
-  accepted_of (Accepted n) h e = (n, refl)
-  accepted_of (Declined f) h e = absurd (omega (arith, h f refl))
+  accepted_of (Ok n) h e = (n, refl)
+  accepted_of (Err f) h e = absurd (omega (arith, h f refl))
 
-  refused_of : (v : Verdict) (f : Fault) → (step_under v o at ≡ Refused f) ↔ (v ≡ Declined f)
+  refused_of : (v : Result ℕ Fault) (f : Fault) → (step_under v o at ≡ Refused f) ↔ (v ≡ Err f)
   unfolding step_under
-  refused_of (Accepted n) f = (λ e. absurd ((walk_plain o most at 2).1 f e), λ e. clash cc)
-  refused_of (Declined g) f = (λ e. cc, λ e. cc)
+  refused_of (Ok n) f = (λ e. absurd ((walk_plain o most at 2).1 f e), λ e. clash cc)
+  refused_of (Err g) f = (λ e. cc, λ e. cc)
 
-  numbers_of_lem : (R : Rules) (v : Verdict) →
-      ((f : Fault) → v ≡ Declined f → T (verdict_number (calls R) f.number)) →
+  numbers_of_lem : (R : Rules) (v : Result ℕ Fault) →
+      ((f : Fault) → v ≡ Err f → T (verdict_number (calls R) f.number)) →
       ((told (step_under v o at)).number ≡ 0) ⊎ T (verdict_number (calls R) (told (step_under v o at)).number)
   unfolding step_under told
-  numbers_of_lem R (Accepted n) h = inl (walk_plain o most at 2).0
-  numbers_of_lem R (Declined f) h = inr (h f refl)
+  numbers_of_lem R (Ok n) h = inl (walk_plain o most at 2).0
+  numbers_of_lem R (Err f) h = inr (h f refl)
 
 place_stays : (at : ℕ) (r : Step) → (told r).more ≡ 0 → next_place at r ≡ at
 unfolding told next_place
@@ -165,7 +164,7 @@ module _ (R : Rules) (S : SoundRules R) where
         ∙ walk_ended o c most 2 m.parameters calls stand (few R S m l) h
 
   module _ (o : List ℕ) (q : Octets o) (at : ℕ) where
-    abbrev v : Verdict
+    abbrev v : Result ℕ Fault
     v = verdict_of R o
 
     abbrev J : Judges (calls R) o v

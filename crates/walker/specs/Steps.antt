@@ -1,15 +1,13 @@
 -- What stands at a place of a message (document 01, Drafts: the tool that walks the parameters of one lent message).
 -- Assumes nothing.
-use Rattle.std.specs.Prelude.{ℕ, zero, suc, ◌+◌, List}
+use Rattle.std.specs.Prelude.{ℕ, zero, suc, ◌+◌, List, Result, Ok, Err, Option, Some, None}
 use Rattle.rules.specs.Message.{most}
 use Rattle.rules.specs.Tests.{◌=?◌, pick}
 use Rattle.rules.specs.Table.{Rules, rules_of}
 use Rattle.rules.specs.Editions.{known, book_of}
 use Rattle.rules.specs.Refusals.{noted}
-use Rattle.message.specs.declared.Verdict.{Verdict}
-use Rattle.message.specs.declared.Verdict.TheVariants.{Accepted, Declined}
+use Rattle.rules.specs.declared.Fault.{Fault}
 use Rattle.message.specs.declared.Found.{Found}
-use Rattle.message.specs.declared.Found.TheVariants as found
 use Rattle.message.specs.Verdict.{verdict_of}
 use Rattle.message.specs.Parts.{parameter_at}
 use Rattle.walker.specs.declared.Step.{Step}
@@ -18,10 +16,10 @@ use Rattle.walker.specs.declared.Stepped.{Stepped}
 
 -- the walk stands at a place and finds a parameter there: it is given where that is the place asked for, else the
 -- walk goes on behind it
-unfoldable pub met : ℕ → ℕ → Found → (ℕ → Step) → Step
-met at place (found.Parameter k start n) onward =
-    pick (place =? at) (Parameter k start n (start + n)) (onward (start + n))
-met at place found.Nothing onward = NoMore
+unfoldable pub met : ℕ → ℕ → Option Found → (ℕ → Step) → Step
+met at place (Some one) onward =
+    pick (place =? at) (Parameter one.kind one.start one.length (one.start + one.length)) (onward (one.start + one.length))
+met at place None onward = NoMore
 
 -- what stands at the place `at`, for a walk that stands at `place`; each parameter takes one of the turns
 unfoldable pub walk_from : ℕ → List ℕ → ℕ → ℕ → Step
@@ -30,9 +28,9 @@ walk_from (suc turns) o at place = met at place (parameter_at o place) (walk_fro
 
 -- octets that the whole read declines get its refusal; of a message the walk begins at 2 and meets 85
 -- parameters at most
-unfoldable pub step_under : Verdict → List ℕ → ℕ → Step
-step_under (Accepted n) o at = walk_from most o at 2
-step_under (Declined f) o at = Refused f
+unfoldable pub step_under : Result ℕ Fault → List ℕ → ℕ → Step
+step_under (Ok n) o at = walk_from most o at 2
+step_under (Err f) o at = Refused f
 
 -- what stands at the place `at` of the octets o, by the whole read's verdict on o
 unfoldable pub step_of : Rules → List ℕ → ℕ → Step

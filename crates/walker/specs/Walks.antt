@@ -1,13 +1,13 @@
 -- What the walker gives, over the written rules (document 01, Drafts): each parameter where it begins, none anywhere
 -- else, refusals exactly as the whole read's; by a book, and by an edition and a way (document 02, Q-5 and Q-11).
 -- Assumes nothing.
-use Rattle.std.specs.Prelude.{ℕ, ◌+◌, ◌≤◌, ◌<◌, ◌≡◌, ◌⊎◌, ◌↔◌, List, ◌∷◌, ◌++◌, length, take, drop, T}
+use Rattle.std.specs.Prelude.{ℕ, ◌+◌, ◌≤◌, ◌<◌, ◌≡◌, ◌⊎◌, ◌↔◌, List, ◌∷◌, ◌++◌, length, take, drop, T, Result}
 use Rattle.rules.specs.Table.{Rules, rules_of}
 use Rattle.rules.specs.Editions.{known, book_of}
+use Rattle.rules.specs.declared.Fault.{Fault}
 use Rattle.message.specs.Told as message
 use Rattle.rules.specs.Message.{Message, Parameter, body, octets, LegalMessage, Accepts}
 use Rattle.rules.specs.Language.{calls}
-use Rattle.message.specs.declared.Verdict.{Verdict}
 use Rattle.message.specs.Judges.{Judges, verdict_number}
 use Rattle.walker.specs.declared.Step.{Step}
 use Rattle.walker.specs.declared.Stepped.{Stepped}
@@ -56,7 +56,7 @@ pub record Walks (R : Rules) (o : List ℕ) (at : ℕ) (r : Step) : Type 0 where
   -- number 0 exactly when the octets are a message, whatever the place
   pub done : ((told r).number ≡ 0) ↔ Accepts R o
   -- refused exactly as the whole read declines the octets, with its number, place and parameter
-  pub verdict : Verdict
+  pub verdict : Result ℕ Fault
   pub judged : Judges (calls R) o verdict
   pub refused : (k p b : ℕ) → 1 ≤ k → (told r ≡ refusal k p b) ↔ (message.told verdict ≡ message.refusal k p b)
   -- where no parameter is given, the next call's place is the same

@@ -9,7 +9,7 @@ ghost use Rattle.rules.specs.Message.{most};
 ghost use Rattle.walker.specs.Steps.{walk_from, step_of, step_in, next_place};
 ghost use Rattle.walker.specs.Moves.{Begun, Seen, Moved};
 
-use message::{Found, Verdict};
+use message::Found;
 use rules::{Book, Fault};
 
 // A parameter: its type, where its contents start, how long they are, and the place behind them; or none; or a
@@ -42,11 +42,13 @@ fn walk_to(message: &[u8], at: usize) -> Step
     while 0 < turns {
         let found = message::parameter(message, place);
         match found {
-            Found::Parameter {
-                kind,
-                start,
-                length,
-            } => {
+            Some(
+                Found {
+                    kind,
+                    start,
+                    length,
+                },
+            ) => {
                 let next = start + length as usize;
                 if place == at {
                     return Step::Parameter {
@@ -59,7 +61,7 @@ fn walk_to(message: &[u8], at: usize) -> Step
                 place = next;
                 turns -= 1;
             }
-            Found::Nothing => {
+            None => {
                 return Step::NoMore;
             }
         }
@@ -74,25 +76,25 @@ fn step_by(book: Book, message: &[u8], at: usize) -> Step
 {
     let verdict = message::judge(book, message);
     match verdict {
-        Verdict::Accepted { size } => walk_to(message, at),
-        Verdict::Declined { fault } => Step::Refused(fault),
+        Ok(size) => walk_to(message, at),
+        Err(fault) => Step::Refused(fault),
     }
 }
 
 // What stands at a place, by an edition and a way: 16 where one of them is unknown, at every place.
+#[tactic(auto, using(rules::proofs::Telling::telling), unfolding(crate::specs::Steps::step_in))]
 pub fn step_at(edition: u8, way: u8, message: &[u8], at: usize) -> Stepped
     ensures { result ≡ step_in edition way message.now at }
 {
-    if rules::is_known(edition, way) {
-        Stepped {
+    match rules::known_book(edition, way) {
+        Some(book) => Stepped {
             edition,
-            step: step_by(rules::book_of(edition, way), message, at),
-        }
-    } else {
-        Stepped {
+            step: step_by(book, message, at),
+        },
+        None => Stepped {
             edition: 0,
             step: Step::Refused(rules::noted(16, 0)),
-        }
+        },
     }
 }
 

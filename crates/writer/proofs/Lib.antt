@@ -1,4 +1,5 @@
 -- The root of the proofs.
+pub mod Sums
 pub mod Told
 pub mod Contents
 pub mod Entries

@@ -254,18 +254,13 @@ fn measure_entries(book: Book, draft: Draft, texts: &[u8]) -> Measure
     requires { draft.count ≤ most }
     ensures { result ≡ measure_from (rules_of book) texts.now 0 0 (used draft) }
 {
-    let n = draft.count;
-    let entries = draft.entries;
     let mut size: usize = 0;
-    let mut i = 0;
-    while i < n {
-        let e = entries[i];
-        let length = entry_length(book, e, texts);
+    for i in 0..draft.count {
+        let length = entry_length(book, draft.entries[i], texts);
         if length == 0 {
             return Measure::Bad(i as u16);
         }
         size += 2 + length as usize;
-        i += 1;
     }
     Measure::Size(size)
 }
@@ -355,17 +350,11 @@ fn put_front(draft: Draft, texts: &[u8], out: &mut [u8], size: u8) -> usize
     requires { Layable draft texts.now (list.length out.old) size }
     ensures { (out.new ≡ laid (front (message_of draft texts.now)) out.old) × (result ≡ list.length (front (message_of draft texts.now))) }
 {
-    let n = draft.count;
-    let entries = draft.entries;
     out[0] = draft.kind;
     out[1] = size;
     let mut at = 2;
-    let mut next = 0;
-    while next < n {
-        let e = entries[next];
-        let taken = put_entry(&mut out[at..], e, texts);
-        at += taken;
-        next += 1;
+    for next in 0..draft.count {
+        at += put_entry(&mut out[at..], draft.entries[next], texts);
     }
     at
 }
@@ -397,34 +386,33 @@ fn write_by(book: Book, draft: Draft, texts: &[u8], out: &mut [u8]) -> Written
 }
 
 // The sum of octets modulo 256 (000, section 2).
+#[tactic(auto, using(crate::proofs::Sums::summing))]
 pub fn sum_of(s: &[u8]) -> u8
     ensures { result ≡ total s.now % 256 }
 {
     let mut sum: u8 = 0;
-    let mut i = 0;
-    while i < s.len() {
-        sum = std::num::wrapping_add_u8(sum, s[i]);
-        i += 1;
+    for &x in s {
+        sum = sum.wrapping_add(x);
     }
     sum
 }
 
 // Writes the message that a draft stands for, by the draft's edition: 16 where that or the way is unknown, and the
 // output stays.
+#[tactic(auto, using(rules::proofs::Telling::telling), unfolding(crate::specs::Writing::write_in, crate::specs::Writing::output_after))]
 pub fn write(way: u8, draft: Draft, texts: &[u8], out: &mut [u8]) -> Writing
     ensures answer { result ≡ write_in way draft texts.now (list.length out.old) }
     ensures output { out.new ≡ output_after result.answer (octets (message_of draft texts.now)) out.old }
 {
     let edition = draft.edition;
-    if rules::is_known(edition, way) {
-        Writing {
+    match rules::known_book(edition, way) {
+        Some(book) => Writing {
             edition,
-            answer: write_by(rules::book_of(edition, way), draft, texts, out),
-        }
-    } else {
-        Writing {
+            answer: write_by(book, draft, texts, out),
+        },
+        None => Writing {
             edition: 0,
             answer: refusal(16, 0),
-        }
+        },
     }
 }

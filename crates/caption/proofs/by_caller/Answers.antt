@@ -11,15 +11,15 @@ by_entry-requires c =
     omega (
       arith,
       counted_inside _ _ _ _ _
-          (sym c.counted-part.ensures ∙ c.in-At.is),
+          (sym c.counted-part.ensures ∙ c.in-Some.is),
     )
 
-pub returns-in-At : goal.returns-in-At
+pub returns-in-Some : goal.returns-in-Some
 unfolding by_caller
-returns-in-At c =
-    rw (sym c.counted-part.ensures ∙ c.in-At.is)
+returns-in-Some c =
+    rw (sym c.counted-part.ensures ∙ c.in-Some.is)
     c.by_entry.ensures
 
-pub returns-in-Nowhere : goal.returns-in-Nowhere
+pub returns-in-None : goal.returns-in-None
 unfolding by_caller
-returns-in-Nowhere c = rw (sym c.counted-part.ensures ∙ c.in-Nowhere.is) refl
+returns-in-None c = rw (sym c.counted-part.ensures ∙ c.in-None.is) refl

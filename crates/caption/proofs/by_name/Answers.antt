@@ -4,10 +4,10 @@ use mathlib.Core.Path.{refl, sym, ◌∙◌}
 use Rattle.caption.specs.Caption.{by_name}
 use Rattle.caption.proofs.by_name.Goals as goal
 
-pub returns-in-At : goal.returns-in-At
+pub returns-in-Some : goal.returns-in-Some
 unfolding by_name
-returns-in-At c = rw (sym c.counted-part.ensures ∙ c.in-At.is) refl
+returns-in-Some c = rw (sym c.counted-part.ensures ∙ c.in-Some.is) refl
 
-pub returns-in-Nowhere : goal.returns-in-Nowhere
+pub returns-in-None : goal.returns-in-None
 unfolding by_name
-returns-in-Nowhere c = rw (sym c.counted-part.ensures ∙ c.in-Nowhere.is) c.by_caller.ensures
+returns-in-None c = rw (sym c.counted-part.ensures ∙ c.in-None.is) c.by_caller.ensures

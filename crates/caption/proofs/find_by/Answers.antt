@@ -4,12 +4,12 @@ use mathlib.Core.Path.{refl, sym, ◌∙◌}
 use Rattle.caption.specs.Caption.{find_under, find_of}
 use Rattle.caption.proofs.find_by.Goals as goal
 
-pub returns-in-Accepted : goal.returns-in-Accepted
+pub returns-in-Ok : goal.returns-in-Ok
 unfolding find_of find_under
-returns-in-Accepted c =
-    rw (sym c.judge-verdict.ensures ∙ c.in-Accepted.is)
+returns-in-Ok c =
+    rw (sym c.judge-verdict.ensures ∙ c.in-Ok.is)
     c.by_name.ensures
 
-pub returns-in-Declined : goal.returns-in-Declined
+pub returns-in-Err : goal.returns-in-Err
 unfolding find_of find_under
-returns-in-Declined c = rw (sym c.judge-verdict.ensures ∙ c.in-Declined.is) refl
+returns-in-Err c = rw (sym c.judge-verdict.ensures ∙ c.in-Err.is) refl

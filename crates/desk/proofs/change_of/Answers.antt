@@ -10,21 +10,21 @@ use Rattle.desk.proofs.change_of.Goals as goal
 
 pub overflow_add-end : goal.overflow_add-end
 overflow_add-end c =
-    let h = counted_inside _ _ _ _ _ (sym c.counted-part.ensures ∙ c.in-At.is) in
+    let h = counted_inside _ _ _ _ _ (sym c.counted-part.ensures ∙ c.in-Some.is) in
     search (rules, h)
 
 pub slice_bounds-change_in-end : goal.slice_bounds-change_in-end
 slice_bounds-change_in-end c =
-    let h = counted_inside _ _ _ _ _ (sym c.counted-part.ensures ∙ c.in-At.is) in
+    let h = counted_inside _ _ _ _ _ (sym c.counted-part.ensures ∙ c.in-Some.is) in
     omega (arith, h)
 
-pub returns-in-At : goal.returns-in-At
+pub returns-in-Some : goal.returns-in-Some
 unfolding change_of
-returns-in-At c =
+returns-in-Some c =
     let f = c.counted-part.ensures in
-    let e = c.in-At.is in
+    let e = c.in-Some.is in
     rw (counts_slice _ _ _ _ f _ _ e) c.change_in.ensures
 
-pub returns-in-Nowhere : goal.returns-in-Nowhere
+pub returns-in-None : goal.returns-in-None
 unfolding change_of
-returns-in-Nowhere c = rw (counts_none _ _ _ _ c.counted-part.ensures c.in-Nowhere.is) refl
+returns-in-None c = rw (counts_none _ _ _ _ c.counted-part.ensures c.in-None.is) refl

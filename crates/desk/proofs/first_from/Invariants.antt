@@ -8,7 +8,4 @@ use Rattle.desk.specs.References.{place_count, place_with}
 use Rattle.desk.proofs.first_from.Given as goal
 
 abbrev pub invariant-loop-i : goal.invariant-loop-i
-invariant-loop-i l = (l.i ≤ place_count) × (l.i + place_with l.sought (drop l.i l.places) ≡ l.from + place_with l.sought (drop l.from l.places))
-
-abbrev pub decreases-loop-i : goal.decreases-loop-i
-decreases-loop-i l = place_count - l.i
+invariant-loop-i l = l.i + place_with l.sought (drop l.i l.places) ≡ l.from + place_with l.sought (drop l.from l.places)

@@ -8,13 +8,13 @@ use Rattle.desk.proofs.Counted.{start_inside, first_octet, counts_none, counts_s
 use Rattle.desk.proofs.lamp_after.Goals as goal
 
 pub bounds-octets-start : goal.bounds-octets-start
-bounds-octets-start c = start_inside _ _ c.requires _ _ _ (sym c.counted-part.ensures ∙ c.in-At.is)
+bounds-octets-start c = start_inside _ _ c.requires _ _ _ (sym c.counted-part.ensures ∙ c.in-Some.is)
 
 pub returns-then-octets-start-eq0 : goal.returns-then-octets-start-eq0
 unfolding lamp_after
 returns-then-octets-start-eq0 c =
     let f = c.counted-part.ensures in
-    let e = c.in-At.is in
+    let e = c.in-Some.is in
     let x = first_octet _ _ c.requires _ _ _ (sym f ∙ e) in
     rw (counts_some _ _ _ _ f _ _ e) (pick_t _ _ _ _ (yes_eq _ _ (x ∙ c.if-octets-start-eq0.true)) refl)
 
@@ -22,10 +22,10 @@ pub returns-else-octets-start-eq0 : goal.returns-else-octets-start-eq0
 unfolding lamp_after
 returns-else-octets-start-eq0 c =
     let f = c.counted-part.ensures in
-    let e = c.in-At.is in
+    let e = c.in-Some.is in
     let x = first_octet _ _ c.requires _ _ _ (sym f ∙ e) in
     rw (counts_some _ _ _ _ f _ _ e) (pick_f _ _ _ _ (no_eq _ _ (λ z. c.if-octets-start-eq0.false (sym x ∙ z))) refl)
 
-pub returns-in-Nowhere : goal.returns-in-Nowhere
+pub returns-in-None : goal.returns-in-None
 unfolding lamp_after
-returns-in-Nowhere c = rw (counts_none _ _ _ _ c.counted-part.ensures c.in-Nowhere.is) refl
+returns-in-None c = rw (counts_none _ _ _ _ c.counted-part.ensures c.in-None.is) refl

@@ -8,7 +8,4 @@ use Rattle.desk.specs.References.{place_count, places_fit}
 use Rattle.desk.proofs.places_fit.Given as goal
 
 abbrev pub invariant-loop-i : goal.invariant-loop-i
-invariant-loop-i l = (l.i ≤ place_count) × (places_fit l.places ≡ places_fit (drop l.i l.places))
-
-abbrev pub decreases-loop-i : goal.decreases-loop-i
-decreases-loop-i l = place_count - l.i
+invariant-loop-i l = places_fit l.places ≡ places_fit (drop l.i l.places)

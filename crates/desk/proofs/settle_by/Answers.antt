@@ -13,19 +13,19 @@ pub settle_message-requires : goal.settle_message-requires
 settle_message-requires c =
     let o = octets_at c.args.octets.now (λ i. omega (arith, c.type_inv.octets i)) in
     ((accepted_iff (judges_of c.args.book _ o) _).0
-    (sym c.judge-verdict.ensures ∙ c.in-Accepted.is)).1
+    (sym c.judge-verdict.ensures ∙ c.in-Ok.is)).1
 
-pub returns-in-Accepted : goal.returns-in-Accepted
+pub returns-in-Ok : goal.returns-in-Ok
 unfolding settle_of settled_under
-returns-in-Accepted c =
+returns-in-Ok c =
     pick_t _ _ _ _ (via _ _ _ c.places_fit.ensures c.if-places_fit.true)
-    (rw (sym c.judge-verdict.ensures ∙ c.in-Accepted.is) c.settle_message.ensures)
+    (rw (sym c.judge-verdict.ensures ∙ c.in-Ok.is) c.settle_message.ensures)
 
-pub returns-in-Declined : goal.returns-in-Declined
+pub returns-in-Err : goal.returns-in-Err
 unfolding settle_of settled_under
-returns-in-Declined c =
+returns-in-Err c =
     pick_t _ _ _ _ (via _ _ _ c.places_fit.ensures c.if-places_fit.true)
-    (rw (sym c.judge-verdict.ensures ∙ c.in-Declined.is) refl)
+    (rw (sym c.judge-verdict.ensures ∙ c.in-Err.is) refl)
 
 pub returns-else-places_fit : goal.returns-else-places_fit
 unfolding settle_of

@@ -8,15 +8,15 @@ use Rattle.desk.proofs.Counted.{start_inside, first_octet, counts_none, counts_s
 use Rattle.desk.proofs.waiting_after.Goals as goal
 
 pub bounds-octets-start : goal.bounds-octets-start
-bounds-octets-start c = start_inside _ _ c.requires _ _ _ (sym c.counted-part.ensures ∙ c.in-At.is)
+bounds-octets-start c = start_inside _ _ c.requires _ _ _ (sym c.counted-part.ensures ∙ c.in-Some.is)
 
-pub returns-in-At : goal.returns-in-At
+pub returns-in-Some : goal.returns-in-Some
 unfolding waiting_after
-returns-in-At c =
+returns-in-Some c =
     let f = c.counted-part.ensures in
-    let e = c.in-At.is in
+    let e = c.in-Some.is in
     rw (counts_some _ _ _ _ f _ _ e) (ap Number (sym (first_octet _ _ c.requires _ _ _ (sym f ∙ e))))
 
-pub returns-in-Nowhere : goal.returns-in-Nowhere
+pub returns-in-None : goal.returns-in-None
 unfolding waiting_after
-returns-in-Nowhere c = rw (counts_none _ _ _ _ c.counted-part.ensures c.in-Nowhere.is) refl
+returns-in-None c = rw (counts_none _ _ _ _ c.counted-part.ensures c.in-None.is) refl

@@ -30,7 +30,7 @@ by_book e o c t w d u b b' p x = subst (Left e o c t w d u) p x
 pub lay_draft-used-requires : goal.lay_draft-used-requires
 lay_draft-used-requires c = (
   c.requires,
-  (fits_whole _ _ _ (sym c.in-Fits.is ∙ c.fits-fitting.ensures)).enough,
+  (fits_whole _ _ _ (sym c.in-Ok.is ∙ c.fits-fitting.ensures)).enough,
 )
 
 pub overflow_cast-used : goal.overflow_cast-used
@@ -40,30 +40,30 @@ overflow_cast-used c =
       arith,
       c.lay_draft-used.ensures.used,
       fits_small _ (sound_rules _) _ octets _
-          (sym c.in-Fits.is ∙ c.fits-fitting.ensures),
+          (sym c.in-Ok.is ∙ c.fits-fitting.ensures),
     )
 
-pub returns-in-Fits : goal.returns-in-Fits
+pub returns-in-Ok : goal.returns-in-Ok
 unfolding record_from packed_word told
-returns-in-Fits c =
+returns-in-Ok c =
     let laid = c.lay_draft-used.ensures in
     let octets = c.args.octets.now in
     let p = packs_whole _ octets c.args.texts.now
-    (sym c.in-Fits.is ∙ c.fits-fitting.ensures) _ _ laid.used laid.texts in
+    (sym c.in-Ok.is ∙ c.fits-fitting.ensures) _ _ laid.used laid.texts in
     let x = by_book _ octets c.args.cells.now c.args.texts.now _ _ _ _ _ c.book_of-book.ensures (
       c.packed.ensures ∙ ap (packed_word _) p.answer,
       (laid.cells ∙ ap (record_from _ octets c.args.cells.now) p.answer, p.area_is),
     ) in
     record { answer = x.0; cells = x.1.0; texts = x.1.1 }
 
-pub returns-in-Refused : goal.returns-in-Refused
+pub returns-in-Err : goal.returns-in-Err
 unfolding record_from packed_word told
-returns-in-Refused c =
+returns-in-Err c =
     let octets = c.args.octets.now in
     let p = packs_refused _ octets c.args.texts.now _
-    (sym c.in-Refused.is ∙ c.fits-fitting.ensures) in
+    (sym c.in-Err.is ∙ c.fits-fitting.ensures) in
     let x = by_book _ octets c.args.cells.now c.args.texts.now _ _ _ _ _ c.book_of-book.ensures (
-      c.packed-in-Refused.ensures ∙ ap (packed_word _) p.answer,
+      c.packed-in-Err.ensures ∙ ap (packed_word _) p.answer,
       (ap (record_from _ octets c.args.cells.now) p.answer, p.area_is),
     ) in
     record { answer = x.0; cells = x.1.0; texts = x.1.1 }

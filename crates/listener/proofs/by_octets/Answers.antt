@@ -2,7 +2,7 @@
 -- contents that it has come to. The measure is what is left of the run. A turn reads its octet and its row and judges
 -- it; then it goes further, or stops.
 -- Assumes nothing.
-use Rattle.std.proofs.Common.{◌<◌, refl, ◌∙◌, arith}
+use Rattle.std.proofs.Common.{◌≡◌, ◌<◌, refl, ◌∙◌, arith}
 use lib.ListN as list
 use Rattle.rules.specs.Judge.{stands_in}
 use Rattle.rules.proofs.ContentLaw.{sound_rules}
@@ -25,61 +25,47 @@ further-next-requires c =
       place_small _ (sound_rules _) _ _ turn.invariant.is_in_range,
     )
 
-pub overflow_add-result : goal.overflow_add-result
-overflow_add-result c =
-    let octets-good = c.well_formed.1.1.1.1.1.1.0 in
-    omega (arith, c.loop-i-test.true, octets-good)
-
 pub returns-then-index-f : goal.returns-then-index-f
 returns-then-index-f c =
     let turn = c.loop-i in
     let x = list.get_or c.args.octets.now turn.i 0 in
-    let octet : x < 256 = omega (arith, c.shared_slice_known-in-loop-i-1.given turn.i) in
+    let octet : x < 256 = omega (arith, c.type_inv.octets turn.i) in
     stands_over _ (sound_rules _) _ _ _ _ _ _ _ _ turn.invariant c.loop-i-test.true
     octet
     (via _ _ _ (c.content_ok.ensures ∙ asked_ok _ _ _ _ _ x c.row_in-row.ensures)
-    c.if-content_ok.true)
+    c.if-not-content_ok.false)
     _ c.further-next.ensures c.if-index-f.true
-
-pub overflow_add-i : goal.overflow_add-i
-overflow_add-i c =
-    let octets-good = c.well_formed.1.1.1.1.1.1.0 in
-    omega (arith, c.loop-i-test.true, octets-good)
-
-pub loop-i-smaller : goal.loop-i-smaller
-loop-i-smaller c = omega (arith, c.loop-i-test.true)
 
 pub loop-i-preserved : goal.loop-i-preserved
 loop-i-preserved c =
     let turn = c.loop-i in
     let x = list.get_or c.args.octets.now turn.i 0 in
-    let octet : x < 256 = omega (arith, c.shared_slice_known-in-loop-i-1.given turn.i) in
+    let octet : x < 256 = omega (arith, c.type_inv.octets turn.i) in
     stands_more _ (sound_rules _) _ _ _ _ _ _ _ _ turn.invariant c.loop-i-test.true
     octet
     (via _ _ _ (c.content_ok.ensures ∙ asked_ok _ _ _ _ _ x c.row_in-row.ensures)
-    c.if-content_ok.true)
+    c.if-not-content_ok.false)
     _ c.further-next.ensures c.if-index-f.false
 
 pub declined-requires : goal.declined-requires
 unfolding stands_in
 declined-requires c = rw c.content_at-here.ensures refl
 
-pub overflow_add-result-else-content_ok : goal.overflow_add-result-else-content_ok
-overflow_add-result-else-content_ok c = omega arith
-
-pub returns-else-content_ok : goal.returns-else-content_ok
-returns-else-content_ok c =
+pub returns-then-not-content_ok : goal.returns-then-not-content_ok
+returns-then-not-content_ok c =
     let turn = c.loop-i in
     let x = list.get_or c.args.octets.now turn.i 0 in
-    let octet : x < 256 = omega (arith, c.shared_slice_known-in-loop-i-1.given turn.i) in
+    let octet : x < 256 = omega (arith, c.type_inv.octets turn.i) in
     stands_spoilt _ (sound_rules _) _ _ _ _ _ _ _ _ turn.invariant c.loop-i-test.true
     octet
     (via _ _ _ (c.content_ok.ensures ∙ asked_ok _ _ _ _ _ x c.row_in-row.ensures)
-    c.if-content_ok.false)
+    c.if-not-content_ok.true)
     _ c.content_at-here.ensures _ c.declined.ensures
 
 pub returns : goal.returns
 returns c =
     let turn = c.loop-i in
-    stands_ended _ (sound_rules _) _ _ _ _ _ _ _ _ turn.invariant c.loop-i-test.false
-    c.requires.1 _ c.content_at.ensures
+    let end : list.length c.args.octets.now ≡ turn.i = omega (arith, c.requires.1) in
+    rw end
+    (stands_ended _ (sound_rules _) _ _ _ _ _ _ _ _ turn.invariant c.loop-i-test.false
+    c.requires.1 _ c.content_at.ensures)

@@ -12,6 +12,3 @@ use Rattle.listener.proofs.by_octets.Given as goal
 
 abbrev pub invariant-loop-i : goal.invariant-loop-i
 invariant-loop-i l = Stands (rules_of l.book) (sound_rules l.book) l.f l.octets (inside_of l.f l.first l.kept l.initial.q) l.from l.i l.index l.memory l.q
-
-abbrev pub decreases-loop-i : goal.decreases-loop-i
-decreases-loop-i l = list.length l.octets - l.i

@@ -1,41 +1,17 @@
--- `listing::carried` meets its contract. The loop's invariant: what was counted and the carried parameters that are
--- left make all of them. The measure is the turns left.
+-- `listing::carried` meets its contract: at first all are left.
 -- Assumes nothing.
-use mathlib.Core.Path.{sym, ◌∙◌}
-use native.Mathlib.Omega.{arith}
-use Rattle.message.proofs.Searching.{found_inside}
-use Rattle.listing.proofs.Rows.{none_counted, counted_small, counted_more, counted_none, counted_end}
+use Rattle.std.proofs.Common.{length, filter, ap, ◌∙◌, arith}
+use Rattle.rules.specs.Message.{most}
+use Rattle.message.specs.Walk.{founds_left}
+use Rattle.message.proofs.Walking.{founds_few}
+use Rattle.message.specs.Parameters.{parameters_in}
+use Rattle.listing.proofs.Rows.{carries, carried_founds}
 use Rattle.listing.proofs.carried.Goals as goal
 
-pub loop-turns-init : goal.loop-turns-init
-loop-turns-init c = none_counted c.args.octets.now
-
-pub overflow_add-count : goal.overflow_add-count
-overflow_add-count c =
-    omega (
-      arith,
-      counted_small c.args.octets.now _ _ _ c.loop-turns.invariant c.loop-turns-test.true
-          _ _ _ _ (sym c.in-Parameter.is ∙ c.parameter-found.ensures)
-          c.one_if_carried-count.ensures,
+pub loop-found-init : goal.loop-found-init
+unfolding parameters_in
+loop-found-init c =
+    let all = ap founds_left c.into_iter-found-iterator.ensures.into_iter_gives ∙ c.new-found-items.ensures in (
+      omega (arith, ap (λ fs. length (filter carries fs)) all, carried_founds most c.args.octets.now 2),
+      omega (arith, ap length all, founds_few most c.args.octets.now 2),
     )
-
-pub overflow_add-at : goal.overflow_add-at
-overflow_add-at c =
-    omega (
-      arith,
-      found_inside _ _ _ _ _ _ c.parameter-found.ensures
-          c.in-Parameter.is,
-    )
-
-pub loop-turns-preserved : goal.loop-turns-preserved
-loop-turns-preserved c =
-    counted_more c.args.octets.now _ _ _ c.loop-turns.invariant c.loop-turns-test.true _ _ _ _
-    (sym c.in-Parameter.is ∙ c.parameter-found.ensures) c.one_if_carried-count.ensures
-
-pub returns-in-Nothing : goal.returns-in-Nothing
-returns-in-Nothing c =
-    counted_none c.args.octets.now _ _ _ c.loop-turns.invariant c.loop-turns-test.true
-    (sym c.in-Nothing.is ∙ c.parameter-found.ensures)
-
-pub returns : goal.returns
-returns c = counted_end c.args.octets.now _ _ _ c.loop-turns.invariant c.loop-turns-test.false

@@ -9,27 +9,27 @@ pub put_message-length-requires : goal.put_message-length-requires
 put_message-length-requires c =
     listing_room _ _ (lists_message c.args.octets.now
     (octets_at c.args.octets.now (λ i. omega (arith, c.shared_slice_known-1.given i))) _
-    c.judge-verdict.ensures _ c.in-Accepted.is)
+    c.judge-verdict.ensures _ c.in-Ok.is)
 
 pub put_refusal-length-requires : goal.put_refusal-length-requires
 put_refusal-length-requires c =
     listing_room _ _ (lists_refusal c.args.octets.now
     (octets_at c.args.octets.now (λ i. omega (arith, c.shared_slice_known-1.given i))) _
-    c.judge-verdict.ensures _ c.in-Declined.is)
+    c.judge-verdict.ensures _ c.in-Err.is)
 
-pub returns-in-Accepted : goal.returns-in-Accepted
-returns-in-Accepted c =
+pub returns-in-Ok : goal.returns-in-Ok
+returns-in-Ok c =
     listing_text _ _ (lists_message c.args.octets.now
     (octets_at c.args.octets.now (λ i. omega (arith, c.shared_slice_known-1.given i))) _
-    c.judge-verdict.ensures _ c.in-Accepted.is) _ _
+    c.judge-verdict.ensures _ c.in-Ok.is) _ _
     c.put_message-length.ensures
 
-pub returns-in-Declined : goal.returns-in-Declined
-returns-in-Declined c =
+pub returns-in-Err : goal.returns-in-Err
+returns-in-Err c =
     listing_text _ _ (lists_refusal c.args.octets.now
     (octets_at c.args.octets.now (λ i. omega (
       arith,
       c.shared_slice_known-1.given i,
     ))) _
-    c.judge-verdict.ensures _ c.in-Declined.is) _ _
+    c.judge-verdict.ensures _ c.in-Err.is) _ _
     c.put_refusal-length.ensures

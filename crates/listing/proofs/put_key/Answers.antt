@@ -1,26 +1,19 @@
--- `listing::put_key` meets its contract: the key stands where the constant says, `=` with it.
+-- `listing::put_key` meets its contract: the key, and `=` behind it.
 -- Assumes nothing.
-use native.Mathlib.Omega.{arith}
-use Rattle.listing.specs.Put.{put_same}
+use Rattle.listing.specs.Put.{put_same, put_then, room_left, room_then}
 use Rattle.listing.proofs.Pieces.{room_same}
-use Rattle.listing.proofs.Keys.{starts, keys, key_at}
 use Rattle.rules.specs.Table.{ascii}
 use Rattle.listing.proofs.put_key.Goals as goal
 
-pub overflow_cast-start : goal.overflow_cast-start
-unfolding starts keys ascii
-overflow_cast-start c = let k = key_at c.args.i c.requires.0 in omega (arith, k.order, k.ends)
+pub put-key-requires : goal.put-key-requires
+put-key-requires c = room_same _ _ _ _ c.entry.ensures.key (room_left _ _ _ _ c.requires.1)
 
-pub overflow_cast-end : goal.overflow_cast-end
-unfolding starts keys ascii
-overflow_cast-end c = let k = key_at c.args.i c.requires.0 in omega (arith, k.ends)
-
-pub put_part-requires : goal.put_part-requires
-unfolding starts keys ascii
-put_part-requires c =
-    let k = key_at c.args.i c.requires.0 in
-    (k.order, k.ends, room_same _ _ _ _ k.key c.requires.1)
+pub put_octet-requires : goal.put_octet-requires
+unfolding ascii
+put_octet-requires c =
+    room_then _ _ _ _ _ _ c.requires.1 (put_same _ _ _ _ _ _ c.entry.ensures.key c.put-key.ensures)
 
 pub returns : goal.returns
-unfolding starts keys ascii
-returns c = put_same _ _ _ _ _ _ (key_at c.args.i c.requires.0).key c.put_part.ensures
+unfolding ascii
+returns c =
+    put_then _ _ _ _ _ _ _ _ (put_same _ _ _ _ _ _ c.entry.ensures.key c.put-key.ensures) c.put_octet.ensures

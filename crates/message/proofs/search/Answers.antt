@@ -1,39 +1,26 @@
--- `message::search` meets its contract. The loop's invariant: the search from here on, with the turns left, finds
--- what the whole search finds. The measure is the turns left. Assumes nothing.
-use Rattle.std.proofs.Common.{sym, refl, ◌∙◌, arith}
-use Rattle.message.proofs.Searching.{no_turns, none_here, wanted, shut_out, next, found_inside}
+-- `message::search` meets its contract: the first of the type or its rival, if it is of the type.
+-- Assumes nothing.
+use Rattle.std.proofs.Common.{◌≡◌, List, Option, Bool, length, find, option_map, sym, ap, ◌∙◌, rules, tests}
+use Rattle.std.proofs.lemmas.Iterator.Consumers.{YieldsList-from_first}
+use Rattle.std.proofs.lemmas.Iterator.Search.{find_from_yields_List}
+use Rattle.message.specs.Walk.{founds_left}
+use Rattle.message.proofs.Walking.{is_either, chosen, chosen_all, chosen_here, chosen_none}
 use Rattle.message.proofs.search.Goals as goal
 
-pub loop-turns-init : goal.loop-turns-init
-loop-turns-init c = refl
+pub returns-in_err-found : goal.returns-in_err-found
+returns-in_err-found c =
+    c.from_residual.ensures ∙ ap (chosen c.args.t) (sym c.in_err-found.was) ∙ chosen_all _ _ _ _
+    (find_from_yields_List {s = c.new.result} (is_either c.args.t c.args.rival) c.find.new.self _ _ c.find.ensures.ran
+    (YieldsList-from_first (λ x. x) founds_left _ c.new.ensures) (λ x b q k. search (rules, tests)))
 
-pub returns-then-kind-t : goal.returns-then-kind-t
-returns-then-kind-t c =
-    sym (wanted _ _ _ _ _ c.loop-turns-test.true _ c.parameter-found.ensures _ _ _
-    c.in-Parameter.is c.if-kind-t.true) ∙ c.loop-turns.invariant
+pub returns-then-found-t : goal.returns-then-found-t
+returns-then-found-t c =
+    chosen_here _ _ c.if-found-t.true ∙ ap (chosen c.args.t) (sym c.in_ok-found.was) ∙ chosen_all _ _ _ _
+    (find_from_yields_List {s = c.new.result} (is_either c.args.t c.args.rival) c.find.new.self _ _ c.find.ensures.ran
+    (YieldsList-from_first (λ x. x) founds_left _ c.new.ensures) (λ x b q k. search (rules, tests)))
 
-pub returns-then-kind-rival : goal.returns-then-kind-rival
-returns-then-kind-rival c =
-    sym (shut_out _ _ _ _ _ c.loop-turns-test.true _ c.parameter-found.ensures _ _ _
-    c.in-Parameter.is c.if-kind-t.false c.if-kind-rival.true) ∙ c.loop-turns.invariant
-
-pub overflow_add-at : goal.overflow_add-at
-overflow_add-at c =
-    omega (
-      arith,
-      found_inside _ _ _ _ _ _ c.parameter-found.ensures
-          c.in-Parameter.is,
-    )
-
-pub loop-turns-preserved : goal.loop-turns-preserved
-loop-turns-preserved c =
-    sym (next _ _ _ _ _ c.loop-turns-test.true _ c.parameter-found.ensures _ _ _
-    c.in-Parameter.is c.if-kind-t.false c.if-kind-rival.false) ∙ c.loop-turns.invariant
-
-pub returns-in-Nothing : goal.returns-in-Nothing
-returns-in-Nothing c =
-    sym (none_here _ _ _ _ _ c.loop-turns-test.true _
-    c.parameter-found.ensures c.in-Nothing.is) ∙ c.loop-turns.invariant
-
-pub returns : goal.returns
-returns c = sym (no_turns _ _ _ _ _ c.loop-turns-test.false) ∙ c.loop-turns.invariant
+pub returns-else-found-t : goal.returns-else-found-t
+returns-else-found-t c =
+    chosen_none _ _ c.if-found-t.false ∙ ap (chosen c.args.t) (sym c.in_ok-found.was) ∙ chosen_all _ _ _ _
+    (find_from_yields_List {s = c.new.result} (is_either c.args.t c.args.rival) c.find.new.self _ _ c.find.ensures.ran
+    (YieldsList-from_first (λ x. x) founds_left _ c.new.ensures) (λ x b q k. search (rules, tests)))

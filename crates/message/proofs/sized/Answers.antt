@@ -1,24 +1,23 @@
 -- `message::sized` meets its contract: L is at least 3, and the verdict is where the parameters came to.
 -- Assumes nothing.
-use Rattle.std.proofs.Common.{◌-◌, length, take, drop, ap, ◌∙◌, arith}
+use Rattle.std.proofs.Common.{◌-◌, length, take, drop, ap, ◌∙◌, arith, Err}
 use Rattle.rules.specs.Table.{rules_of}
 use Rattle.rules.proofs.ContentLaw.{sound_rules}
 use Rattle.rules.proofs.Octets.{octets_known, octets-take, octets-drop}
 use Rattle.turns.proofs.Between.{near}
-use Rattle.message.specs.declared.Verdict.TheVariants.{Declined}
 use Rattle.message.proofs.Opening.{kind_alone, size_spoils, sized_verdict, early_short}
 use Rattle.message.proofs.sized.Goals as goal
 
 pub returns-then-s-le1 : goal.returns-then-s-le1
 returns-then-s-le1 c =
     let known = c.shared_slice_known-1 in
-    ap Declined c.noted.ensures
+    ap Err c.noted.ensures
     ∙ kind_alone _ c.args.s.now c.requires.0 c.if-s-le1.true c.requires.1
     (omega (arith, known.given 0))
 
 pub returns-then-size-lt3 : goal.returns-then-size-lt3
 returns-then-size-lt3 c =
-    ap Declined c.noted-then-size-lt3.ensures
+    ap Err c.noted-then-size-lt3.ensures
     ∙ size_spoils _ c.args.s.now c.if-s-le1.false c.requires.1
     (omega (arith, c.type_inv.s 0)) c.if-size-lt3.true
 

@@ -1,7 +1,8 @@
 -- `reader::draft_of` meets its contract. The loop's invariant: the entries taken and those that are left make all
 -- entries, and the other places are not used. The measure is the turns left.
 -- Assumes nothing.
-use mathlib.Core.Path.{refl, sym, ◌∙◌}
+use mathlib.Core.Path.{◌≡◌, refl, sym, ◌∙◌}
+use Rattle.rules.specs.Message.{most}
 use native.Mathlib.Omega.{arith}
 use Rattle.reader.proofs.Laying.{filled_first, filled_small, filled_more, filled_end, left_ended, left_full}
 use Rattle.reader.proofs.draft_of.Goals as goal
@@ -31,6 +32,7 @@ returns-in-End c =
 
 pub returns : goal.returns
 returns c =
-    filled_end _ _ _ _ _ _ c.loop-count.invariant _ c.octet-kind.ensures c.edition_of-edition.ensures
-    refl refl
-    (left_full _ _ _ c.loop-count-test.false)
+    let whole : most ≡ c.loop-count.count = omega arith in
+    rw whole
+    (filled_end _ _ _ _ _ _ c.loop-count.invariant _ c.octet-kind.ensures c.edition_of-edition.ensures refl refl
+    (left_full _ _ _ c.loop-count-test.false))

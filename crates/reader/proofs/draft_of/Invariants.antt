@@ -9,6 +9,3 @@ use Rattle.reader.proofs.draft_of.Given as goal
 
 abbrev pub invariant-loop-count : goal.invariant-loop-count
 invariant-loop-count l = TakenEntries (rules_of l.book) l.octets l.count l.at l.used l.entries
-
-abbrev pub decreases-loop-count : goal.decreases-loop-count
-decreases-loop-count l = most - l.count

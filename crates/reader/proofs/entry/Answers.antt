@@ -6,20 +6,20 @@ use Rattle.reader.proofs.Turns.{entry_found, entry_ended}
 use Rattle.reader.proofs.entry.Goals as goal
 
 pub overflow_add-place : goal.overflow_add-place
-overflow_add-place c = omega (arith, found_inside _ _ _ _ _ _ c.parameter-found.ensures c.in-Parameter.is)
+overflow_add-place c = omega (arith, found_inside _ _ _ _ _ _ c.parameter-found.ensures c.in-Some.is)
 
 pub slice_bounds-value_of-end : goal.slice_bounds-value_of-end
 slice_bounds-value_of-end c =
     omega (
       arith,
       found_inside _ _ _ _ _ _ c.parameter-found.ensures
-          c.in-Parameter.is,
+          c.in-Some.is,
     )
 
-pub returns-in-Parameter : goal.returns-in-Parameter
-returns-in-Parameter c =
-    entry_found _ _ _ _ c.parameter-found.ensures _ _ _ c.in-Parameter.is _ _ _ _
+pub returns-in-Some : goal.returns-in-Some
+returns-in-Some c =
+    entry_found _ _ _ _ c.parameter-found.ensures _ _ _ c.in-Some.is _ _ _ _
     c.text_long.ensures c.form_at.ensures c.value_of-value.ensures
 
-pub returns-in-Nothing : goal.returns-in-Nothing
-returns-in-Nothing c = entry_ended _ _ _ _ c.parameter-found.ensures _ c.in-Nothing.is
+pub returns-in-None : goal.returns-in-None
+returns-in-None c = entry_ended _ _ _ _ c.parameter-found.ensures _ c.in-None.is

@@ -9,6 +9,3 @@ use Rattle.reader.proofs.lay_texts.Given as goal
 
 abbrev pub invariant-loop-count : goal.invariant-loop-count
 invariant-loop-count l = LaidTexts (rules_of l.book) l.octets l.initial.area l.count l.at l.used l.area
-
-abbrev pub decreases-loop-count : goal.decreases-loop-count
-decreases-loop-count l = most - l.count

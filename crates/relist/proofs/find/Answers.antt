@@ -9,7 +9,7 @@ pub returns-then-text-i : goal.returns-then-text-i
 returns-then-text-i c =
     omega (
       arith,
-      c.loop-i.invariant.1,
+      c.loop-i.invariant,
       found_at c.args.octet c.args.text.now c.loop-i.i c.loop-i-test.true c.if-text-i.true,
     )
 
@@ -18,11 +18,9 @@ loop-i-preserved c =
     let i = c.loop-i.i in
     let b = c.args.octet in
     let t = c.args.text.now in
-    let k = ap (λ (n : ℕ). index_of b (drop n t)) (add-one i) in (
-      omega arith,
-      omega (arith, c.loop-i.invariant.1, k, sought_on b t i c.loop-i-test.true c.if-text-i.false),
-    )
+    let k = ap (λ (n : ℕ). index_of b (drop n t)) (add-one i) in
+    omega (arith, c.loop-i.invariant, k, sought_on b t i c.loop-i-test.true c.if-text-i.false)
 
 pub returns : goal.returns
 returns c =
-    omega (arith, c.loop-i.invariant.1, nowhere c.args.octet c.args.text.now c.loop-i.i c.loop-i-test.false)
+    omega (arith, c.loop-i.invariant, nowhere c.args.octet c.args.text.now c.loop-i.i (omega arith))

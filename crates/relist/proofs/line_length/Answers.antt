@@ -4,7 +4,7 @@ use Rattle.std.proofs.Common.{ap, ◌∙◌, arith}
 use Rattle.rules.specs.Table.{rules_of, class_of}
 use Rattle.rules.specs.declared.Book.TheVariants.{PresentLenient}
 use Rattle.listing.specs.Listing.{row_at}
-use Rattle.listing.proofs.Keys.{key_at, key_spans}
+use Rattle.listing.proofs.Keys.{key_short}
 use Rattle.relist.specs.Relist.{row_contents}
 use Rattle.relist.specs.Reading.{Holds}
 use Rattle.relist.proofs.Reading.{held_inside, held_long, not_shorter, not_longer, read_none, read_value, read_says, read_not}
@@ -21,7 +21,7 @@ contents c =
     c.lay_contents-n.ensures
 
 pub overflow_add-start : goal.overflow_add-start
-overflow_add-start c = omega (arith, c.key_length-start.ensures, key_spans _ c.requires.0, (key_at _ c.requires.0).ends)
+overflow_add-start c = omega (arith, c.key_length-start.ensures, key_short _ c.requires.0)
 
 pub returns-then-line-start : goal.returns-then-line-start
 returns-then-line-start c =

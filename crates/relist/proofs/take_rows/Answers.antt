@@ -40,9 +40,6 @@ slice_bounds-row_length-end-in-loop-i-2 c = sym c.loop-i.invariant.0
 pub row_length-n-requires : goal.row_length-n-requires
 row_length-n-requires c = (c.loop-i-test.true, c.loop-i.invariant.0)
 
-pub overflow_add-i : goal.overflow_add-i
-overflow_add-i c = omega arith
-
 pub bounds-kinds-count : goal.bounds-kinds-count
 bounds-kinds-count c = omega (arith, c.loop-i.invariant.1.few)
 
@@ -67,26 +64,20 @@ lay_parameter-size-requires c =
 pub overflow_add-count : goal.overflow_add-count
 overflow_add-count c = omega (arith, c.loop-i.invariant.1.few)
 
-pub loop-i-smaller-then-n-gt0 : goal.loop-i-smaller-then-n-gt0
-loop-i-smaller-then-n-gt0 c = omega arith
-
-pub loop-i-preserved-then-n-gt0 : goal.loop-i-preserved-then-n-gt0
-loop-i-preserved-then-n-gt0 c = (
+pub loop-i-preserved : goal.loop-i-preserved
+loop-i-preserved c = (
   c.row_length-n.auto.out ∙ c.loop-i.invariant.0,
   took_more _ _ _ _ _ _ _ _ c.loop-i.invariant.1 c.loop-i-test.true _ c.line_end-end.ensures _ _
-      c.row_length-n.ensures c.if-n-gt0.true _
+      c.row_length-n.ensures (omega arith) _
       c.kind_at-kind.ensures _ _ c.lay_parameter-size.ensures
       c.lay_parameter-size.auto.area,
 )
 
-pub loop-i-smaller : goal.loop-i-smaller
-loop-i-smaller c = omega arith
-
-pub loop-i-preserved : goal.loop-i-preserved
-loop-i-preserved c = (
+pub loop-i-preserved-then-n-eq0 : goal.loop-i-preserved-then-n-eq0
+loop-i-preserved-then-n-eq0 c = (
   c.row_length-n.auto.out ∙ c.loop-i.invariant.0,
   took_none _ _ _ _ _ _ _ _ c.loop-i.invariant.1 c.loop-i-test.true _ c.line_end-end.ensures _ _
-      c.row_length-n.ensures c.if-n-gt0.false,
+      c.row_length-n.ensures (omega arith),
 )
 
 pub shape_of-area : goal.shape_of-area

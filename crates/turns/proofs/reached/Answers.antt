@@ -1,7 +1,6 @@
--- `turns::reached` meets its contract. The loop's invariant: the octets before the index may stand. The measure is
--- what is left of the octets.
+-- `turns::reached` meets its contract.
 -- Assumes nothing.
-use Rattle.std.proofs.Common.{◌<◌, get_or, refl, ◌∙◌, zero-add, arith, rules}
+use Rattle.std.proofs.Common.{◌<◌, get_or, ◌∙◌, arith}
 use Rattle.rules.specs.Tests.{◌≤?◌, ◌and◌, ◌or◌}
 use Rattle.rules.specs.Contents.{within, in_set, digit}
 use Rattle.rules.specs.OctetRows.{bit, kinds_of}
@@ -12,42 +11,23 @@ use Rattle.rules.proofs.Returns.{via}
 use Rattle.rules.proofs.Standing.{stood_more, stood_wrong, stood_all}
 use Rattle.turns.proofs.reached.Goals as goal
 
-pub loop-index-init : goal.loop-index-init
-loop-index-init c = (refl, search rules, zero-add _)
-
-pub bounds-v-index : goal.bounds-v-index
-bounds-v-index c = omega (arith, c.loop-index.invariant.0)
-
-pub overflow_cast-x-in-loop-index : goal.overflow_cast-x-in-loop-index
-overflow_cast-x-in-loop-index c = let octet = c.type_inv.v c.loop-index.index in search rules
-
-pub bounds-kinds-x : goal.bounds-kinds-x
-bounds-kinds-x c = omega (arith, c.type_inv.v c.loop-index.index)
-
-pub loop-index-preserved : goal.loop-index-preserved
+pub loop-i-preserved : goal.loop-i-preserved
 unfolding kind_rows tabled kinds_of bit digit within in_set ◌or◌ ◌and◌ ◌≤?◌
-loop-index-preserved c =
-    let at = c.loop-index in
-    let x = get_or c.args.v.now at.index 0 in
-    let octet : x < 256 = omega (arith, c.type_inv.v at.index) in (
-      at.invariant.0,
-      search rules,
-      stood_more _ _ _ _ _ (omega (arith, at.invariant.0)) _
-          (via _ _ _ (c.content_ok.ensures ∙ asked_ok _ _ _ _ _ x (λ _. rowed.row x octet))
-          c.if-content_ok.true) c.remember-memory.ensures at.invariant.2,
-    )
+loop-i-preserved c =
+    let x = get_or c.args.v.now c.loop-i.i 0 in
+    let octet : x < 256 = omega (arith, c.type_inv.v c.loop-i.i) in
+    stood_more _ _ _ _ _ c.loop-i-test.true _
+    (via _ _ _ (c.content_ok.ensures ∙ asked_ok _ _ _ _ _ x (λ _. rowed.row x octet)) c.if-not-content_ok.false)
+    c.remember-memory.ensures c.loop-i.invariant
 
-pub returns-else-content_ok : goal.returns-else-content_ok
+pub returns-then-not-content_ok : goal.returns-then-not-content_ok
 unfolding kind_rows tabled kinds_of bit digit within in_set ◌or◌ ◌and◌ ◌≤?◌
-returns-else-content_ok c =
-    let at = c.loop-index in
-    let x = get_or c.args.v.now at.index 0 in
-    let octet : x < 256 = omega (arith, c.type_inv.v at.index) in
-    stood_wrong _ _ _ _ _ (omega (arith, at.invariant.0))
-    (via _ _ _ (c.content_ok.ensures ∙ asked_ok _ _ _ _ _ x (λ _. rowed.row x octet)) c.if-content_ok.false)
-    at.invariant.2
+returns-then-not-content_ok c =
+    let x = get_or c.args.v.now c.loop-i.i 0 in
+    let octet : x < 256 = omega (arith, c.type_inv.v c.loop-i.i) in
+    stood_wrong _ _ _ _ _ c.loop-i-test.true
+    (via _ _ _ (c.content_ok.ensures ∙ asked_ok _ _ _ _ _ x (λ _. rowed.row x octet)) c.if-not-content_ok.true)
+    c.loop-i.invariant
 
 pub returns : goal.returns
-returns c =
-    let at = c.loop-index in
-    stood_all _ _ _ _ _ (omega (arith, at.invariant.0)) at.invariant.2
+returns c = omega (arith, stood_all _ _ _ _ _ (omega arith) c.loop-i.invariant)

@@ -1,12 +1,8 @@
--- `turns::sum_on` meets its contract. The loop's invariant: the sum of the octets before i. The measure is what is
--- left.
+-- `turns::sum_on` meets its contract. The loop's invariant: the sum of the octets so far.
 -- Assumes nothing.
-use Rattle.std.proofs.Common.{◌-◌, ◌≤◌}
-use Rattle.turns.proofs.Sums.{Sum}
+use Rattle.std.proofs.Common.{◌≡◌, take, drop}
+use Rattle.turns.specs.Turns.{summed}
 use Rattle.turns.proofs.sum_on.Given as goal
 
-abbrev pub invariant-loop-i : goal.invariant-loop-i
-invariant-loop-i l = (l.start ≤ l.i) × (l.i ≤ l.end) × Sum l.s l.start l.sum l.i l.total
-
-abbrev pub decreases-loop-i : goal.decreases-loop-i
-decreases-loop-i l = l.end - l.i
+abbrev pub invariant-loop-x : goal.invariant-loop-x
+invariant-loop-x l = l.total ≡ summed l.sum (take l.x-index l.x-items)

@@ -4,12 +4,12 @@ use mathlib.Core.Path.{refl, sym, ◌∙◌}
 use Rattle.walker.specs.Steps.{step_under, step_of}
 use Rattle.walker.proofs.step_by.Goals as goal
 
-pub returns-in-Accepted : goal.returns-in-Accepted
+pub returns-in-Ok : goal.returns-in-Ok
 unfolding step_of step_under
-returns-in-Accepted c =
-    rw (sym c.judge-verdict.ensures ∙ c.in-Accepted.is)
+returns-in-Ok c =
+    rw (sym c.judge-verdict.ensures ∙ c.in-Ok.is)
     c.walk_to.ensures
 
-pub returns-in-Declined : goal.returns-in-Declined
+pub returns-in-Err : goal.returns-in-Err
 unfolding step_of step_under
-returns-in-Declined c = rw (sym c.judge-verdict.ensures ∙ c.in-Declined.is) refl
+returns-in-Err c = rw (sym c.judge-verdict.ensures ∙ c.in-Err.is) refl

@@ -11,23 +11,23 @@ pub loop-turns-init : goal.loop-turns-init
 loop-turns-init c = refl
 
 pub overflow_add-next : goal.overflow_add-next
-overflow_add-next c = omega (arith, found_inside _ _ _ _ _ _ c.parameter-found.ensures c.in-Parameter.is)
+overflow_add-next c = omega (arith, found_inside _ _ _ _ _ _ c.parameter-found.ensures c.in-Some.is)
 
 pub returns-then-place-at : goal.returns-then-place-at
 returns-then-place-at c =
     sym (here _ _ _ _ c.loop-turns-test.true _ _ _ (sym c.parameter-found.ensures
-    ∙ c.in-Parameter.is) c.if-place-at.true) ∙ c.loop-turns.invariant
+    ∙ c.in-Some.is) c.if-place-at.true) ∙ c.loop-turns.invariant
 
 pub loop-turns-preserved : goal.loop-turns-preserved
 loop-turns-preserved c =
     sym (onward _ _ _ _ c.loop-turns-test.true _ _ _
-    (sym c.parameter-found.ensures ∙ c.in-Parameter.is) c.if-place-at.false)
+    (sym c.parameter-found.ensures ∙ c.in-Some.is) c.if-place-at.false)
     ∙ c.loop-turns.invariant
 
-pub returns-in-Nothing : goal.returns-in-Nothing
-returns-in-Nothing c =
+pub returns-in-None : goal.returns-in-None
+returns-in-None c =
     sym (none_here _ _ _ _ c.loop-turns-test.true
-    (sym c.parameter-found.ensures ∙ c.in-Nothing.is))
+    (sym c.parameter-found.ensures ∙ c.in-None.is))
     ∙ c.loop-turns.invariant
 
 pub returns : goal.returns

@@ -1,13 +1,10 @@
 -- `writer::measure_entries` meets its contract. The loop's invariant: the entries before i are legal and take the
 -- octets counted, so those from i on decide. The measure is what is left.
 -- Assumes nothing.
-use Rattle.std.proofs.Common.{◌-◌, ◌*◌, ◌≤◌}
+use Rattle.std.proofs.Common.{◌*◌, ◌≤◌}
 use Rattle.rules.specs.Table.{rules_of}
 use Rattle.writer.proofs.Entries.{Measured}
 use Rattle.writer.proofs.measure_entries.Given as goal
 
 abbrev pub invariant-loop-i : goal.invariant-loop-i
-invariant-loop-i l = (l.i ≤ l.n) × ((l.size ≤ 257 * l.i) × Measured (rules_of l.book) l.texts l.n l.entries l.size l.i)
-
-abbrev pub decreases-loop-i : goal.decreases-loop-i
-decreases-loop-i l = l.n - l.i
+invariant-loop-i l = (l.size ≤ 257 * l.i) × Measured (rules_of l.book) l.texts l.draft.count l.draft.entries l.size l.i

@@ -1,12 +1,8 @@
 -- `writer::put_front` meets its contract. The loop's invariant: i entries are laid down behind the first two octets
 -- of the output. The measure is what is left.
 -- Assumes nothing.
-use Rattle.std.proofs.Common.{◌-◌}
 use Rattle.writer.proofs.Laying.{Wrote}
 use Rattle.writer.proofs.put_front.Given as goal
 
 abbrev pub invariant-loop-next : goal.invariant-loop-next
-invariant-loop-next l = Wrote l.n l.entries l.texts l.initial.out l.out l.at l.next
-
-abbrev pub decreases-loop-next : goal.decreases-loop-next
-decreases-loop-next l = l.n - l.next
+invariant-loop-next l = Wrote l.draft.count l.draft.entries l.texts l.initial.out l.out l.at l.next

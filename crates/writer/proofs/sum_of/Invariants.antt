@@ -1,12 +1,8 @@
--- `writer::sum_of` meets its contract. The loop's invariant: the sum of the octets before i. The measure is what is
--- left.
+-- `writer::sum_of` meets its contract. The loop's invariant: the sum of the octets so far.
 -- Assumes nothing.
-use Rattle.std.proofs.Common.{◌≡◌, ◌-◌, ◌%◌, ◌≤◌, length, take}
+use Rattle.std.proofs.Common.{◌≡◌, ◌%◌, take}
 use Rattle.rules.specs.Octets.{total}
 use Rattle.writer.proofs.sum_of.Given as goal
 
-abbrev pub invariant-loop-i : goal.invariant-loop-i
-invariant-loop-i l = (l.i ≤ length l.s) × (l.sum ≡ total (take l.i l.s) % 256)
-
-abbrev pub decreases-loop-i : goal.decreases-loop-i
-decreases-loop-i l = length l.s - l.i
+abbrev pub invariant-loop-x : goal.invariant-loop-x
+invariant-loop-x l = l.sum ≡ total (take l.x-index l.s) % 256

@@ -7,7 +7,4 @@ use Rattle.firmware.proofs.RecordPlaces.{LaidPlaces}
 use Rattle.firmware.proofs.desks.lay_places.Given as goal
 
 abbrev pub invariant-loop-i : goal.invariant-loop-i
-invariant-loop-i l = LaidPlaces l.initial.cells l.places l.i l.cells
-
-abbrev pub decreases-loop-i : goal.decreases-loop-i
-decreases-loop-i l = place_count - l.i
+invariant-loop-i l = LaidPlaces l.initial.cells l.place-items l.i l.cells

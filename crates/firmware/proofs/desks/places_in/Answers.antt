@@ -21,7 +21,7 @@ bounds-places-i c = omega (arith, c.loop-i.invariant.long, c.loop-i-test.true)
 pub loop-i-preserved : goal.loop-i-preserved
 loop-i-preserved c =
     taken_more _ _ _ c.loop-i.invariant c.loop-i-test.true _
-    c.place_in-place.ensures
+    c.place_in.ensures
 
 pub returns : goal.returns
 returns c = taken_end _ _ _ c.loop-i.invariant c.loop-i-test.false

@@ -8,6 +8,3 @@ use Rattle.firmware.proofs.desks.places_in.Given as goal
 
 abbrev pub invariant-loop-i : goal.invariant-loop-i
 invariant-loop-i l = ReadPlaces l.cells l.i l.places
-
-abbrev pub decreases-loop-i : goal.decreases-loop-i
-decreases-loop-i l = place_count - l.i

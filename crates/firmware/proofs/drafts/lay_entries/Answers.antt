@@ -75,7 +75,7 @@ pub returns : goal.returns
 returns c =
     let x = recorded_end _ _ _ c.requires.1 _ _ _ _ _ c.loop-count.invariant
     (left_full _ _ _ c.loop-count-test.false) in
-    record { count = x.0; used = x.1.0; cells = x.1.1.0; texts = x.1.1.1 }
+    record { count = omega (arith, x.0); used = x.1.0; cells = x.1.1.0; texts = x.1.1.1 }
 
 pub slice_bounds-copy-end : goal.slice_bounds-copy-end
 slice_bounds-copy-end c =

@@ -9,6 +9,3 @@ use Rattle.firmware.proofs.drafts.lay_entries.Given as goal
 
 abbrev pub invariant-loop-count : goal.invariant-loop-count
 invariant-loop-count l = Recorded (rules_of l.book) l.octets l.initial.texts l.count l.at l.used l.cells l.texts
-
-abbrev pub decreases-loop-count : goal.decreases-loop-count
-decreases-loop-count l = most - l.count
