@@ -144,6 +144,13 @@ pub enum State {
     Refused(Fault),
 }
 
+// An answer, and the edition that it names: the one it was told or, where no known one was told, 0.
+#[derive(Clone, Copy)]
+pub struct Named<A> {
+    pub edition: u8,
+    pub answer: A,
+}
+
 // A refusal that no parameter causes (document 01, Numbers given when the work is declined).
 pub fn noted(number: u8, place: u16) -> Fault
     ensures { result ≡ refusals.noted number place }
