@@ -20,6 +20,7 @@ use Rattle.rules.proofs.code_in.Reads as code_in
 use Rattle.rules.proofs.named_by.Reads as named_by
 use Rattle.rules.proofs.edition_of.Reads as edition_of
 use Rattle.rules.proofs.book_of.Reads as book_of
+use Rattle.rules.proofs.known_book.Reads as known_book
 use Rattle.rules.proofs.is_known.Reads as is_known
 use Rattle.rules.proofs.is_edition.Reads as is_edition
 
@@ -92,6 +93,10 @@ is_known_settled κs a r r' s s' p q = p ∙ sym q
 pub book_of_settled : (κs : _) (a : _) (r r' : _) (s s' : _) → book_of.Post κs a r s → book_of.Post κs a r' s' →
     r ≡ r'
 book_of_settled κs a r r' s s' p q = p ∙ sym q
+
+pub known_book_settled : (κs : _) (a : _) (r r' : _) (s s' : _) → known_book.Post κs a r s → known_book.Post κs a r' s' →
+    r ≡ r'
+known_book_settled κs a r r' s s' p q = p ∙ sym q
 
 pub edition_of_settled : (κs : _) (a : _) (r r' : _) (s s' : _) → edition_of.Post κs a r s → edition_of.Post κs a r' s' →
     r ≡ r'
