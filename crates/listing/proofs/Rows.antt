@@ -11,7 +11,6 @@ use native.Mathlib.Omega.{arith}
 use lib.ListN.{length, length-append, get_or, take, drop, take-append-drop}
 use lib.Seq.{take-suc}
 use lib.Dec.{T}
-use Rattle.rules.specs.Message.{most}
 use Rattle.rules.specs.Tests.{◌≤?◌, ◌and◌, pick}
 use Rattle.rules.proofs.Returns.{and_t, and_f, yes_le, no_le, T_of}
 use Rattle.rules.specs.Pairwise.{same_octets}
@@ -21,7 +20,7 @@ use Rattle.rules.specs.declared.Book.TheVariants.{PresentLenient}
 use Rattle.rules.specs.Counting.{carried_in}
 use Rattle.rules.specs.declared.Fault.{Fault}
 use Rattle.message.specs.declared.Part.{Part}
-use Rattle.message.specs.Parts.{found_at, part_at, parameter_at, counted_at, part_of}
+use Rattle.message.specs.Parts.{part_at, parameter_at, counted_at, part_of}
 use Rattle.message.proofs.Places.{counted_inside}
 use Rattle.message.specs.Parameters.{found, parameters_from, parameters_in}
 use Rattle.message.specs.declared.Found.{Found}

@@ -4,7 +4,7 @@ use Rattle.std.proofs.Common.{◌≡◌, ℕ, zero, suc, ◌+◌, ◌-◌, ◌<�
 use Rattle.rules.specs.Tests.{◌=?◌, pick}
 use Rattle.message.specs.declared.Found.{Found}
 use Rattle.message.specs.declared.Part.{Part}
-use Rattle.message.specs.Parts.{found_at, part_at, parameter_at, matched, search_from}
+use Rattle.message.specs.Parts.{part_at, parameter_at, matched, search_from}
 use Rattle.message.specs.Walk.{found_then, founds_from}
 
 module _ (turns : ℕ) (o : List ℕ) (at : ℕ) where

@@ -14,7 +14,7 @@ use denote.Ref.{Bor}
 use lib.ListN.{length, take, drop, get_or}
 use lib.Dec.{T}
 use Rattle.rules.specs.Tests.{◌=?◌, ◌or◌, pick}
-use Rattle.rules.proofs.Tests.{decide, both, either, eq_of, of_eq}
+use Rattle.rules.proofs.Tests.{decide, either, eq_of, of_eq}
 use Rattle.rules.specs.Octets.{Octets}
 use Rattle.rules.proofs.Octets.{octets-append, octets-take, octets-drop}
 use Rattle.rules.specs.Editions.{edition, way, known, book_of}
@@ -59,7 +59,7 @@ use Rattle.caption.proofs.Promised as caption
 use Rattle.walker.specs.declared.Walker.{Walker}
 use Rattle.walker.specs.declared.Stepped.{Stepped}
 use Rattle.walker.specs.Told as stepped
-use Rattle.walker.specs.Moves.{Begun, Seen, Moved, Reached}
+use Rattle.walker.specs.Moves.{Seen, Reached}
 use Rattle.walker.proofs.Promised as walker
 use Rattle.firmware.specs.Word.{word_edition, word_number, Unpacked, Sixteen, Seventeen}
 use Rattle.firmware.specs.DeskRecord.{is_record}

@@ -13,7 +13,7 @@ use mathlib.Core.Option.{Option, none, some}
 use native.Mathlib.Omega.{arith}
 use lib.ListN.{length, take}
 use lib.Dec.{T}
-use Rattle.rules.specs.Tests.{◌=?◌, ◌or◌}
+use Rattle.rules.specs.Tests.{◌=?◌}
 use Rattle.rules.proofs.Tests.{decide, either, left, eq_of, of_eq, pick_not}
 use Rattle.rules.specs.Octets.{Octets}
 use Rattle.rules.specs.Table.{Rules, rules_of, listed, class_of, class_fault, type_fault}

@@ -2,9 +2,9 @@
 -- first from i on is the first. The measure is the places left.
 -- Assumes nothing.
 use mathlib.Core.Path.{◌≡◌}
-use Prim.Native.Nat.{◌+◌, ◌-◌, ◌≤◌}
+use Prim.Native.Nat.{◌+◌}
 use lib.ListN.{drop}
-use Rattle.desk.specs.References.{place_count, place_with}
+use Rattle.desk.specs.References.{place_with}
 use Rattle.desk.proofs.first_from.Given as goal
 
 abbrev pub invariant-loop-i : goal.invariant-loop-i

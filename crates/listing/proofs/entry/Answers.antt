@@ -1,6 +1,6 @@
 -- `listing::entry` meets its contract: the table of the code says the types and keys of the present edition's rows.
 -- Assumes nothing.
-use Rattle.std.proofs.Common.{◌≡◌, refl, ap, ℕ, zero, suc, ◌<◌, List, [], ◌∷◌, length, slice_index_or, get_or, arith}
+use Rattle.std.proofs.Common.{◌≡◌, ap, ℕ, zero, suc, ◌<◌, List, [], ◌∷◌, length, get_or, arith}
 use Rattle.rules.specs.Table as table
 use Rattle.listing.specs.declared.Row.{Row}
 use Rattle.listing.specs.Listing.{row_at, no_row, row_count_lem}

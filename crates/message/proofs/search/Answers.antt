@@ -1,6 +1,6 @@
 -- `message::search` meets its contract: the first of the type or its rival, if it is of the type.
 -- Assumes nothing.
-use Rattle.std.proofs.Common.{◌≡◌, List, Option, Bool, length, find, option_map, sym, ap, ◌∙◌, rules, tests}
+use Rattle.std.proofs.Common.{sym, ap, ◌∙◌, rules, tests}
 use Rattle.std.proofs.lemmas.Iterator.Consumers.{YieldsList-from_first}
 use Rattle.std.proofs.lemmas.Iterator.Search.{find_from_yields_List}
 use Rattle.message.specs.Walk.{founds_left}

@@ -1,8 +1,6 @@
 -- `reader::draft_of` meets its contract. The loop's invariant: the entries taken and those that are left make all
 -- entries, and the other places are not used. The measure is the turns left.
 -- Assumes nothing.
-use Prim.Native.Nat.{◌-◌}
-use Rattle.rules.specs.Message.{most}
 use Rattle.rules.specs.Table.{rules_of}
 use Rattle.reader.proofs.Laying.{TakenEntries}
 use Rattle.reader.proofs.draft_of.Given as goal

@@ -1,6 +1,6 @@
 -- `turns::sum_on` meets its contract. The loop's invariant: the sum of the octets so far.
 -- Assumes nothing.
-use Rattle.std.proofs.Common.{◌≡◌, take, drop}
+use Rattle.std.proofs.Common.{◌≡◌, take}
 use Rattle.turns.specs.Turns.{summed}
 use Rattle.turns.proofs.sum_on.Given as goal
 
