@@ -2,13 +2,12 @@
 -- are, and they fit the buffer.
 -- Assumes nothing.
 use Rattle.std.proofs.Common.{ℕ, Result, Ok, Err}
-use Prim.Native.Nat.{ℕ, ◌+◌, ◌-◌, ◌≤◌}
+use Prim.Native.Nat.{ℕ, ◌≤◌}
 use mathlib.Core.Path.{◌≡◌, refl, sym, ◌∙◌, ap, ap₂, subst}
 use mathlib.Core.List.{List, [], ◌∷◌, ◌++◌}
 use mathlib.Core.Option.{Option}
 use native.Mathlib.Omega.{arith}
-use lib.ListN.{length, get_or, drop, replicate, length-replicate, replicate-append-replicate}
-use lib.Seq.{drop_at}
+use lib.ListN.{length, get_or}
 use Rattle.rules.specs.Octets.{Octets}
 use Rattle.rules.specs.Table.{Row, rules_of}
 use Rattle.rules.specs.declared.Book.TheVariants.{PresentLenient}
@@ -98,10 +97,3 @@ listing_short o q = go (verdict_of (rules_of PresentLenient) o) refl
         length (listing_of (rules_of PresentLenient) o) ≤ buffer_size
     go (Ok n) e = let f = lists_message o q _ e n refl in omega (arith, ap length f.is, f.short)
     go (Err g) e = let f = lists_refusal o q _ e g refl in omega (arith, ap length f.is, f.short)
-
--- ---- in the buffer
-zeros : (n k z : ℕ) → n ≤ k → drop n (replicate k z) ≡ replicate (k - n) z
-zeros n k z h =
-    let e : n + (k - n) ≡ k = omega arith in
-    ap (drop n) (sym (replicate-append-replicate n (k - n) z ∙ ap (λ (x : ℕ). replicate x z) e))
-    ∙ drop_at (replicate n z) (replicate (k - n) z) n (length-replicate n z)

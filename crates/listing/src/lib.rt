@@ -3,7 +3,7 @@
 // that it needs no refusal of its own. And whether one line is that of a row with contents.
 #![tactic(auto)]
 
-ghost use Rattle.std.specs.Prelude.{◌≡◌, [], ◌∷◌, ◌++◌, suc, ◌<◌, ◌≤◌, length, drop, map, IfSome, IfNone};
+ghost use Rattle.std.specs.Prelude.{◌≡◌, [], ◌∷◌, ◌++◌, suc, ◌<◌, ◌≤◌, length, take, drop, map, IfSome, IfNone};
 ghost use Rattle.rules.specs.Tests.{◌≤?◌, ◌and◌};
 ghost use Rattle.rules.specs.Pairwise.{same_octets};
 ghost use Rattle.rules.specs.Table.{rules_of, style_of, ascii};
@@ -29,7 +29,17 @@ pub struct ListingText {
     pub length: usize,
 }
 
-// What is printed so far.
+impl ListingText {
+    // The listing's octets.
+    pub fn text(&self) -> &[u8]
+        ensures { result.now ≡ take self.now.length self.now.octets }
+    {
+        self.octets.get(..self.length).unwrap_or(&self.octets)
+    }
+}
+
+// What is printed so far. Each function that puts a text on it asks for room, since a page has no more than the longest
+// listing and none of them can refuse (`longest`).
 type Page = ArrayVec<u8, LONGEST>;
 
 // A row of the listing: a parameter type and its key.
@@ -174,6 +184,7 @@ fn put(text: &[u8], page: &mut Page)
     requires { HasRoom text.now page.old }
     ensures { page.new.items ≡ page.old.items ++ text.now }
 {
+    // There is room, so it is not refused.
     let _ = page.try_extend_from_slice(text);
 }
 
@@ -384,7 +395,7 @@ fn put_value(class: Class, contents: &[u8], page: &mut Page)
         Class::Date => put_clock(contents, page),
         Class::Lamp => put(lamp_word(message::octet(contents, 0)), page),
         Class::Identity => put_identity(contents, page),
-        Class::Waiting => put_decimal(message::octet(contents, 0) as u16, page),
+        Class::Waiting => put_decimal(u16::from(message::octet(contents, 0)), page),
         Class::Moment => put_moment(contents, page),
         Class::Charge => put_charge(contents, page),
         Class::Duration => put_duration(contents, page),
@@ -424,13 +435,14 @@ fn put_line(row: &Row, contents: &[u8], page: &mut Page)
 }
 
 // Is this the line of a row with contents that fit its class?
+#[tactic(auto, using(rules::proofs::Telling::same_is))]
 fn is_line(row: &Row, contents: &[u8], line: &[u8]) -> bool
     requires { length (line_text (line_of (rules_of book.PresentLenient) (seen row.now) contents.now)) ≤ buffer_size }
     ensures { result ≡ same_octets (line_text (line_of (rules_of book.PresentLenient) (seen row.now) contents.now)) line.now }
 {
     let mut page: Page = ArrayVec::new();
     put_line(row, contents, &mut page);
-    rules::same_octets(page.as_slice(), line)
+    page.as_slice() == line
 }
 
 // The line of a row, if its type counts.
@@ -480,13 +492,10 @@ fn kind_text(x: u8) -> &'static [u8]
 fn carried(octets: &[u8]) -> u16
     ensures { result ≡ carried_in (rules_of book.PresentLenient) (parameters_in octets.now) }
 {
-    let mut count: u16 = 0;
-    for found in Parameters::new(octets, rules::MOST) {
-        if !rules::is_listed(Book::PresentLenient, found.kind) {
-            count += 1;
-        }
-    }
-    count
+    let count = Parameters::new(octets, rules::MOST)
+        .filter(|found| !rules::is_listed(Book::PresentLenient, found.kind))
+        .count();
+    count as u16
 }
 
 fn put_message(octets: &[u8], page: &mut Page)
@@ -503,9 +512,9 @@ fn put_refusal(fault: Fault, page: &mut Page)
     requires { HasRoom (written (refusal_lines fault)) page.old }
     ensures { page.new.items ≡ page.old.items ++ written (refusal_lines fault) }
 {
-    put_number(b"refused=", fault.number as u16, page);
+    put_number(b"refused=", u16::from(fault.number), page);
     put_number(b"at=", fault.place, page);
-    put_number(b"in=", fault.parameter as u16, page);
+    put_number(b"in=", u16::from(fault.parameter), page);
 }
 
 fn put_listing(octets: &[u8], page: &mut Page)
@@ -576,16 +585,18 @@ pub fn says(i: usize, contents: &[u8], line: &[u8]) -> bool
 }
 
 // Is this the line of a message's kind?
+#[tactic(auto, using(rules::proofs::Telling::same_is))]
 pub fn says_kind(x: u8, line: &[u8]) -> bool
     ensures { result ≡ same_octets (line_text (kind_line x)) line.now }
 {
-    rules::same_octets(kind_text(x), line)
+    kind_text(x) == line
 }
 
 // Is this the line that no parameter is carried?
-#[tactic(auto, using(rules::proofs::Telling::telling), unfolding(crate::specs::Listing::carried_line, crate::specs::Listing::line_text, crate::specs::Numerals::decimal, crate::specs::Numerals::digits_by, rules::specs::Table::ascii))]
+#[tactic(auto, using(rules::proofs::Telling::telling, rules::proofs::Telling::same_is), unfolding(crate::specs::Listing::carried_line, crate::specs::Listing::line_text, crate::specs::Numerals::decimal, crate::specs::Numerals::digits_by, rules::specs::Table::ascii))]
 pub fn says_end(line: &[u8]) -> bool
     ensures { result ≡ same_octets (line_text (carried_line 0)) line.now }
 {
-    rules::same_octets(b"carried=0\n", line)
+    let text: &[u8] = b"carried=0\n";
+    text == line
 }
