@@ -191,6 +191,7 @@ fn put(text: &[u8], page: &mut Page)
 // ---- numbers
 
 // The digits of the quotient by ten, and then the last one.
+#[tactic(auto, using(std::proofs::lemmas::Grind::common_steps, crate::proofs::Numerals::decimal_small, crate::proofs::Numerals::decimal_big))]
 fn put_decimal(n: u16, page: &mut Page)
     requires { HasRoom (decimal n) page.old }
     ensures { page.new.items ≡ page.old.items ++ decimal n }
@@ -335,6 +336,7 @@ fn put_identity(contents: &[u8], page: &mut Page)
 }
 
 // A date and time, with its seconds where they were sent (document 02, Q-4).
+#[tactic(auto, using(std::proofs::lemmas::Grind::common_steps, rules::proofs::Telling::telling), unfolding(crate::specs::Listing::moment))]
 fn put_moment(contents: &[u8], page: &mut Page)
     requires { HasRoom (moment contents.now) page.old }
     ensures { page.new.items ≡ page.old.items ++ moment contents.now }
@@ -498,6 +500,7 @@ fn carried(octets: &[u8]) -> u16
     count as u16
 }
 
+#[tactic(auto, using(std::proofs::lemmas::Grind::common_steps, crate::proofs::Rows::message_text), unfolding(rules::specs::Table::ascii))]
 fn put_message(octets: &[u8], page: &mut Page)
     requires { HasRoom (written (lines_at (rules_of book.PresentLenient) octets.now)) page.old }
     ensures { page.new.items ≡ page.old.items ++ written (lines_at (rules_of book.PresentLenient) octets.now) }
