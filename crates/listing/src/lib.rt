@@ -448,6 +448,7 @@ fn is_line(row: &Row, contents: &[u8], line: &[u8]) -> bool
 }
 
 // The line of a row, if its type counts.
+#[tactic(auto, using(std::proofs::lemmas::Grind::common_steps, crate::proofs::Rows::row_line, crate::proofs::Rows::row_none))]
 fn put_row(octets: &[u8], row: &Row, page: &mut Page)
     requires { HasRoom (written (part_lines (rules_of book.PresentLenient) octets.now (seen row.now))) page.old }
     ensures { page.new.items ≡ page.old.items ++ written (part_lines (rules_of book.PresentLenient) octets.now (seen row.now)) }
