@@ -6,7 +6,6 @@ pub mod Whole
 pub mod Settled
 pub mod Promised
 pub mod One
-pub mod Tabled
 pub mod Lines
 pub mod Characters
 pub mod Values

@@ -2,6 +2,7 @@
 -- Assumes nothing.
 use mathlib.Core.Path.{◌≡◌, sym, ◌∙◌}
 use Rattle.listing.proofs.listing.Reads as listing
+use Rattle.listing.proofs.ListingText.text.Reads as text
 use Rattle.listing.proofs.kind_at.Reads as kind_at
 use Rattle.listing.proofs.key_length.Reads as key_length
 use Rattle.listing.proofs.says.Reads as says
@@ -28,3 +29,6 @@ says_kind_settled κs a r r' s s' p q = p ∙ sym q
 pub says_end_settled : (κs : _) (a : _) (r r' : _) (s s' : _) → says_end.Post κs a r s → says_end.Post κs a r' s' →
     r ≡ r'
 says_end_settled κs a r r' s s' p q = p ∙ sym q
+
+pub text_settled : (κs : _) (a : _) (r r' : _) (s s' : _) → text.Post κs a r s → text.Post κs a r' s' → r.now ≡ r'.now
+text_settled κs a r r' s s' p q = p ∙ sym q

@@ -2,13 +2,12 @@
 -- are, and they fit the buffer.
 -- Assumes nothing.
 use Rattle.std.proofs.Common.{ℕ, Result, Ok, Err}
-use Prim.Native.Nat.{ℕ, ◌+◌, ◌-◌, ◌≤◌}
+use Prim.Native.Nat.{ℕ, ◌≤◌}
 use mathlib.Core.Path.{◌≡◌, refl, sym, ◌∙◌, ap, ap₂, subst}
 use mathlib.Core.List.{List, [], ◌∷◌, ◌++◌}
 use mathlib.Core.Option.{Option}
 use native.Mathlib.Omega.{arith}
-use lib.ListN.{length, get_or, drop, replicate, length-replicate, replicate-append-replicate}
-use lib.Seq.{drop_at}
+use lib.ListN.{length, get_or}
 use Rattle.rules.specs.Octets.{Octets}
 use Rattle.rules.specs.Table.{Row, rules_of}
 use Rattle.rules.specs.declared.Book.TheVariants.{PresentLenient}
@@ -25,9 +24,7 @@ use Rattle.message.specs.Parts.{counted_at, part_of}
 use Rattle.message.proofs.Searching.{counted_part}
 use Rattle.message.specs.Parameters.{parameters_in, message_in}
 use Rattle.message.proofs.Standing.{message_in_lem}
-use Rattle.listing.specs.Put.{Room, Put, put_first}
-use Rattle.listing.specs.Listing.{Line, written, kind_line, carried_line, lines_for, row_lines, message_lines, part_lines, rows_at, lines_at, verdict_lines, refusal_lines, listing_of, buffer_of, buffer_size}
-use Rattle.listing.proofs.Pieces.{alone_room}
+use Rattle.listing.specs.Listing.{Line, written, kind_line, carried_line, lines_for, row_lines, message_lines, part_lines, rows_at, lines_at, verdict_lines, refusal_lines, listing_of, buffer_size}
 use Rattle.listing.proofs.Longest.{longest, refusal_short}
 
 -- ---- the rows from the octets, and from the message
@@ -100,24 +97,3 @@ listing_short o q = go (verdict_of (rules_of PresentLenient) o) refl
         length (listing_of (rules_of PresentLenient) o) ≤ buffer_size
     go (Ok n) e = let f = lists_message o q _ e n refl in omega (arith, ap length f.is, f.short)
     go (Err g) e = let f = lists_refusal o q _ e g refl in omega (arith, ap length f.is, f.short)
-
--- ---- in the buffer
-zeros : (n k z : ℕ) → n ≤ k → drop n (replicate k z) ≡ replicate (k - n) z
-zeros n k z h =
-    let e : n + (k - n) ≡ k = omega arith in
-    ap (drop n) (sym (replicate-append-replicate n (k - n) z ∙ ap (λ (x : ℕ). replicate x z) e))
-    ∙ drop_at (replicate n z) (replicate (k - n) z) n (length-replicate n z)
-
-module _ (o v : List ℕ) (l : Fitting o v) where
-  pub listing_room : Room v 0 (replicate buffer_size 0)
-  listing_room = alone_room v buffer_size l.short
-
-  pub listing_text : (end : ℕ) (new : List ℕ) → Put v 0 (replicate buffer_size 0) end new →
-      (record { octets = new; length = end }) ≡ buffer_of (listing_of (rules_of PresentLenient) o)
-  unfolding buffer_of
-  listing_text end new p =
-      let n : end ≡ length v = omega (arith, p.ends) in
-      let w : new ≡ v ++ replicate (buffer_size - length v) 0 =
-      put_first v (replicate buffer_size 0) end new p
-      ∙ ap (λ (x : List ℕ). v ++ x) (zeros (length v) buffer_size 0 l.short) in
-      (λ i. record { octets = w i; length = n i }) ∙ ap buffer_of l.is

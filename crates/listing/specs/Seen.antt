@@ -1,19 +1,15 @@
--- What the code's table says of its rows, and the rules of theirs.
+-- The rule of a row of the code's table.
 -- Assumes nothing.
-use Rattle.std.specs.Prelude.{ℕ, List, [], ◌∷◌}
 use Rattle.rules.specs.Table as table
+use Rattle.rules.specs.Table.{rules_of, class_of, rival_of}
+use Rattle.rules.specs.declared.Book.TheVariants.{PresentLenient}
 use Rattle.listing.specs.declared.Row.{Row}
 
-abbrev pub one : Row → ℕ × List ℕ
-one r = (r.kind, r.key.now)
-
-abbrev pub rule : table.Row → ℕ × List ℕ
-rule r = (r.kind, r.key)
-
-abbrev pub ones : List Row → List (ℕ × List ℕ)
-ones [] = []
-ones (r ∷ rs) = one r ∷ ones rs
-
-abbrev pub told : List table.Row → List (ℕ × List ℕ)
-told [] = []
-told (r ∷ rs) = rule r ∷ told rs
+-- its class and rival are those of its type
+abbrev pub seen : Row → table.Row
+seen r = record {
+  kind = r.kind;
+  class = class_of (rules_of PresentLenient) r.kind;
+  rival = rival_of (rules_of PresentLenient) r.kind;
+  key = r.key.now;
+}

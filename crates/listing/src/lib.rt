@@ -3,26 +3,24 @@
 // that it needs no refusal of its own. And whether one line is that of a row with contents.
 #![tactic(auto)]
 
-ghost use Rattle.std.specs.Prelude.{◌≡◌, [], ◌∷◌, ◌++◌, suc, ◌<◌, ◌≤◌, length, drop, T};
+ghost use Rattle.std.specs.Prelude.{◌≡◌, [], ◌∷◌, ◌++◌, suc, ◌<◌, ◌≤◌, length, take, drop, map, IfSome, IfNone};
 ghost use Rattle.rules.specs.Tests.{◌≤?◌, ◌and◌};
 ghost use Rattle.rules.specs.Pairwise.{same_octets};
-ghost use Rattle.rules.specs.Table.{rules_of, class_of, contents_fit, style_of, ascii};
+ghost use Rattle.rules.specs.Table.{rules_of, style_of, ascii};
 ghost use Rattle.rules.specs.declared.Book.TheVariants as book;
 ghost use Rattle.rules.specs.Counting.{carried_in};
 ghost use Rattle.message.specs.Parameters.{parameters_in};
 ghost use Rattle.listing.specs.Numerals.{hex_digit, hex, decimal};
-ghost use Rattle.listing.specs.Put.{Room, Put};
-ghost use Rattle.listing.specs.Seen.{ones, told};
-ghost use Rattle.listing.specs.Listing.{half, seconds, coded, clock, lamp_word, state_word, reference, identity, moment, duration, charge, selector_word, selected, terminal, printed, kind_line, carried_line, number_line, line_text, line_of, says_line, row_at, row_count, part_lines, rows_at, lines_at, written, refusal_lines, listing_of, buffer_of};
+ghost use Rattle.listing.specs.Page.{HasRoom};
+ghost use Rattle.listing.specs.Seen.{seen};
+ghost use Rattle.listing.specs.Listing.{half, seconds, coded, clock, lamp_word, state_word, reference, currency, identity, moment, duration, charge, selector_word, selected, terminal, printed, kind_line, carried_line, number_line, line_text, line_of, says_line, row_at, row_count, part_lines, rows_at, lines_at, written, refusal_lines, listing_of, buffer_of, buffer_size};
 
+use arrayvec::ArrayVec;
 use message::{Parameters, Part};
 use rules::{Book, Class, Fault};
 
 // No listing is longer.
 const LONGEST: usize = 553;
-
-// No line of a kind is longer, nor that of no carried parameter.
-const SHORT: usize = 12;
 
 // A listing: its first `length` octets; those behind them are 0.
 #[derive(Clone, Copy)]
@@ -30,6 +28,19 @@ pub struct ListingText {
     pub octets: [u8; LONGEST],
     pub length: usize,
 }
+
+impl ListingText {
+    // The listing's octets.
+    pub fn text(&self) -> &[u8]
+        ensures { result.now ≡ take self.now.length self.now.octets }
+    {
+        self.octets.get(..self.length).unwrap_or(&self.octets)
+    }
+}
+
+// What is printed so far. Each function that puts a text on it asks for room, since a page has no more than the longest
+// listing and none of them can refuse (`longest`).
+type Page = ArrayVec<u8, LONGEST>;
 
 // A row of the listing: a parameter type and its key.
 #[derive(Clone, Copy)]
@@ -152,56 +163,48 @@ const TABLE: &[Row] = &[
     },
 ];
 
-#[tactic(auto, unfolding(rules::specs::Table::rules_of, rules::specs::Table::ascii))]
 fn table() -> &'static [Row]
-    ensures said { ones result.now ≡ told (rules_of book.PresentLenient).rows }
-    ensures long { length result.now ≡ row_count }
+    ensures { map seen result.now ≡ (rules_of book.PresentLenient).rows }
 {
     TABLE
 }
 
-fn entry(i: usize) -> &'static Row
-    requires { i < row_count }
-    ensures kind { result.now.kind ≡ (row_at i).kind }
-    ensures key { result.now.key.now ≡ (row_at i).key }
+// The row at a place, if there is one.
+#[tactic(auto, using(crate::proofs::Keys::row_seen, crate::proofs::Keys::rows_many))]
+fn entry(i: usize) -> Option<&'static Row>
+    ensures row { IfSome result (λ r. (i < row_count) × (seen r.now ≡ row_at i)) }
+    ensures none { IfNone result (row_count ≤ i) }
 {
-    &table()[i]
+    table().get(i)
 }
 
 // ---- octets put behind those that stand there
 
-fn put(text: &[u8], out: &mut [u8], at: usize) -> usize
-    requires { Room text.now at out.old }
-    ensures { Put text.now at out.old result out.new }
+fn put(text: &[u8], page: &mut Page)
+    requires { HasRoom text.now page.old }
+    ensures { page.new.items ≡ page.old.items ++ text.now }
 {
-    let end = at + text.len();
-    out[at..end].copy_from_slice(text);
-    end
-}
-
-fn put_octet(x: u8, out: &mut [u8], at: usize) -> usize
-    requires { Room (x ∷ []) at out.old }
-    ensures { Put (x ∷ []) at out.old result out.new }
-{
-    out[at] = x;
-    at + 1
+    // There is room, so it is not refused.
+    let _ = page.try_extend_from_slice(text);
 }
 
 // ---- numbers
 
 // The digits of the quotient by ten, and then the last one.
-fn put_decimal(n: u16, out: &mut [u8], at: usize) -> usize
-    requires { Room (decimal n) at out.old }
-    ensures { Put (decimal n) at out.old result out.new }
+#[tactic(auto, using(std::proofs::lemmas::Grind::common_steps, crate::proofs::Numerals::decimal_small, crate::proofs::Numerals::decimal_big))]
+fn put_decimal(n: u16, page: &mut Page)
+    requires { HasRoom (decimal n) page.old }
+    ensures { page.new.items ≡ page.old.items ++ decimal n }
 {
     if n < 10 {
-        put_octet(48 + n as u8, out, at)
+        page.push(b'0' + n as u8);
     } else {
-        let last = put_decimal(n / 10, out, at);
-        put_octet(48 + (n % 10) as u8, out, last)
+        put_decimal(n / 10, page);
+        page.push(b'0' + (n % 10) as u8);
     }
 }
 
+#[tactic(auto, using(rules::proofs::Telling::telling), unfolding(crate::specs::Numerals::hex_digit))]
 fn hex_digit(k: u8) -> u8
     requires { k < 16 }
     ensures { result ≡ hex_digit k }
@@ -209,296 +212,280 @@ fn hex_digit(k: u8) -> u8
     if k <= 9 { 48 + k } else { 55 + k }
 }
 
-fn put_hex(x: u8, out: &mut [u8], at: usize) -> usize
-    requires { Room (hex x) at out.old }
-    ensures { Put (hex x) at out.old result out.new }
+#[tactic(auto, unfolding(crate::specs::Numerals::hex))]
+fn hex(x: u8) -> [u8; 2]
+    ensures { result ≡ hex x }
 {
-    let text = [hex_digit(x / 16), hex_digit(x % 16)];
-    put(&text, out, at)
+    [hex_digit(x / 16), hex_digit(x % 16)]
 }
 
-// ---- values
+// ---- pieces of values
 
 // Two numbers of two digits with a mark between them.
-fn put_half(contents: &[u8], i: usize, mark: u8, out: &mut [u8], at: usize) -> usize
-    requires { (i ≤ 4) × Room (half contents.now i mark) at out.old }
-    ensures { Put (half contents.now i mark) at out.old result out.new }
+#[tactic(auto, unfolding(crate::specs::Listing::half))]
+fn half(contents: &[u8], i: usize, mark: u8) -> [u8; 5]
+    requires { i ≤ 4 }
+    ensures { result ≡ half contents.now i mark }
 {
-    let text = [
+    [
         message::octet(contents, i),
         message::octet(contents, i + 1),
         mark,
         message::octet(contents, i + 2),
         message::octet(contents, i + 3),
-    ];
-    put(&text, out, at)
+    ]
 }
 
 // A colon and a number of two digits.
-fn put_seconds(contents: &[u8], i: usize, out: &mut [u8], at: usize) -> usize
-    requires { (i ≤ 8) × Room (seconds contents.now i) at out.old }
-    ensures { Put (seconds contents.now i) at out.old result out.new }
+#[tactic(auto, unfolding(crate::specs::Listing::seconds))]
+fn seconds(contents: &[u8], i: usize) -> [u8; 3]
+    requires { i ≤ 8 }
+    ensures { result ≡ seconds contents.now i }
 {
-    let text = [
+    [
         b':',
         message::octet(contents, i),
         message::octet(contents, i + 1),
-    ];
-    put(&text, out, at)
+    ]
 }
 
-// What stands behind the first k octets.
-fn put_rest(contents: &[u8], k: usize, out: &mut [u8], at: usize) -> usize
-    requires { Room (drop k contents.now) at out.old }
-    ensures { Put (drop k contents.now) at out.old result out.new }
+// Three octets as they are, and a space.
+#[tactic(auto, unfolding(crate::specs::Listing::currency))]
+fn currency(contents: &[u8]) -> [u8; 4]
+    ensures { result ≡ currency contents.now }
 {
-    if k < contents.len() {
-        put(&contents[k..], out, at)
-    } else {
-        at
-    }
-}
-
-// An octet in hex, a space, and what stands behind it.
-fn put_coded(contents: &[u8], i: usize, out: &mut [u8], at: usize) -> usize
-    requires { (i ≤ 3) × Room (coded contents.now i) at out.old }
-    ensures { Put (coded contents.now i) at out.old result out.new }
-{
-    let code = put_hex(message::octet(contents, i), out, at);
-    let gap = put_octet(b' ', out, code);
-    put_rest(contents, i + 1, out, gap)
-}
-
-fn put_clock(contents: &[u8], out: &mut [u8], at: usize) -> usize
-    requires { Room (clock contents.now) at out.old }
-    ensures { Put (clock contents.now) at out.old result out.new }
-{
-    let date = put_half(contents, 0, b'-', out, at);
-    let gap = put_octet(b' ', out, date);
-    put_half(contents, 4, b':', out, gap)
-}
-
-fn put_lamp(x: u8, out: &mut [u8], at: usize) -> usize
-    requires { Room (lamp_word x) at out.old }
-    ensures { Put (lamp_word x) at out.old result out.new }
-{
-    if x == 0 {
-        put(b"off", out, at)
-    } else {
-        put(b"on", out, at)
-    }
-}
-
-fn put_state(x: u8, out: &mut [u8], at: usize) -> usize
-    requires { Room (state_word x) at out.old }
-    ensures { Put (state_word x) at out.old result out.new }
-{
-    if x == 0x55 {
-        put(b"unset", out, at)
-    } else {
-        put_lamp(x, out, at)
-    }
-}
-
-fn reference_in(contents: &[u8]) -> u16
-    ensures { result ≡ reference contents.now }
-{
-    let high = message::octet(contents, 1);
-    let low = message::octet(contents, 2);
-    rules::reference_of(high, low)
-}
-
-fn put_identity(contents: &[u8], out: &mut [u8], at: usize) -> usize
-    requires { Room (identity contents.now) at out.old }
-    ensures { Put (identity contents.now) at out.old result out.new }
-{
-    let state = put_state(message::octet(contents, 0), out, at);
-    let gap = put_octet(b' ', out, state);
-    put_decimal(reference_in(contents), out, gap)
-}
-
-// A date and time, with its seconds where they were sent (document 02, Q-4).
-fn put_moment(contents: &[u8], out: &mut [u8], at: usize) -> usize
-    requires { Room (moment contents.now) at out.old }
-    ensures { Put (moment contents.now) at out.old result out.new }
-{
-    let clock = put_clock(contents, out, at);
-    if contents.len() == 10 {
-        put_seconds(contents, 8, out, clock)
-    } else {
-        clock
-    }
-}
-
-fn put_duration(contents: &[u8], out: &mut [u8], at: usize) -> usize
-    requires { Room (duration contents.now) at out.old }
-    ensures { Put (duration contents.now) at out.old result out.new }
-{
-    let minutes = put_half(contents, 0, b':', out, at);
-    put_seconds(contents, 4, out, minutes)
-}
-
-fn put_charge(contents: &[u8], out: &mut [u8], at: usize) -> usize
-    requires { Room (charge contents.now) at out.old }
-    ensures { Put (charge contents.now) at out.old result out.new }
-{
-    let currency = [
+    [
         message::octet(contents, 0),
         message::octet(contents, 1),
         message::octet(contents, 2),
         b' ',
-    ];
-    let flags = put(&currency, out, at);
-    put_coded(contents, 3, out, flags)
+    ]
 }
 
-fn put_selector(x: u8, out: &mut [u8], at: usize) -> usize
-    requires { Room (selector_word x) at out.old }
-    ensures { Put (selector_word x) at out.old result out.new }
+// What stands behind the first k octets.
+fn rest(contents: &[u8], k: usize) -> &[u8]
+    ensures { result.now ≡ drop k contents.now }
 {
-    if x == 1 {
-        put(b"connection ", out, at)
-    } else if x == 2 {
-        put(b"number ", out, at)
-    } else {
-        put(b"subaddress ", out, at)
+    contents.get(k..).unwrap_or(&[])
+}
+
+#[tactic(auto, using(rules::proofs::Telling::telling), unfolding(crate::specs::Listing::lamp_word, rules::specs::Table::ascii))]
+fn lamp_word(x: u8) -> &'static [u8]
+    ensures { result.now ≡ lamp_word x }
+{
+    if x == 0 { b"off" } else { b"on" }
+}
+
+#[tactic(auto, using(rules::proofs::Telling::telling), unfolding(crate::specs::Listing::state_word, rules::specs::Table::ascii))]
+fn state_word(x: u8) -> &'static [u8]
+    ensures { result.now ≡ state_word x }
+{
+    if x == 0x55 { b"unset" } else { lamp_word(x) }
+}
+
+#[tactic(auto, using(rules::proofs::Telling::telling), unfolding(crate::specs::Listing::selector_word, rules::specs::Table::ascii))]
+fn selector_word(x: u8) -> &'static [u8]
+    ensures { result.now ≡ selector_word x }
+{
+    match x {
+        1 => b"connection ",
+        2 => b"number ",
+        _ => b"subaddress ",
     }
 }
 
-fn put_selected(contents: &[u8], out: &mut [u8], at: usize) -> usize
-    requires { Room (selected contents.now) at out.old }
-    ensures { Put (selected contents.now) at out.old result out.new }
+#[tactic(auto, unfolding(crate::specs::Listing::reference))]
+fn reference_in(contents: &[u8]) -> u16
+    ensures { result ≡ reference contents.now }
+{
+    rules::reference_of(message::octet(contents, 1), message::octet(contents, 2))
+}
+
+// ---- values
+
+// An octet in hex, a space, and what stands behind it.
+#[tactic(auto, unfolding(crate::specs::Listing::coded, rules::specs::Table::ascii))]
+fn put_coded(contents: &[u8], i: usize, page: &mut Page)
+    requires code { i ≤ 3 }
+    requires room { HasRoom (coded contents.now i) page.old }
+    ensures { page.new.items ≡ page.old.items ++ coded contents.now i }
+{
+    put(&hex(message::octet(contents, i)), page);
+    page.push(b' ');
+    put(rest(contents, i + 1), page);
+}
+
+#[tactic(auto, unfolding(crate::specs::Listing::clock, rules::specs::Table::ascii))]
+fn put_clock(contents: &[u8], page: &mut Page)
+    requires { HasRoom (clock contents.now) page.old }
+    ensures { page.new.items ≡ page.old.items ++ clock contents.now }
+{
+    put(&half(contents, 0, b'-'), page);
+    page.push(b' ');
+    put(&half(contents, 4, b':'), page);
+}
+
+#[tactic(auto, unfolding(crate::specs::Listing::identity, rules::specs::Table::ascii))]
+fn put_identity(contents: &[u8], page: &mut Page)
+    requires { HasRoom (identity contents.now) page.old }
+    ensures { page.new.items ≡ page.old.items ++ identity contents.now }
+{
+    put(state_word(message::octet(contents, 0)), page);
+    page.push(b' ');
+    put_decimal(reference_in(contents), page);
+}
+
+// A date and time, with its seconds where they were sent (document 02, Q-4).
+#[tactic(auto, using(std::proofs::lemmas::Grind::common_steps, rules::proofs::Telling::telling), unfolding(crate::specs::Listing::moment))]
+fn put_moment(contents: &[u8], page: &mut Page)
+    requires { HasRoom (moment contents.now) page.old }
+    ensures { page.new.items ≡ page.old.items ++ moment contents.now }
+{
+    put_clock(contents, page);
+    if contents.len() == 10 {
+        put(&seconds(contents, 8), page);
+    }
+}
+
+#[tactic(auto, unfolding(crate::specs::Listing::duration))]
+fn put_duration(contents: &[u8], page: &mut Page)
+    requires { HasRoom (duration contents.now) page.old }
+    ensures { page.new.items ≡ page.old.items ++ duration contents.now }
+{
+    put(&half(contents, 0, b':'), page);
+    put(&seconds(contents, 4), page);
+}
+
+#[tactic(auto, unfolding(crate::specs::Listing::charge))]
+fn put_charge(contents: &[u8], page: &mut Page)
+    requires { HasRoom (charge contents.now) page.old }
+    ensures { page.new.items ≡ page.old.items ++ charge contents.now }
+{
+    put(&currency(contents), page);
+    put_coded(contents, 3, page);
+}
+
+#[tactic(auto, using(rules::proofs::Telling::telling), unfolding(crate::specs::Listing::selected))]
+fn put_selected(contents: &[u8], page: &mut Page)
+    requires { HasRoom (selected contents.now) page.old }
+    ensures { page.new.items ≡ page.old.items ++ selected contents.now }
 {
     if message::octet(contents, 0) == 1 {
-        put_hex(message::octet(contents, 1), out, at)
+        put(&hex(message::octet(contents, 1)), page);
     } else {
-        put_rest(contents, 1, out, at)
+        put(rest(contents, 1), page);
     }
 }
 
-fn put_terminal(contents: &[u8], out: &mut [u8], at: usize) -> usize
-    requires { Room (terminal contents.now) at out.old }
-    ensures { Put (terminal contents.now) at out.old result out.new }
+#[tactic(auto, unfolding(crate::specs::Listing::terminal))]
+fn put_terminal(contents: &[u8], page: &mut Page)
+    requires { HasRoom (terminal contents.now) page.old }
+    ensures { page.new.items ≡ page.old.items ++ terminal contents.now }
 {
-    let word = put_selector(message::octet(contents, 0), out, at);
-    put_selected(contents, out, word)
+    put(selector_word(message::octet(contents, 0)), page);
+    put_selected(contents, page);
 }
 
 // The value that contents say, in the style of their class.
 #[tactic(auto, unfolding(rules::specs::Table::style_of, crate::specs::Listing::printed, crate::specs::Listing::display))]
-fn put_value(class: Class, contents: &[u8], out: &mut [u8], at: usize) -> usize
-    requires { Room (printed (style_of class) contents.now) at out.old }
-    ensures { Put (printed (style_of class) contents.now) at out.old result out.new }
+fn put_value(class: Class, contents: &[u8], page: &mut Page)
+    requires { HasRoom (printed (style_of class) contents.now) page.old }
+    ensures { page.new.items ≡ page.old.items ++ printed (style_of class) contents.now }
 {
     match class {
-        Class::Carried | Class::Unlisted => at,
-        Class::Date => put_clock(contents, out, at),
-        Class::Lamp => put_lamp(message::octet(contents, 0), out, at),
-        Class::Identity => put_identity(contents, out, at),
-        Class::Waiting => put_decimal(message::octet(contents, 0) as u16, out, at),
-        Class::Moment => put_moment(contents, out, at),
-        Class::Charge => put_charge(contents, out, at),
-        Class::Duration => put_duration(contents, out, at),
-        Class::Terminal => put_terminal(contents, out, at),
-        Class::Display => put_coded(contents, 0, out, at),
+        Class::Carried | Class::Unlisted => {}
+        Class::Date => put_clock(contents, page),
+        Class::Lamp => put(lamp_word(message::octet(contents, 0)), page),
+        Class::Identity => put_identity(contents, page),
+        Class::Waiting => put_decimal(u16::from(message::octet(contents, 0)), page),
+        Class::Moment => put_moment(contents, page),
+        Class::Charge => put_charge(contents, page),
+        Class::Duration => put_duration(contents, page),
+        Class::Terminal => put_terminal(contents, page),
+        Class::Display => put_coded(contents, 0, page),
         Class::CallType
         | Class::Forwarded
         | Class::User
         | Class::Service
         | Class::OldForwarded
-        | Class::OldUser => put_hex(message::octet(contents, 0), out, at),
+        | Class::OldUser => put(&hex(message::octet(contents, 0)), page),
         Class::Number
         | Class::Absent
         | Class::Name
         | Class::ShortText
         | Class::Extension
-        | Class::OldNumber => put(contents, out, at),
+        | Class::OldNumber => put(contents, page),
     }
 }
 
 // ---- lines
 
-// The key of a row, and `=`.
-fn put_key(i: usize, out: &mut [u8], at: usize) -> usize
-    requires { (i < row_count) × Room ((row_at i).key ++ ascii "=") at out.old }
-    ensures { Put ((row_at i).key ++ ascii "=") at out.old result out.new }
+// The line of a row with contents.
+#[tactic(auto, unfolding(crate::specs::Listing::line_of, crate::specs::Listing::line_text, rules::specs::Table::ascii))]
+fn put_line(row: &Row, contents: &[u8], page: &mut Page)
+    requires { HasRoom (line_text (line_of (rules_of book.PresentLenient) (seen row.now) contents.now)) page.old }
+    ensures { page.new.items ≡ page.old.items ++ line_text (line_of (rules_of book.PresentLenient) (seen row.now) contents.now) }
 {
-    let key = put(entry(i).key, out, at);
-    put_octet(b'=', out, key)
-}
-
-fn put_line(i: usize, contents: &[u8], out: &mut [u8], at: usize) -> usize
-    requires { (i < row_count) × Room (line_text (line_of (rules_of book.PresentLenient) (row_at i) contents.now)) at out.old }
-    ensures { Put (line_text (line_of (rules_of book.PresentLenient) (row_at i) contents.now)) at out.old result out.new }
-{
-    let class = rules::class_of(Book::PresentLenient, entry(i).kind);
-    let key = put_key(i, out, at);
-    let value = put_value(class, contents, out, key);
-    put_octet(b'\n', out, value)
+    put(row.key, page);
+    page.push(b'=');
+    put_value(
+        rules::class_of(Book::PresentLenient, row.kind),
+        contents,
+        page,
+    );
+    page.push(b'\n');
 }
 
 // Is this the line of a row with contents that fit its class?
-fn is_line(i: usize, contents: &[u8], line: &[u8]) -> bool
-    requires { (i < row_count) × T (contents_fit (class_of (rules_of book.PresentLenient) (row_at i).kind) contents.now) }
-    ensures { result ≡ same_octets (line_text (line_of (rules_of book.PresentLenient) (row_at i) contents.now)) line.now }
+#[tactic(auto, using(rules::proofs::Telling::same_is))]
+fn is_line(row: &Row, contents: &[u8], line: &[u8]) -> bool
+    requires { length (line_text (line_of (rules_of book.PresentLenient) (seen row.now) contents.now)) ≤ buffer_size }
+    ensures { result ≡ same_octets (line_text (line_of (rules_of book.PresentLenient) (seen row.now) contents.now)) line.now }
 {
-    let mut text = [0u8; LONGEST];
-    let end = put_line(i, contents, &mut text, 0);
-    rules::same_octets(&text[..end], line)
+    let mut page: Page = ArrayVec::new();
+    put_line(row, contents, &mut page);
+    page.as_slice() == line
 }
 
 // The line of a row, if its type counts.
-fn put_row(octets: &[u8], i: usize, out: &mut [u8], at: usize) -> usize
-    requires { (i < row_count) × Room (written (part_lines (rules_of book.PresentLenient) octets.now (row_at i))) at out.old }
-    ensures { Put (written (part_lines (rules_of book.PresentLenient) octets.now (row_at i))) at out.old result out.new }
+#[tactic(auto, using(std::proofs::lemmas::Grind::common_steps, crate::proofs::Rows::row_line, crate::proofs::Rows::row_none))]
+fn put_row(octets: &[u8], row: &Row, page: &mut Page)
+    requires { HasRoom (written (part_lines (rules_of book.PresentLenient) octets.now (seen row.now))) page.old }
+    ensures { page.new.items ≡ page.old.items ++ written (part_lines (rules_of book.PresentLenient) octets.now (seen row.now)) }
 {
-    let part = message::counted(Book::PresentLenient, octets, entry(i).kind);
-    match part {
-        Some(Part { start, length }) => {
-            let end = start + length as usize;
-            put_line(i, &octets[start..end], out, at)
-        }
-        None => at,
+    if let Some(Part { start, length }) = message::counted(Book::PresentLenient, octets, row.kind) {
+        put_line(row, &octets[start..start + length as usize], page);
     }
 }
 
-fn put_rows(octets: &[u8], out: &mut [u8], at: usize) -> usize
-    requires { Room (written (rows_at (rules_of book.PresentLenient) octets.now (rules_of book.PresentLenient).rows)) at out.old }
-    ensures { Put (written (rows_at (rules_of book.PresentLenient) octets.now (rules_of book.PresentLenient).rows)) at out.old result out.new }
+fn put_rows(octets: &[u8], page: &mut Page)
+    requires { HasRoom (written (rows_at (rules_of book.PresentLenient) octets.now (rules_of book.PresentLenient).rows)) page.old }
+    ensures { page.new.items ≡ page.old.items ++ written (rows_at (rules_of book.PresentLenient) octets.now (rules_of book.PresentLenient).rows) }
 {
-    let mut end = at;
-    for i in 0..ROWS {
-        end = put_row(octets, i, out, end);
+    for row in table() {
+        put_row(octets, row, page);
     }
-    end
 }
 
 // A line of a key, `=` with it, and a number.
-fn put_number(key: &[u8], n: u16, out: &mut [u8], at: usize) -> usize
-    requires { Room (number_line key.now n) at out.old }
-    ensures { Put (number_line key.now n) at out.old result out.new }
+#[tactic(auto, unfolding(crate::specs::Listing::number_line, rules::specs::Table::ascii))]
+fn put_number(key: &[u8], n: u16, page: &mut Page)
+    requires { HasRoom (number_line key.now n) page.old }
+    ensures { page.new.items ≡ page.old.items ++ number_line key.now n }
 {
-    let number = put(key, out, at);
-    let end = put_decimal(n, out, number);
-    put_octet(b'\n', out, end)
+    put(key, page);
+    put_decimal(n, page);
+    page.push(b'\n');
 }
 
-// The line of how many parameters are carried.
-fn put_carried(n: u16, out: &mut [u8], at: usize) -> usize
-    requires { Room (line_text (carried_line n)) at out.old }
-    ensures { Put (line_text (carried_line n)) at out.old result out.new }
-{
-    put_number(b"carried=", n, out, at)
-}
-
-fn put_kind(x: u8, out: &mut [u8], at: usize) -> usize
-    requires { Room (line_text (kind_line x)) at out.old }
-    ensures { Put (line_text (kind_line x)) at out.old result out.new }
+#[tactic(auto, using(rules::proofs::Telling::telling), unfolding(crate::specs::Listing::kind_line, crate::specs::Listing::line_text, rules::specs::Table::ascii))]
+fn kind_text(x: u8) -> &'static [u8]
+    ensures { result.now ≡ line_text (kind_line x) }
 {
     if x == 0x80 {
-        put(b"kind=call\n", out, at)
+        b"kind=call\n"
     } else {
-        put(b"kind=notice\n", out, at)
+        b"kind=notice\n"
     }
 }
 
@@ -508,101 +495,112 @@ fn put_kind(x: u8, out: &mut [u8], at: usize) -> usize
 fn carried(octets: &[u8]) -> u16
     ensures { result ≡ carried_in (rules_of book.PresentLenient) (parameters_in octets.now) }
 {
-    let mut count: u16 = 0;
-    for found in Parameters::new(octets, rules::MOST) {
-        if !rules::is_listed(Book::PresentLenient, found.kind) {
-            count += 1;
-        }
+    let count = Parameters::new(octets, rules::MOST)
+        .filter(|found| !rules::is_listed(Book::PresentLenient, found.kind))
+        .count();
+    count as u16
+}
+
+#[tactic(auto, using(std::proofs::lemmas::Grind::common_steps, crate::proofs::Rows::message_text), unfolding(rules::specs::Table::ascii))]
+fn put_message(octets: &[u8], page: &mut Page)
+    requires { HasRoom (written (lines_at (rules_of book.PresentLenient) octets.now)) page.old }
+    ensures { page.new.items ≡ page.old.items ++ written (lines_at (rules_of book.PresentLenient) octets.now) }
+{
+    put(kind_text(message::octet(octets, 0)), page);
+    put_rows(octets, page);
+    put_number(b"carried=", carried(octets), page);
+}
+
+#[tactic(auto, unfolding(crate::specs::Listing::refusal_lines, crate::specs::Listing::written, crate::specs::Listing::line_text, crate::specs::Listing::number_line, rules::specs::Table::ascii))]
+fn put_refusal(fault: Fault, page: &mut Page)
+    requires { HasRoom (written (refusal_lines fault)) page.old }
+    ensures { page.new.items ≡ page.old.items ++ written (refusal_lines fault) }
+{
+    put_number(b"refused=", u16::from(fault.number), page);
+    put_number(b"at=", fault.place, page);
+    put_number(b"in=", u16::from(fault.parameter), page);
+}
+
+fn put_listing(octets: &[u8], page: &mut Page)
+    requires { HasRoom (listing_of (rules_of book.PresentLenient) octets.now) page.old }
+    ensures { page.new.items ≡ page.old.items ++ listing_of (rules_of book.PresentLenient) octets.now }
+{
+    match message::judge(Book::PresentLenient, octets) {
+        Ok(_) => put_message(octets, page),
+        Err(fault) => put_refusal(fault, page),
     }
-    count
 }
 
-fn put_message(octets: &[u8], out: &mut [u8]) -> usize
-    requires { Room (written (lines_at (rules_of book.PresentLenient) octets.now)) 0 out.old }
-    ensures { Put (written (lines_at (rules_of book.PresentLenient) octets.now)) 0 out.old result out.new }
+fn text_of(page: &Page) -> ListingText
+    ensures { result ≡ buffer_of page.now.items }
 {
-    let kind = put_kind(message::octet(octets, 0), out, 0);
-    let rows = put_rows(octets, out, kind);
-    put_carried(carried(octets), out, rows)
-}
-
-fn put_refusal(fault: Fault, out: &mut [u8]) -> usize
-    requires { Room (written (refusal_lines fault)) 0 out.old }
-    ensures { Put (written (refusal_lines fault)) 0 out.old result out.new }
-{
-    let first = put_number(b"refused=", fault.number as u16, out, 0);
-    let second = put_number(b"at=", fault.place, out, first);
-    put_number(b"in=", fault.parameter as u16, out, second)
+    let text = page.as_slice();
+    let mut octets = [0u8; LONGEST];
+    octets[..text.len()].copy_from_slice(text);
+    ListingText {
+        octets,
+        length: text.len(),
+    }
 }
 
 // What showmsg prints of any octets.
 pub fn listing(octets: &[u8]) -> ListingText
     ensures { result ≡ buffer_of (listing_of (rules_of book.PresentLenient) octets.now) }
 {
-    let mut out = [0u8; LONGEST];
-    let verdict = message::judge(Book::PresentLenient, octets);
-    match verdict {
-        Ok(_) => {
-            let length = put_message(octets, &mut out);
-            ListingText {
-                octets: out,
-                length,
-            }
-        }
-        Err(fault) => {
-            let length = put_refusal(fault, &mut out);
-            ListingText {
-                octets: out,
-                length,
-            }
-        }
-    }
+    let mut page: Page = ArrayVec::new();
+    put_listing(octets, &mut page);
+    text_of(&page)
 }
 
 // The parameter type of a row; 0 behind the last.
+#[tactic(auto, using(crate::proofs::Keys::no_row_lem))]
 pub fn kind_at(i: usize) -> u8
     ensures { result ≡ (row_at i).kind }
 {
-    if i < ROWS { entry(i).kind } else { 0 }
+    match entry(i) {
+        Some(row) => row.kind,
+        None => 0,
+    }
 }
 
 // How many octets the key of a row has; 0 behind the last.
+#[tactic(auto, using(crate::proofs::Keys::no_row_lem))]
 pub fn key_length(i: usize) -> usize
     ensures { result ≡ length (row_at i).key }
 {
-    if i < ROWS { entry(i).key.len() } else { 0 }
+    match entry(i) {
+        Some(row) => row.key.len(),
+        None => 0,
+    }
 }
 
 // Is this the line of a row with these contents, which fit its class?
+#[tactic(auto, using(rules::proofs::Telling::telling), unfolding(crate::specs::Listing::says_line))]
 pub fn says(i: usize, contents: &[u8], line: &[u8]) -> bool
     ensures { result ≡ (suc i ≤? row_count and says_line (rules_of book.PresentLenient) (row_at i) contents.now line.now) }
 {
-    if i < ROWS {
-        let class = rules::class_of(Book::PresentLenient, entry(i).kind);
-        if contents::fits(class, contents) {
-            is_line(i, contents, line)
-        } else {
-            false
+    match entry(i) {
+        Some(row) => {
+            let class = rules::class_of(Book::PresentLenient, row.kind);
+            contents::fits(class, contents) && is_line(row, contents, line)
         }
-    } else {
-        false
+        None => false,
     }
 }
 
 // Is this the line of a message's kind?
+#[tactic(auto, using(rules::proofs::Telling::same_is))]
 pub fn says_kind(x: u8, line: &[u8]) -> bool
     ensures { result ≡ same_octets (line_text (kind_line x)) line.now }
 {
-    let mut text = [0u8; SHORT];
-    let end = put_kind(x, &mut text, 0);
-    rules::same_octets(&text[..end], line)
+    kind_text(x) == line
 }
 
 // Is this the line that no parameter is carried?
+#[tactic(auto, using(rules::proofs::Telling::telling, rules::proofs::Telling::same_is), unfolding(crate::specs::Listing::carried_line, crate::specs::Listing::line_text, crate::specs::Numerals::decimal, crate::specs::Numerals::digits_by, rules::specs::Table::ascii))]
 pub fn says_end(line: &[u8]) -> bool
     ensures { result ≡ same_octets (line_text (carried_line 0)) line.now }
 {
-    let mut text = [0u8; SHORT];
-    let end = put_carried(0, &mut text, 0);
-    rules::same_octets(&text[..end], line)
+    let text: &[u8] = b"carried=0\n";
+    text == line
 }

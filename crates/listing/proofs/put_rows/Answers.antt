@@ -1,29 +1,25 @@
--- `listing::put_rows` meets its contract. The loop's invariant: the lines of the rows so far stand one behind the
--- other. The measure is the rows left.
+-- `listing::put_rows` meets its contract: one row more, until all have been.
 -- Assumes nothing.
-use native.Mathlib.Omega.{arith}
-use Rattle.listing.proofs.Rows.{no_rows, row_room, row_more, all_rows}
+use Rattle.std.proofs.Common.{sym, ◌∙◌, ap, ◌++◌, map, append-nil, arith}
+use Rattle.std.proofs.lemmas.List.{take_all}
+use Rattle.listing.specs.Seen.{seen}
+use Rattle.listing.specs.Listing.{written, rows_at}
+use Rattle.listing.proofs.Rows.{rows_text, row_room, row_more}
 use Rattle.listing.proofs.put_rows.Goals as goal
 
-pub loop-i-init : goal.loop-i-init
-loop-i-init c = no_rows c.args.octets.now _ _
+pub loop-row-init : goal.loop-row-init
+unfolding rows_at written
+loop-row-init c = sym (append-nil _)
 
-pub put_row-end-requires : goal.put_row-end-requires
-put_row-end-requires c = (
-  c.loop-i-test.true,
-  row_room c.args.octets.now _ _ _ c.loop-i-test.true _ _
-      c.loop-i.invariant c.requires,
-)
+pub put_row-requires : goal.put_row-requires
+put_row-requires c =
+    row_room c.args.octets.now _ _ _ c.args.page.now _ c.loop-row-test.true c.table-row-items.ensures c.loop-row.invariant c.requires
 
-pub loop-i-preserved : goal.loop-i-preserved
-loop-i-preserved c =
-    row_more c.args.octets.now _ _ _ c.loop-i-test.true _ _
-    c.loop-i.invariant _ _ c.put_row-end.ensures
-
-pub shape_of-out : goal.shape_of-out
-shape_of-out c = c.loop-i.invariant.long
+pub loop-row-preserved : goal.loop-row-preserved
+loop-row-preserved c = row_more c.args.octets.now _ _ _ _ _ _ c.loop-row-test.true c.loop-row.invariant c.put_row.ensures
 
 pub returns : goal.returns
 returns c =
-    all_rows c.args.octets.now _ _ _ _ _ (omega arith)
-    (omega arith) c.loop-i.invariant
+    c.loop-row.invariant
+    ∙ ap (λ rs. c.args.page.now.items ++ rows_text c.args.octets.now (map seen rs)) (take_all c.loop-row.row-index c.table-row-items.result.now (omega arith))
+    ∙ ap (λ us. c.args.page.now.items ++ rows_text c.args.octets.now us) c.table-row-items.ensures

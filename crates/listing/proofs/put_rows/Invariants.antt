@@ -1,13 +1,10 @@
--- `listing::put_rows` meets its contract. The loop's invariant: the lines of the rows so far stand one behind the
--- other. The measure is the rows left.
+-- `listing::put_rows`: the lines of the rows so far stand behind what stood there.
 -- Assumes nothing.
-use lib.ListN.{take}
-use Rattle.listing.specs.Put.{Put}
-use Rattle.listing.specs.Listing.{rows_at, written}
-use Rattle.rules.specs.Table.{rules_of}
-use Rattle.rules.specs.declared.Book.TheVariants.{PresentLenient}
+use Rattle.std.proofs.Common.{◌≡◌, ◌++◌, take, map}
+use Rattle.listing.specs.Seen.{seen}
+use Rattle.listing.proofs.Rows.{rows_text}
 use Rattle.listing.proofs.put_rows.Given as goal
 
-abbrev pub invariant-loop-i : goal.invariant-loop-i
-invariant-loop-i l =
-    Put (written (rows_at (rules_of PresentLenient) l.octets (take l.i (rules_of PresentLenient).rows))) l.at l.initial.out l.end l.out
+abbrev pub invariant-loop-row : goal.invariant-loop-row
+invariant-loop-row l =
+    l.page.items ≡ l.initial.page.items ++ rows_text l.octets (map seen (take l.row-index l.row-items))
