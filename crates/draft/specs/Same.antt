@@ -1,7 +1,7 @@
 -- Equality of drafts (document 01, Drafts) as a test. A value is laid flat, so that values of all kinds are compared
 -- alike: by the number of their kind, their numbers, and the octets of their texts.
 -- Assumes nothing.
-use Rattle.std.specs.Prelude.{ℕ, ◌+◌, Bool, List, length, take, drop}
+use Rattle.std.specs.Prelude.{ℕ, ◌+◌, Bool, List, [], ◌∷◌, length, take, drop}
 use Rattle.rules.specs.Message.{most}
 use Rattle.rules.specs.Tests.{◌≤?◌, ◌=?◌, ◌and◌}
 use Rattle.rules.specs.Editions.{edition}
@@ -17,14 +17,16 @@ use Rattle.rules.specs.declared.Form.TheVariants.{CodeValue, DateValue, StateVal
 
 -- ---- a value laid flat
 -- numbers: no text
+abbrev pub flat_plain : ℕ → List ℕ → Flat
+flat_plain form numbers = record { form = form; numbers = numbers; start = 0; length = 0 }
+
 abbrev pub flat_numbers : ℕ → ℕ → ℕ → ℕ → ℕ → ℕ → Flat
-flat_numbers form a b c d e =
-    record { form = form; first = a; second = b; third = c; fourth = d; fifth = e; start = 0; length = 0 }
+flat_numbers form a b c d e = flat_plain form (a ∷ b ∷ c ∷ d ∷ e ∷ [])
 
 -- a text: no number but its mark, 0 where it has none
 abbrev pub flat_text : ℕ → ℕ → ℕ → ℕ → Flat
 flat_text form mark start n =
-    record { form = form; first = mark; second = 0; third = 0; fourth = 0; fifth = 0; start = start; length = n }
+    record { form = form; numbers = mark ∷ 0 ∷ 0 ∷ 0 ∷ 0 ∷ []; start = start; length = n }
 
 -- the number of its kind (`form_number`), its numbers, the place and the length of its text; 0 where it has none
 unfoldable pub flat_of : Value → Flat
@@ -38,14 +40,9 @@ flat_of (Duration h m s) = flat_numbers (form_number DurationValue) h m s 0 0
 flat_of (Marked x s n) = flat_text (form_number MarkedValue) x s n
 
 -- ---- the test
--- number by number: the last two
-unfoldable pub same_ends : Flat → Flat → Bool
-same_ends x y = x.fourth =? y.fourth and x.fifth =? y.fifth
-
--- and all five
+-- number by number
 unfoldable pub same_numbers : Flat → Flat → Bool
-same_numbers x y =
-    x.first =? y.first and (x.second =? y.second and (x.third =? y.third and same_ends x y))
+same_numbers x y = same_octets x.numbers y.numbers
 
 -- both texts lie inside their areas, and their octets agree
 unfoldable pub same_text : List ℕ → Flat → List ℕ → Flat → Bool
