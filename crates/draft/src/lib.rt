@@ -6,9 +6,9 @@ ghost use Rattle.std.specs.Prelude.{◌≡◌, ◌+◌, ◌≤◌};
 ghost use Rattle.std.proofs.Math.ListN as list;
 ghost use Rattle.rules.specs.Tests.{◌≤?◌};
 ghost use Rattle.rules.specs.Pairwise.{same_octets};
-ghost use Rattle.rules.specs.Table.{form_of};
+ghost use Rattle.rules.specs.Table.{form_of, form_number};
 ghost use Rattle.rules.specs.Message.{most};
-ghost use Rattle.draft.specs.Meaning.{form_number, has_text};
+ghost use Rattle.draft.specs.Meaning.{has_text};
 ghost use Rattle.draft.specs.Draft.{no_entry, empty_of, text_long};
 ghost use Rattle.draft.specs.Same.{flat_of, flat_plain, flat_text, same_text, same_flat, same_entry, same_entries, same_message, same_draft};
 
@@ -56,13 +56,16 @@ pub enum Value {
     },
 }
 
+// A parameter type, which every octet is, and its value.
 #[derive(Clone, Copy)]
 pub struct Entry {
     pub kind: u8,
     pub value: Value,
 }
 
-// A message type, the entries, and the number of the edition by which they are written (document 02, Q-5).
+// A message type, the entries, and the number of the edition by which they are written (document 02, Q-5). There is no
+// heap: the entries stand in an array by value with their number beside it, as in the record that C reads. Message
+// types and editions stay numbers: the writer promises an answer to each, 11 and 16 to those of none.
 #[derive(Clone, Copy)]
 pub struct Draft {
     pub kind: u8,
@@ -82,78 +85,45 @@ pub fn no_entry() -> Entry
 }
 
 // A draft of an edition with no entries.
+#[tactic(auto, unfolding(crate::specs::Draft::empty_of))]
 pub fn empty(edition: u8, kind: u8) -> Draft
     ensures { result ≡ empty_of edition kind }
 {
-    let none = no_entry();
-    let entries = [none; MOST];
     Draft {
         kind,
         edition,
         count: 0,
-        entries,
+        entries: [no_entry(); MOST],
     }
 }
 
-// The numbers of the kinds of value.
-pub const CODE_FORM: u8 = 0;
-
-pub const DATE_FORM: u8 = 1;
-
-pub const STATE_FORM: u8 = 2;
-
-pub const TEXT_FORM: u8 = 3;
-
-pub const CARRIED_FORM: u8 = 4;
-
-pub const MOMENT_FORM: u8 = 5;
-
-pub const DURATION_FORM: u8 = 6;
-
-pub const MARKED_FORM: u8 = 7;
-
-// Do values of the kind with this number have a text?
-#[tactic(auto, using(rules::proofs::Telling::telling), unfolding(crate::specs::Meaning::has_text, crate::specs::Meaning::form_number))]
+// Do values of the kind with this number have a text? Its answer is promised of every number, those of no kind too.
+#[tactic(auto, using(rules::proofs::Telling::telling), unfolding(crate::specs::Meaning::has_text))]
 pub fn has_text(form: u8) -> bool
     ensures { result ≡ has_text form }
 {
-    matches!(form, TEXT_FORM | CARRIED_FORM | MARKED_FORM)
+    form == Form::TextValue.into() || form == Form::CarriedValue.into() || form == Form::MarkedValue.into()
 }
 
-fn form_number(form: Form) -> u8
-    ensures { result ≡ form_number form }
-{
-    match form {
-        Form::CodeValue => CODE_FORM,
-        Form::DateValue => DATE_FORM,
-        Form::StateValue => STATE_FORM,
-        Form::TextValue => TEXT_FORM,
-        Form::CarriedValue => CARRIED_FORM,
-        Form::MomentValue => MOMENT_FORM,
-        Form::DurationValue => DURATION_FORM,
-        Form::MarkedValue => MARKED_FORM,
-    }
-}
-
-// The number of the kind of value that a class has.
+// The number of the kind of value that a class has: promised as a number.
 pub fn form_of(class: Class) -> u8
     ensures { result ≡ form_number (form_of class) }
 {
-    form_number(rules::form_of(class))
+    rules::form_of(class).into()
 }
 
-// A value laid flat: the number of its kind, its numbers (0 where it has fewer than five; the mark of a marked text is
+// A value laid flat: its kind, its numbers (0 where it has fewer than five; the mark of a marked text is
 // its first), and where its text lies (0 and 0 where it has none).
 #[derive(Clone, Copy)]
 pub struct Flat {
-    pub form: u8,
+    pub form: Form,
     pub numbers: [u16; 5],
     pub start: usize,
     pub length: usize,
 }
 
 // Numbers without a text.
-fn plain(form: u8, numbers: [u16; 5]) -> Flat
+fn plain(form: Form, numbers: [u16; 5]) -> Flat
     ensures { result ≡ flat_plain form numbers }
 {
     Flat {
@@ -165,7 +135,7 @@ fn plain(form: u8, numbers: [u16; 5]) -> Flat
 }
 
 // A text with its mark, 0 where it has none.
-fn marked(form: u8, mark: u8, start: usize, length: usize) -> Flat
+fn marked(form: Form, mark: u8, start: usize, length: usize) -> Flat
     ensures { result ≡ flat_text form mark start length }
 {
     Flat {
@@ -176,7 +146,7 @@ fn marked(form: u8, mark: u8, start: usize, length: usize) -> Flat
     }
 }
 
-#[tactic(auto, unfolding(crate::specs::Same::flat_of, crate::specs::Meaning::form_number))]
+#[tactic(auto, unfolding(crate::specs::Same::flat_of))]
 pub fn flatten(v: Value) -> Flat
     ensures { result ≡ flat_of v }
 {
@@ -186,28 +156,28 @@ pub fn flatten(v: Value) -> Flat
             day,
             hour,
             minute,
-        } => plain(DATE_FORM, [month.into(), day.into(), hour.into(), minute.into(), 0]),
-        Value::Code(x) => plain(CODE_FORM, [x.into(), 0, 0, 0, 0]),
-        Value::State { state, reference } => plain(STATE_FORM, [state.into(), reference, 0, 0, 0]),
-        Value::Text { start, length } => marked(TEXT_FORM, 0, start, length),
-        Value::Carried { start, length } => marked(CARRIED_FORM, 0, start, length),
+        } => plain(Form::DateValue, [month.into(), day.into(), hour.into(), minute.into(), 0]),
+        Value::Code(x) => plain(Form::CodeValue, [x.into(), 0, 0, 0, 0]),
+        Value::State { state, reference } => plain(Form::StateValue, [state.into(), reference, 0, 0, 0]),
+        Value::Text { start, length } => marked(Form::TextValue, 0, start, length),
+        Value::Carried { start, length } => marked(Form::CarriedValue, 0, start, length),
         Value::Moment {
             month,
             day,
             hour,
             minute,
             second,
-        } => plain(MOMENT_FORM, [month.into(), day.into(), hour.into(), minute.into(), second.into()]),
+        } => plain(Form::MomentValue, [month.into(), day.into(), hour.into(), minute.into(), second.into()]),
         Value::Duration {
             hours,
             minutes,
             seconds,
-        } => plain(DURATION_FORM, [hours.into(), minutes.into(), seconds.into(), 0, 0]),
+        } => plain(Form::DurationValue, [hours.into(), minutes.into(), seconds.into(), 0, 0]),
         Value::Marked {
             mark,
             start,
             length,
-        } => marked(MARKED_FORM, mark, start, length),
+        } => marked(Form::MarkedValue, mark, start, length),
     }
 }
 
@@ -241,7 +211,7 @@ fn same_text(s: &[u8], x: Flat, t: &[u8], y: Flat) -> bool
         && s[x.start..x.start + x.length] == t[y.start..y.start + y.length]
 }
 
-#[tactic(auto, using(rules::proofs::Telling::telling, rules::proofs::Telling::same_is), unfolding(crate::specs::Same::same_flat, crate::specs::Same::same_numbers))]
+#[tactic(auto, using(rules::proofs::Telling::telling, rules::proofs::Telling::same_is, crate::proofs::Meaning::forms_tell), unfolding(crate::specs::Same::same_flat, crate::specs::Same::same_numbers))]
 fn same_flat(s: &[u8], x: Flat, t: &[u8], y: Flat) -> bool
     ensures { result ≡ same_flat s.now x t.now y }
 {

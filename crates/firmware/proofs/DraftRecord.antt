@@ -13,12 +13,11 @@ use lib.Dec.{T}
 use Rattle.rules.specs.Message.{Message, most}
 use Rattle.rules.specs.Tests.{◌=?◌, pick, every}
 use Rattle.rules.proofs.Tests.{le_of, both}
-use Rattle.rules.specs.Table.{Rules}
+use Rattle.rules.specs.Table.{Rules, form_number}
 use Rattle.draft.specs.declared.Value.{Value}
 use Rattle.draft.specs.declared.Value.TheVariants.{Date, Code, State, Text, Carried, Moment, Duration, Marked}
 use Rattle.draft.specs.declared.Entry.{Entry}
 use Rattle.draft.specs.declared.Draft.{Draft}
-use Rattle.draft.specs.Meaning.{form_number}
 use Rattle.draft.specs.Draft.{no_entry, inside, all_inside}
 use Rattle.draft.specs.Packing.{entries_of, texts_of, draft_of}
 use Rattle.draft.proofs.Packing.{pack}

@@ -2,6 +2,7 @@
 -- entries of eight octets: the type, the kind of value, and six octets of value. What is not used is 0 (document 01: a
 -- record that is only written is judged by its size alone).
 -- Assumes nothing.
+use Rattle.rules.specs.Table.{form_number}
 use Rattle.std.specs.Prelude.{ℕ, ◌+◌, ◌*◌, ◌/◌, ◌%◌, List, [], ◌∷◌, ◌++◌, get_or, replicate}
 use Rattle.rules.specs.Tests.{◌=?◌, pick}
 use Rattle.draft.specs.declared.Value.{Value}
@@ -9,7 +10,6 @@ use Rattle.draft.specs.declared.Value.TheVariants.{Date, Code, State, Text, Carr
 use Rattle.draft.specs.declared.Entry.{Entry}
 use Rattle.draft.specs.declared.Draft.{Draft}
 use Rattle.firmware.specs.declared.drafts.Numbers.{Numbers}
-use Rattle.draft.specs.Meaning.{form_number}
 use Rattle.rules.specs.declared.Form.TheVariants.{CodeValue, DateValue, StateValue, TextValue, CarriedValue, MomentValue, DurationValue, MarkedValue}
 
 -- numbers of one octet each

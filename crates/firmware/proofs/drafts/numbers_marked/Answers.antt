@@ -1,8 +1,8 @@
 -- `firmware::numbers_marked` meets its contract.
 -- Assumes nothing.
 use mathlib.Core.Path.{refl}
+use Rattle.rules.specs.Table.{form_number}
 use Rattle.firmware.specs.DraftRecord.{numbers_of}
-use Rattle.draft.specs.Meaning.{form_number}
 use Rattle.firmware.proofs.drafts.numbers_marked.Goals as goal
 
 pub returns : goal.returns

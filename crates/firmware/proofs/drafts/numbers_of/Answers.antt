@@ -1,7 +1,7 @@
 -- `firmware::numbers_of` meets its contract: one kind of value after the other.
 -- Assumes nothing.
+use Rattle.rules.specs.Table.{form_number}
 use Rattle.firmware.specs.DraftRecord.{numbers_of}
-use Rattle.draft.specs.Meaning.{form_number}
 use Rattle.firmware.proofs.drafts.numbers_of.Goals as goal
 
 pub returns-in-Date : goal.returns-in-Date
