@@ -9,8 +9,17 @@ use Rattle.draft.specs.declared.Value.{Value}
 use Rattle.draft.specs.declared.Value.TheVariants.{Date, Code, State, Text, Carried, Moment, Duration, Marked}
 use Rattle.draft.specs.declared.Entry.{Entry}
 use Rattle.draft.specs.declared.Draft.{Draft}
-use Rattle.firmware.specs.declared.drafts.Numbers.{Numbers}
 use Rattle.rules.specs.declared.Form.TheVariants.{CodeValue, DateValue, StateValue, TextValue, CarriedValue, MomentValue, DurationValue, MarkedValue}
+
+-- the kind of a value and six octets of it
+pub record Numbers : Type 0 where
+  pub form : ℕ
+  pub a : ℕ
+  pub b : ℕ
+  pub c : ℕ
+  pub d : ℕ
+  pub e : ℕ
+  pub f : ℕ
 
 -- numbers of one octet each
 abbrev pub plain_numbers : ℕ → ℕ → ℕ → ℕ → ℕ → ℕ → Numbers

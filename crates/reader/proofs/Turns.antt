@@ -7,6 +7,7 @@ use mathlib.Core.List.{List, [], ◌∷◌, ◌++◌}
 use native.Mathlib.Omega.{arith}
 use lib.ListN.{length, length-append, length-drop, take, drop}
 use lib.Seq.{length-take-le, drop-length}
+use Rattle.rules.proofs.Laying.{rest_whole}
 use Rattle.rules.specs.Table.{Rules}
 use Rattle.rules.specs.declared.Form.{Form}
 use Rattle.rules.specs.declared.Form.TheVariants.{DateValue, CodeValue, StateValue, TextValue, CarriedValue, MomentValue, DurationValue, MarkedValue}
@@ -129,6 +130,16 @@ module _ (R : Rules) (o : List ℕ) (f : Found) (used : ℕ) (v : List ℕ) (p :
 
   pub entry_long : (n : ℕ) → n ≡ text_long e.value → n ≡ length (text_of R (stands o f))
   entry_long n t = t ∙ ap (λ (x : Entry). text_long x.value) entry_found ∙ entry_text R used (stands o f)
+
+  -- its text ends where they end
+  pub entry_last : (n : ℕ) → n ≡ text_long e.value →
+      take (length v - (length v - n)) (drop (length v - n) v) ≡ text_of R (stands o f)
+  entry_last n t =
+      let same = t ∙ ap (λ (x : Entry). text_long x.value) q ∙ entry_text R used (parameter_with f.kind v) in
+      rest_whole (length v - n) v
+      ∙ ap (λ (k : ℕ). drop (length v - k) v) same
+      ∙ text_ends R f.kind v
+      ∙ ap (λ (u : List ℕ). text_of R (parameter_with f.kind u)) p
 
 -- ---- the parameters that a walk finds
 unfoldable pub stood : List ℕ → List Found → List Parameter
