@@ -75,6 +75,23 @@ fn entry_cells(e: Entry) -> [u8; 8]
     }
 }
 
+// The octets of an entry, over the beginning of what is lent: stored one by one, since a copy of the eight has them put
+// together to one word first, some 5 in 100 of a read of 85 parameters.
+fn lay_entry(cells: &mut [u8], e: Entry)
+    requires { 8 ≤ length cells.old }
+    ensures { cells.new ≡ laid (record_of.entry_cells e) cells.old }
+{
+    let [kind, form, a, b, c, d, e, f] = entry_cells(e);
+    cells[0] = kind;
+    cells[1] = form;
+    cells[2] = a;
+    cells[3] = b;
+    cells[4] = c;
+    cells[5] = d;
+    cells[6] = e;
+    cells[7] = f;
+}
+
 // How many entries were laid down, and how many text octets.
 #[derive(Clone, Copy)]
 struct Filled {
@@ -108,7 +125,7 @@ fn lay_entries(book: Book, octets: &[u8], cells: &mut [u8], texts: &mut [u8]) ->
         let contents = &octets[found.start..end];
         let entry = reader::entry_of(book, found.kind, contents, used);
         let text = draft::text_length(entry.value);
-        copy(&entry_cells(entry), &mut cells[8 + 8 * count..]);
+        lay_entry(&mut cells[8 + 8 * count..], entry);
         copy(&contents[contents.len() - text..], &mut texts[used..]);
         count += 1;
         used += text;

@@ -33,8 +33,8 @@ overflow_sub-contents c =
     let inside = recorded_inside _ _ _ c.requires.1 _ _ _ _ _ c.loop-found.invariant _ _ c.in-Some.ensures.steps in
     omega (arith, text.0, ap length part, contents_long (rules_of c.args.book) _ found inside)
 
-pub copy-requires-in-loop-found : goal.copy-requires-in-loop-found
-copy-requires-in-loop-found c =
+pub copy-requires : goal.copy-requires
+copy-requires c =
     let found = c.in-Some.found in
     let part = part_is c.args.octets.now found.start found.length in
     let n = entry_long _ _ found _ _ part _ c.entry_of-entry.ensures _ c.text_length-text.ensures in
@@ -59,9 +59,8 @@ loop-found-preserved c =
     let n = entry_long _ _ found _ _ part _ c.entry_of-entry.ensures _ c.text_length-text.ensures in
     let e = entry_found _ _ found _ _ part _ c.entry_of-entry.ensures in
     recorded_more _ _ _ c.requires.1 _ _ _ _ _ c.loop-found.invariant _ _ c.in-Some.ensures.steps _ _ e n _ _
-    (rest_laid _ _ _ (8 + 8 * c.loop-found.count) c.copy.ensures
-    ∙ ap (λ (v : List ℕ). laid_at v (8 + 8 * c.loop-found.count) c.loop-found.cells) c.entry_cells.ensures)
-    (rest_laid _ _ _ c.loop-found.used c.copy-in-loop-found.ensures
+    (rest_laid _ _ _ (8 + 8 * c.loop-found.count) c.lay_entry.ensures)
+    (rest_laid _ _ _ c.loop-found.used c.copy.ensures
     ∙ ap (λ (v : List ℕ). laid_at v c.loop-found.used c.loop-found.texts)
     (entry_last _ _ found _ _ part _ c.entry_of-entry.ensures _ c.text_length-text.ensures))
 
