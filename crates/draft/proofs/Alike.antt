@@ -6,57 +6,61 @@ use mathlib.Core.Path.{◌≡◌, refl, sym, ◌∙◌, ap, subst}
 use mathlib.Core.Logic.{◌↔◌}
 use mathlib.Core.List.{List, [], ◌∷◌}
 use native.Mathlib.Omega.{arith}
-use lib.ListN.{length, take, drop}
+use lib.ListN.{length, take, drop, get_or}
 use lib.Dec.{T}
+use Rattle.rules.specs.Table.{form_number}
 use Rattle.rules.specs.Tests.{◌≤?◌, every}
 use Rattle.rules.proofs.Tests.{both, join, le_of, of_le, eq_of, of_eq, clash}
 use Rattle.rules.proofs.Returns.{yes_le}
 use Rattle.rules.specs.Pairwise.{pairwise, same_octets}
 use Rattle.rules.proofs.Pairwise.{octets_are, octets_self}
-use Rattle.draft.specs.Meaning.{Meaning, date_is, code_is, state_is, text_is, carried_is, moment_is, duration_is, marked_is, form_number}
+use Rattle.rules.specs.declared.Form.{Form}
+use Rattle.rules.specs.declared.Form.TheVariants.{DateValue, CodeValue, StateValue, TextValue, CarriedValue, MomentValue, DurationValue, MarkedValue}
+use Rattle.draft.proofs.Meaning.{same_form}
+use Rattle.draft.specs.Meaning.{Meaning, date_is, code_is, state_is, text_is, carried_is, moment_is, duration_is, marked_is}
 use Rattle.draft.specs.Draft.{meaning_of, inside, Said, said_of, all_said, all_inside, Equal}
 use Rattle.draft.specs.declared.Value.{Value}
 use Rattle.draft.specs.declared.Value.TheVariants.{Date, Code, State, Text, Carried, Moment, Duration, Marked}
 use Rattle.draft.specs.declared.Entry.{Entry}
 use Rattle.draft.specs.declared.Draft.{Draft}
 use Rattle.draft.specs.declared.Flat.{Flat}
-use Rattle.draft.specs.Same.{flat_of, same_ends, same_numbers, same_text, same_flat, same_entry, same_entries, same_message, same_draft}
+use Rattle.draft.specs.Same.{flat_of, same_numbers, same_text, same_flat, same_entry, same_entries, same_message, same_draft}
 
 -- ---- values: what a value says is what it is flat, with its text's octets
 record FlatMeaning : Type 0 where
-  form : ℕ
-  first : ℕ
-  second : ℕ
-  third : ℕ
-  fourth : ℕ
-  fifth : ℕ
+  form : Form
+  numbers : List ℕ
   octets : List ℕ
 
-abbrev numbers : ℕ → ℕ → ℕ → ℕ → ℕ → ℕ → FlatMeaning
-numbers form a b c d e = record { form = form; first = a; second = b; third = c; fourth = d; fifth = e; octets = [] }
+abbrev numbers : Form → ℕ → ℕ → ℕ → ℕ → ℕ → FlatMeaning
+numbers form a b c d e = record { form = form; numbers = a ∷ b ∷ c ∷ d ∷ e ∷ []; octets = [] }
 
-abbrev words : ℕ → ℕ → List ℕ → FlatMeaning
-words form x v = record { form = form; first = x; second = 0; third = 0; fourth = 0; fifth = 0; octets = v }
+abbrev words : Form → ℕ → List ℕ → FlatMeaning
+words form x v = record { form = form; numbers = x ∷ 0 ∷ 0 ∷ 0 ∷ 0 ∷ []; octets = v }
 
 unfoldable shown : Meaning → FlatMeaning
-shown (date_is m d h n) = numbers 1 m d h n 0
-shown (code_is x) = numbers 0 x 0 0 0 0
-shown (state_is s r) = numbers 2 s r 0 0 0
-shown (text_is v) = words 3 0 v
-shown (carried_is v) = words 4 0 v
-shown (moment_is m d h n s) = numbers 5 m d h n s
-shown (duration_is h m s) = numbers 6 h m s 0 0
-shown (marked_is x v) = words 7 x v
+shown (date_is m d h n) = numbers DateValue m d h n 0
+shown (code_is x) = numbers CodeValue x 0 0 0 0
+shown (state_is s r) = numbers StateValue s r 0 0 0
+shown (text_is v) = words TextValue 0 v
+shown (carried_is v) = words CarriedValue 0 v
+shown (moment_is m d h n s) = numbers MomentValue m d h n s
+shown (duration_is h m s) = numbers DurationValue h m s 0 0
+shown (marked_is x v) = words MarkedValue x v
 
-unfoldable raised : ℕ → FlatMeaning → Meaning
-raised zero x = code_is x.first
-raised (suc zero) x = date_is x.first x.second x.third x.fourth
-raised (suc (suc zero)) x = state_is x.first x.second
-raised (suc (suc (suc zero))) x = text_is x.octets
-raised (suc (suc (suc (suc zero)))) x = carried_is x.octets
-raised (suc (suc (suc (suc (suc zero))))) x = moment_is x.first x.second x.third x.fourth x.fifth
-raised (suc (suc (suc (suc (suc (suc zero)))))) x = duration_is x.first x.second x.third
-raised (suc (suc (suc (suc (suc (suc (suc k))))))) x = marked_is x.first x.octets
+abbrev number_at : FlatMeaning → ℕ → ℕ
+number_at x i = get_or x.numbers i 0
+
+unfoldable raised : Form → FlatMeaning → Meaning
+raised CodeValue x = code_is (number_at x 0)
+raised DateValue x = date_is (number_at x 0) (number_at x 1) (number_at x 2) (number_at x 3)
+raised StateValue x = state_is (number_at x 0) (number_at x 1)
+raised TextValue x = text_is x.octets
+raised CarriedValue x = carried_is x.octets
+raised MomentValue x =
+    moment_is (number_at x 0) (number_at x 1) (number_at x 2) (number_at x 3) (number_at x 4)
+raised DurationValue x = duration_is (number_at x 0) (number_at x 1) (number_at x 2)
+raised MarkedValue x = marked_is (number_at x 0) x.octets
 
 raised-shown : (μ : Meaning) → raised (shown μ).form (shown μ) ≡ μ
 unfolding shown raised
@@ -70,19 +74,10 @@ raised-shown (duration_is h m s) = refl
 raised-shown (marked_is x v) = refl
 
 unfoldable shown_in : List ℕ → Flat → FlatMeaning
-shown_in s x =
-    record {
-      form = x.form;
-      first = x.first;
-      second = x.second;
-      third = x.third;
-      fourth = x.fourth;
-      fifth = x.fifth;
-      octets = take x.length (drop x.start s);
-    }
+shown_in s x = record { form = x.form; numbers = x.numbers; octets = take x.length (drop x.start s) }
 
 shown_flat : (s : List ℕ) (v : Value) → shown (meaning_of s v) ≡ shown_in s (flat_of v)
-unfolding shown meaning_of shown_in flat_of form_number
+unfolding shown meaning_of shown_in flat_of
 shown_flat s (Date m d h n) = refl
 shown_flat s (Code x) = refl
 shown_flat s (State x r) = refl
@@ -93,7 +88,7 @@ shown_flat s (Duration h m x) = refl
 shown_flat s (Marked x a n) = refl
 
 pub inside_flat : (s : List ℕ) (v : Value) → inside s v ≡ ((flat_of v).start + (flat_of v).length ≤? length s)
-unfolding inside flat_of ◌≤?◌ form_number
+unfolding inside flat_of ◌≤?◌
 inside_flat s (Date m d h n) = sym (yes_le 0 (length s) (omega arith))
 inside_flat s (Code x) = sym (yes_le 0 (length s) (omega arith))
 inside_flat s (State x r) = sym (yes_le 0 (length s) (omega arith))
@@ -111,27 +106,17 @@ record Alike (s : List ℕ) (v : Value) (t : List ℕ) (w : Value) : Type 0 wher
 
 module _ (s : List ℕ) (v : Value) (t : List ℕ) (w : Value) where
   value_alike : T (same_flat s (flat_of v) t (flat_of w)) → Alike s v t w
-  unfolding same_flat same_numbers same_ends same_text shown_in
+  unfolding same_flat same_numbers same_text shown_in
   value_alike q =
       let a = both _ _ q in
       let b = both _ _ a.1 in
-      let n = both _ _ b.0 in
-      let n2 = both _ _ n.1 in
-      let n3 = both _ _ n2.1 in
-      let n4 = both _ _ n3.1 in
       let x = both _ _ b.1 in
       let y = both _ _ x.1 in
-      let f = eq_of _ _ a.0 in
-      let i = eq_of _ _ n.0 in
-      let j = eq_of _ _ n2.0 in
-      let k = eq_of _ _ n3.0 in
-      let l = eq_of _ _ n4.0 in
-      let m = eq_of _ _ n4.1 in
+      let f = same_form _ _ (eq_of _ _ a.0) in
+      let n = octets_are _ _ b.0 in
       let o = octets_are _ _ y.1 in
       let e : shown (meaning_of s v) ≡ shown (meaning_of t w) =
-      shown_flat s v
-      ∙ (λ z. record { form = f z; first = i z; second = j z; third = k z; fourth = l z; fifth = m z; octets = o z })
-      ∙ sym (shown_flat t w) in
+      shown_flat s v ∙ (λ z. record { form = f z; numbers = n z; octets = o z }) ∙ sym (shown_flat t w) in
       record {
         says =
             sym (raised-shown (meaning_of s v)) ∙ ap (λ (x : FlatMeaning). raised x.form x) e
@@ -141,17 +126,14 @@ module _ (s : List ℕ) (v : Value) (t : List ℕ) (w : Value) where
       }
 
   alike_value : Alike s v t w → T (same_flat s (flat_of v) t (flat_of w))
-  unfolding same_flat same_numbers same_ends same_text shown_in
+  unfolding same_flat same_numbers same_text shown_in
   alike_value q =
       let e : shown_in s (flat_of v) ≡ shown_in t (flat_of w) =
       sym (shown_flat s v) ∙ ap shown q.says ∙ shown_flat t w in
-      join _ _ (of_eq _ _ (ap (λ (x : FlatMeaning). x.form) e))
+      join _ _ (of_eq _ _ (ap (λ (x : FlatMeaning). form_number x.form) e))
       (join _ _
-      (join _ _ (of_eq _ _ (ap (λ (x : FlatMeaning). x.first) e))
-      (join _ _ (of_eq _ _ (ap (λ (x : FlatMeaning). x.second) e))
-      (join _ _ (of_eq _ _ (ap (λ (x : FlatMeaning). x.third) e))
-      (join _ _ (of_eq _ _ (ap (λ (x : FlatMeaning). x.fourth) e))
-      (of_eq _ _ (ap (λ (x : FlatMeaning). x.fifth) e))))))
+      (subst (λ (l : List ℕ). T (same_octets (flat_of v).numbers l)) (ap (λ (x : FlatMeaning). x.numbers) e)
+      (octets_self _))
       (join _ _ (rw (inside_flat s v) at q.left)
       (join _ _ (rw (inside_flat t w) at q.right)
       (subst (λ (o : List ℕ). T (same_octets (take (flat_of v).length (drop (flat_of v).start s)) o))

@@ -3,21 +3,22 @@
 use Prim.Native.Nat.{ℕ, zero, suc, ◌+◌, ◌*◌, ◌-◌, ◌/◌, ◌%◌, ◌≤◌}
 use mathlib.Core.Path.{◌≡◌, refl, sym, ◌∙◌, ap, ap₂, subst}
 use mathlib.Core.Bool.{Bool, true, false}
-use mathlib.Core.Logic.{◌⊎◌, inl, inr}
+use mathlib.Core.Logic.{◌⊎◌, ◌≢◌, inl, inr}
 use mathlib.Core.List.{List, [], ◌∷◌}
 use native.Mathlib.Omega.{arith}
 use lib.Dec.{T}
-use Rattle.rules.specs.Tests.{◌≤?◌, pick}
+use Rattle.rules.specs.Tests.{◌≤?◌, ◌=?◌, pick}
+use Rattle.rules.proofs.Telling.{eq_tells}
 use Rattle.rules.proofs.Tests.{both, either, le_of, clash}
 use Rattle.rules.specs.Octets.{Octets}
 use Rattle.rules.specs.Contents.{Range, within, digit, pair_fits, pairs_fit, columns_fit, head_fits}
 use Rattle.rules.specs.Terminal.{terminal_fits}
-use Rattle.rules.specs.Table.{form_of, whole, contents_fit}
+use Rattle.rules.specs.Table.{form_of, form_number, whole, contents_fit}
 use Rattle.rules.specs.declared.Form.{Form}
 use Rattle.rules.specs.declared.Form.TheVariants.{DateValue, CodeValue, StateValue, TextValue, CarriedValue, MomentValue, DurationValue, MarkedValue}
 use Rattle.rules.specs.declared.Class.{Class}
 use Rattle.rules.specs.declared.Class.TheVariants as class
-use Rattle.draft.specs.Meaning.{form_number, Meaning, form_is, tens, ones, date_then, seconds_said, spelled, number_of, digits_at, seconds_of, meant, date_is, code_is, state_is, text_is, carried_is, moment_is, duration_is, marked_is}
+use Rattle.draft.specs.Meaning.{Meaning, form_is, tens, ones, date_then, seconds_said, spelled, number_of, digits_at, seconds_of, meant, date_is, code_is, state_is, text_is, carried_is, moment_is, duration_is, marked_is}
 
 -- ---- kinds of value apart
 form_at : ℕ → Form
@@ -43,6 +44,17 @@ form_back MarkedValue = refl
 
 pub same_form : (f g : Form) → form_number f ≡ form_number g → f ≡ g
 same_form f g e = sym (form_back f) ∙ ap form_at e ∙ form_back g
+
+-- the test of their numbers tells whether kinds are equal
+pub forms_tell : (f g : Form) →
+    (((form_number f =? form_number g) ≡ true) × (f ≡ g)) ⊎ (((form_number f =? form_number g) ≡ false) × (f ≢ g))
+forms_tell f g = go (eq_tells (form_number f) (form_number g))
+  where
+    go : (((form_number f =? form_number g) ≡ true) × (form_number f ≡ form_number g))
+        ⊎ (((form_number f =? form_number g) ≡ false) × (form_number f ≢ form_number g)) →
+        (((form_number f =? form_number g) ≡ true) × (f ≡ g)) ⊎ (((form_number f =? form_number g) ≡ false) × (f ≢ g))
+    go (inl e) = inl (e.0, same_form f g e.1)
+    go (inr e) = inr (e.0, λ p. e.1 (ap form_number p))
 
 pub form_meant : (f : Form) (v : List ℕ) → form_is (meant f v) ≡ f
 unfolding form_is meant

@@ -6,6 +6,7 @@ use Rattle.draft.proofs.empty.Reads as empty
 use Rattle.draft.proofs.has_text.Reads as has_text
 use Rattle.draft.proofs.form_of.Reads as form_of
 use Rattle.draft.proofs.flatten.Reads as flatten
+use Rattle.draft.proofs.text_length.Reads as text_length
 use Rattle.draft.proofs.lies.Reads as lies
 use Rattle.draft.proofs.same.Reads as same
 
@@ -25,6 +26,10 @@ form_of_settled κs a r r' s s' p q = p ∙ sym q
 
 pub flatten_settled : (κs : _) (a : _) (r r' : _) (s s' : _) → flatten.Post κs a r s → flatten.Post κs a r' s' → r ≡ r'
 flatten_settled κs a r r' s s' p q = p ∙ sym q
+
+pub text_length_settled : (κs : _) (a : _) (r r' : _) (s s' : _) → text_length.Post κs a r s →
+    text_length.Post κs a r' s' → r ≡ r'
+text_length_settled κs a r r' s s' p q = p ∙ sym q
 
 pub lies_settled : (κs : _) (a : _) (r r' : _) (s s' : _) → lies.Post κs a r s → lies.Post κs a r' s' → r ≡ r'
 lies_settled κs a r r' s s' p q = p ∙ sym q

@@ -26,6 +26,17 @@ meaning_of texts (Moment m d h n s) = moment_is m d h n s
 meaning_of texts (Duration h m s) = duration_is h m s
 meaning_of texts (Marked x s n) = marked_is x (take n (drop s texts))
 
+-- how long its text is, 0 where it has none
+unfoldable pub text_long : Value → ℕ
+text_long (Date m d h n) = 0
+text_long (Code x) = 0
+text_long (State s r) = 0
+text_long (Text s n) = n
+text_long (Carried s n) = n
+text_long (Moment m d h n s) = 0
+text_long (Duration h m s) = 0
+text_long (Marked x s n) = n
+
 -- its text, if it has one, lies inside the area
 unfoldable pub inside : List ℕ → Value → Bool
 inside texts (Date m d h n) = true

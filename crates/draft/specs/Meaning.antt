@@ -4,22 +4,10 @@
 -- Assumes nothing.
 use Rattle.std.specs.Prelude.{ℕ, zero, suc, ◌+◌, ◌*◌, ◌/◌, ◌%◌, Bool, List, [], ◌∷◌, length, drop, get_or}
 use Rattle.rules.specs.Tests.{◌≤?◌, ◌=?◌, ◌or◌, pick}
-use Rattle.rules.specs.Table.{Rules, class_of, form_of}
+use Rattle.rules.specs.Table.{Rules, class_of, form_of, form_number}
 use Rattle.rules.specs.declared.Form.{Form}
 use Rattle.rules.specs.declared.Form.TheVariants.{DateValue, CodeValue, StateValue, TextValue, CarriedValue, MomentValue, DurationValue, MarkedValue}
 use Rattle.rules.specs.Octets.{reference_of}
-
--- the number of a kind of value: 0 a code, 1 a date, 2 a state with a reference, 3 a text, 4 a carried text, 5 a date
--- perhaps with seconds, 6 a duration, 7 a first octet with a text
-unfoldable pub form_number : Form → ℕ
-form_number CodeValue = 0
-form_number DateValue = 1
-form_number StateValue = 2
-form_number TextValue = 3
-form_number CarriedValue = 4
-form_number MomentValue = 5
-form_number DurationValue = 6
-form_number MarkedValue = 7
 
 -- values of the kind with this number have a text
 unfoldable pub has_text : ℕ → Bool

@@ -1,7 +1,7 @@
 -- Equality of drafts (document 01, Drafts) as a test. A value is laid flat, so that values of all kinds are compared
 -- alike: by the number of their kind, their numbers, and the octets of their texts.
 -- Assumes nothing.
-use Rattle.std.specs.Prelude.{ℕ, ◌+◌, Bool, List, length, take, drop}
+use Rattle.std.specs.Prelude.{ℕ, ◌+◌, Bool, List, [], ◌∷◌, length, take, drop}
 use Rattle.rules.specs.Message.{most}
 use Rattle.rules.specs.Tests.{◌≤?◌, ◌=?◌, ◌and◌}
 use Rattle.rules.specs.Editions.{edition}
@@ -12,40 +12,38 @@ use Rattle.draft.specs.declared.Value.TheVariants.{Date, Code, State, Text, Carr
 use Rattle.draft.specs.declared.Entry.{Entry}
 use Rattle.draft.specs.declared.Draft.{Draft}
 use Rattle.draft.specs.declared.Flat.{Flat}
-use Rattle.draft.specs.Meaning.{form_number}
+use Rattle.rules.specs.Table.{form_number}
+use Rattle.rules.specs.declared.Form.{Form}
 use Rattle.rules.specs.declared.Form.TheVariants.{CodeValue, DateValue, StateValue, TextValue, CarriedValue, MomentValue, DurationValue, MarkedValue}
 
 -- ---- a value laid flat
 -- numbers: no text
-abbrev pub flat_numbers : ℕ → ℕ → ℕ → ℕ → ℕ → ℕ → Flat
-flat_numbers form a b c d e =
-    record { form = form; first = a; second = b; third = c; fourth = d; fifth = e; start = 0; length = 0 }
+abbrev pub flat_plain : Form → List ℕ → Flat
+flat_plain form numbers = record { form = form; numbers = numbers; start = 0; length = 0 }
+
+abbrev pub flat_numbers : Form → ℕ → ℕ → ℕ → ℕ → ℕ → Flat
+flat_numbers form a b c d e = flat_plain form (a ∷ b ∷ c ∷ d ∷ e ∷ [])
 
 -- a text: no number but its mark, 0 where it has none
-abbrev pub flat_text : ℕ → ℕ → ℕ → ℕ → Flat
+abbrev pub flat_text : Form → ℕ → ℕ → ℕ → Flat
 flat_text form mark start n =
-    record { form = form; first = mark; second = 0; third = 0; fourth = 0; fifth = 0; start = start; length = n }
+    record { form = form; numbers = mark ∷ 0 ∷ 0 ∷ 0 ∷ 0 ∷ []; start = start; length = n }
 
--- the number of its kind (`form_number`), its numbers, the place and the length of its text; 0 where it has none
+-- its kind, its numbers, the place and the length of its text; 0 where it has none
 unfoldable pub flat_of : Value → Flat
-flat_of (Date m d h n) = flat_numbers (form_number DateValue) m d h n 0
-flat_of (Code x) = flat_numbers (form_number CodeValue) x 0 0 0 0
-flat_of (State s r) = flat_numbers (form_number StateValue) s r 0 0 0
-flat_of (Text s n) = flat_text (form_number TextValue) 0 s n
-flat_of (Carried s n) = flat_text (form_number CarriedValue) 0 s n
-flat_of (Moment m d h n s) = flat_numbers (form_number MomentValue) m d h n s
-flat_of (Duration h m s) = flat_numbers (form_number DurationValue) h m s 0 0
-flat_of (Marked x s n) = flat_text (form_number MarkedValue) x s n
+flat_of (Date m d h n) = flat_numbers DateValue m d h n 0
+flat_of (Code x) = flat_numbers CodeValue x 0 0 0 0
+flat_of (State s r) = flat_numbers StateValue s r 0 0 0
+flat_of (Text s n) = flat_text TextValue 0 s n
+flat_of (Carried s n) = flat_text CarriedValue 0 s n
+flat_of (Moment m d h n s) = flat_numbers MomentValue m d h n s
+flat_of (Duration h m s) = flat_numbers DurationValue h m s 0 0
+flat_of (Marked x s n) = flat_text MarkedValue x s n
 
 -- ---- the test
--- number by number: the last two
-unfoldable pub same_ends : Flat → Flat → Bool
-same_ends x y = x.fourth =? y.fourth and x.fifth =? y.fifth
-
--- and all five
+-- number by number
 unfoldable pub same_numbers : Flat → Flat → Bool
-same_numbers x y =
-    x.first =? y.first and (x.second =? y.second and (x.third =? y.third and same_ends x y))
+same_numbers x y = same_octets x.numbers y.numbers
 
 -- both texts lie inside their areas, and their octets agree
 unfoldable pub same_text : List ℕ → Flat → List ℕ → Flat → Bool
@@ -56,7 +54,7 @@ same_text s x t y =
 
 -- the same kind, the same numbers, the same text
 unfoldable pub same_flat : List ℕ → Flat → List ℕ → Flat → Bool
-same_flat s x t y = x.form =? y.form and (same_numbers x y and same_text s x t y)
+same_flat s x t y = form_number x.form =? form_number y.form and (same_numbers x y and same_text s x t y)
 
 -- type and value
 unfoldable pub same_entry : List ℕ → Entry → List ℕ → Entry → Bool

@@ -6,12 +6,11 @@ ghost use Rattle.std.specs.Prelude.{◌≡◌, ◌+◌, ◌≤◌};
 ghost use Rattle.std.proofs.Math.ListN as list;
 ghost use Rattle.rules.specs.Tests.{◌≤?◌};
 ghost use Rattle.rules.specs.Pairwise.{same_octets};
-ghost use Rattle.rules.specs.Table.{form_of};
+ghost use Rattle.rules.specs.Table.{form_of, form_number};
 ghost use Rattle.rules.specs.Message.{most};
-ghost use Rattle.draft.specs.Meaning.{form_number, has_text};
-ghost use Rattle.draft.specs.declared.Value.TheVariants as value;
-ghost use Rattle.draft.specs.Draft.{no_entry, empty_of};
-ghost use Rattle.draft.specs.Same.{flat_of, flat_numbers, flat_text, same_text, same_ends, same_numbers, same_flat, same_entry, same_entries, same_message, same_draft};
+ghost use Rattle.draft.specs.Meaning.{has_text};
+ghost use Rattle.draft.specs.Draft.{no_entry, empty_of, text_long};
+ghost use Rattle.draft.specs.Same.{flat_of, flat_plain, flat_text, same_text, same_flat, same_entry, same_entries, same_message, same_draft};
 
 use rules::{Class, Form, MOST};
 
@@ -57,13 +56,16 @@ pub enum Value {
     },
 }
 
+// A parameter type, which every octet is, and its value.
 #[derive(Clone, Copy)]
 pub struct Entry {
     pub kind: u8,
     pub value: Value,
 }
 
-// A message type, the entries, and the number of the edition by which they are written (document 02, Q-5).
+// A message type, the entries, and the number of the edition by which they are written (document 02, Q-5). There is no
+// heap: the entries stand in an array by value with their number beside it, as in the record that C reads. Message
+// types and editions stay numbers: the writer promises an answer to each, 11 and 16 to those of none.
 #[derive(Clone, Copy)]
 pub struct Draft {
     pub kind: u8,
@@ -83,130 +85,68 @@ pub fn no_entry() -> Entry
 }
 
 // A draft of an edition with no entries.
+#[tactic(auto, unfolding(crate::specs::Draft::empty_of))]
 pub fn empty(edition: u8, kind: u8) -> Draft
     ensures { result ≡ empty_of edition kind }
 {
-    let none = no_entry();
-    let entries = [none; MOST];
     Draft {
         kind,
         edition,
         count: 0,
-        entries,
+        entries: [no_entry(); MOST],
     }
 }
 
-// The numbers of the kinds of value.
-pub const CODE_FORM: u8 = 0;
-
-pub const DATE_FORM: u8 = 1;
-
-pub const STATE_FORM: u8 = 2;
-
-pub const TEXT_FORM: u8 = 3;
-
-pub const CARRIED_FORM: u8 = 4;
-
-pub const MOMENT_FORM: u8 = 5;
-
-pub const DURATION_FORM: u8 = 6;
-
-pub const MARKED_FORM: u8 = 7;
-
-// Do values of the kind with this number have a text?
+// Do values of the kind with this number have a text? Its answer is promised of every number, those of no kind too.
+#[tactic(auto, using(rules::proofs::Telling::telling), unfolding(crate::specs::Meaning::has_text))]
 pub fn has_text(form: u8) -> bool
     ensures { result ≡ has_text form }
 {
-    if form == TEXT_FORM {
-        true
-    } else if form == CARRIED_FORM {
-        true
-    } else {
-        form == MARKED_FORM
-    }
+    form == Form::TextValue.into() || form == Form::CarriedValue.into() || form == Form::MarkedValue.into()
 }
 
-fn form_number(form: Form) -> u8
-    ensures { result ≡ form_number form }
-{
-    match form {
-        Form::CodeValue => CODE_FORM,
-        Form::DateValue => DATE_FORM,
-        Form::StateValue => STATE_FORM,
-        Form::TextValue => TEXT_FORM,
-        Form::CarriedValue => CARRIED_FORM,
-        Form::MomentValue => MOMENT_FORM,
-        Form::DurationValue => DURATION_FORM,
-        Form::MarkedValue => MARKED_FORM,
-    }
-}
-
-// The number of the kind of value that a class has.
+// The number of the kind of value that a class has: promised as a number.
 pub fn form_of(class: Class) -> u8
     ensures { result ≡ form_number (form_of class) }
 {
-    form_number(rules::form_of(class))
+    rules::form_of(class).into()
 }
 
-// A value laid flat: the number of its kind, its numbers (0 where it has fewer than five; the mark of a marked text is
+// A value laid flat: its kind, its numbers (0 where it has fewer than five; the mark of a marked text is
 // its first), and where its text lies (0 and 0 where it has none).
 #[derive(Clone, Copy)]
 pub struct Flat {
-    pub form: u8,
-    pub first: u16,
-    pub second: u16,
-    pub third: u16,
-    pub fourth: u16,
-    pub fifth: u16,
+    pub form: Form,
+    pub numbers: [u16; 5],
     pub start: usize,
     pub length: usize,
 }
 
-fn numbers(form: u8, first: u8, second: u8, third: u8, fourth: u8, fifth: u8) -> Flat
-    ensures { result ≡ flat_numbers form first second third fourth fifth }
+// Numbers without a text.
+fn plain(form: Form, numbers: [u16; 5]) -> Flat
+    ensures { result ≡ flat_plain form numbers }
 {
     Flat {
         form,
-        first: first as u16,
-        second: second as u16,
-        third: third as u16,
-        fourth: fourth as u16,
-        fifth: fifth as u16,
+        numbers,
         start: 0,
         length: 0,
     }
 }
 
-fn state_with(state: u8, reference: u16) -> Flat
-    ensures { result ≡ flat_of (value.State state reference) }
-{
-    Flat {
-        form: STATE_FORM,
-        first: state as u16,
-        second: reference,
-        third: 0,
-        fourth: 0,
-        fifth: 0,
-        start: 0,
-        length: 0,
-    }
-}
-
-fn text_at(form: u8, mark: u8, start: usize, length: usize) -> Flat
+// A text with its mark, 0 where it has none.
+fn marked(form: Form, mark: u8, start: usize, length: usize) -> Flat
     ensures { result ≡ flat_text form mark start length }
 {
     Flat {
         form,
-        first: mark as u16,
-        second: 0,
-        third: 0,
-        fourth: 0,
-        fifth: 0,
+        numbers: [mark.into(), 0, 0, 0, 0],
         start,
         length,
     }
 }
 
+#[tactic(auto, unfolding(crate::specs::Same::flat_of))]
 pub fn flatten(v: Value) -> Flat
     ensures { result ≡ flat_of v }
 {
@@ -216,28 +156,39 @@ pub fn flatten(v: Value) -> Flat
             day,
             hour,
             minute,
-        } => numbers(DATE_FORM, month, day, hour, minute, 0),
-        Value::Code(x) => numbers(CODE_FORM, x, 0, 0, 0, 0),
-        Value::State { state, reference } => state_with(state, reference),
-        Value::Text { start, length } => text_at(TEXT_FORM, 0, start, length),
-        Value::Carried { start, length } => text_at(CARRIED_FORM, 0, start, length),
+        } => plain(Form::DateValue, [month.into(), day.into(), hour.into(), minute.into(), 0]),
+        Value::Code(x) => plain(Form::CodeValue, [x.into(), 0, 0, 0, 0]),
+        Value::State { state, reference } => plain(Form::StateValue, [state.into(), reference, 0, 0, 0]),
+        Value::Text { start, length } => marked(Form::TextValue, 0, start, length),
+        Value::Carried { start, length } => marked(Form::CarriedValue, 0, start, length),
         Value::Moment {
             month,
             day,
             hour,
             minute,
             second,
-        } => numbers(MOMENT_FORM, month, day, hour, minute, second),
+        } => plain(Form::MomentValue, [month.into(), day.into(), hour.into(), minute.into(), second.into()]),
         Value::Duration {
             hours,
             minutes,
             seconds,
-        } => numbers(DURATION_FORM, hours, minutes, seconds, 0, 0),
+        } => plain(Form::DurationValue, [hours.into(), minutes.into(), seconds.into(), 0, 0]),
         Value::Marked {
             mark,
             start,
             length,
-        } => text_at(MARKED_FORM, mark, start, length),
+        } => marked(Form::MarkedValue, mark, start, length),
+    }
+}
+
+// How long the text of a value is, 0 where it has none.
+#[tactic(auto, unfolding(crate::specs::Draft::text_long))]
+pub fn text_length(v: Value) -> usize
+    ensures { result ≡ text_long v }
+{
+    match v {
+        Value::Text { length, .. } | Value::Carried { length, .. } | Value::Marked { length, .. } => length,
+        _ => 0,
     }
 }
 
@@ -250,40 +201,21 @@ pub fn lies(texts: &[u8], start: usize, length: usize) -> bool
     start <= n && length <= n - start
 }
 
-#[tactic(auto, using(rules::proofs::Telling::same_is))]
-fn same_parts(s: &[u8], a: usize, m: usize, t: &[u8], b: usize, n: usize) -> bool
-    requires { (a + m ≤ list.length s.now) × (b + n ≤ list.length t.now) }
-    ensures { result ≡ same_octets (list.take m (list.drop a s.now)) (list.take n (list.drop b t.now)) }
-{
-    s[a..a + m] == t[b..b + n]
-}
-
 // Texts are equal where both lie inside and their octets agree.
-#[tactic(auto, using(rules::proofs::Telling::telling), unfolding(crate::specs::Same::same_text))]
+#[tactic(auto, using(rules::proofs::Telling::telling, rules::proofs::Telling::same_is), unfolding(crate::specs::Same::same_text))]
 fn same_text(s: &[u8], x: Flat, t: &[u8], y: Flat) -> bool
     ensures { result ≡ same_text s.now x t.now y }
 {
     lies(s, x.start, x.length)
         && lies(t, y.start, y.length)
-        && same_parts(s, x.start, x.length, t, y.start, y.length)
+        && s[x.start..x.start + x.length] == t[y.start..y.start + y.length]
 }
 
-#[tactic(auto, using(rules::proofs::Telling::telling), unfolding(crate::specs::Same::same_numbers, crate::specs::Same::same_ends))]
-fn same_numbers(x: Flat, y: Flat) -> bool
-    ensures { result ≡ same_numbers x y }
-{
-    x.first == y.first
-        && x.second == y.second
-        && x.third == y.third
-        && x.fourth == y.fourth
-        && x.fifth == y.fifth
-}
-
-#[tactic(auto, using(rules::proofs::Telling::telling), unfolding(crate::specs::Same::same_flat))]
+#[tactic(auto, using(rules::proofs::Telling::telling, rules::proofs::Telling::same_is, crate::proofs::Meaning::forms_tell), unfolding(crate::specs::Same::same_flat, crate::specs::Same::same_numbers))]
 fn same_flat(s: &[u8], x: Flat, t: &[u8], y: Flat) -> bool
     ensures { result ≡ same_flat s.now x t.now y }
 {
-    x.form == y.form && same_numbers(x, y) && same_text(s, x, t, y)
+    x.form == y.form && x.numbers == y.numbers && same_text(s, x, t, y)
 }
 
 #[tactic(auto, using(rules::proofs::Telling::telling), unfolding(crate::specs::Same::same_entry))]

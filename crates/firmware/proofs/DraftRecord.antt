@@ -2,7 +2,7 @@
 -- it back.
 -- Assumes nothing.
 use Prim.Native.Nat.{ℕ, zero, suc, ◌+◌, ◌*◌, ◌-◌, ◌/◌, ◌%◌, ◌≤◌, ◌<◌}
-use mathlib.Core.Path.{◌≡◌, refl, sym, ◌∙◌, ap, ap₂}
+use mathlib.Core.Path.{◌≡◌, refl, sym, ◌∙◌, ap, ap₂, subst}
 use mathlib.Core.Bool.{Bool}
 use mathlib.Core.List.{List, [], ◌∷◌, ◌++◌, append_assoc, append-nil}
 use native.Mathlib.Numerals.{add-one}
@@ -13,22 +13,21 @@ use lib.Dec.{T}
 use Rattle.rules.specs.Message.{Message, most}
 use Rattle.rules.specs.Tests.{◌=?◌, pick, every}
 use Rattle.rules.proofs.Tests.{le_of, both}
-use Rattle.rules.specs.Table.{Rules}
+use Rattle.rules.specs.Table.{Rules, form_number}
 use Rattle.draft.specs.declared.Value.{Value}
 use Rattle.draft.specs.declared.Value.TheVariants.{Date, Code, State, Text, Carried, Moment, Duration, Marked}
 use Rattle.draft.specs.declared.Entry.{Entry}
 use Rattle.draft.specs.declared.Draft.{Draft}
-use Rattle.draft.specs.Meaning.{form_number}
 use Rattle.draft.specs.Draft.{no_entry, inside, all_inside}
-use Rattle.draft.specs.Packing.{entries_of, texts_of, draft_of}
+use Rattle.draft.specs.Packing.{entry_of, entries_of, text_of, texts_of, draft_of}
 use Rattle.draft.proofs.Packing.{pack}
 use Rattle.message.specs.Parameters.{message_in, parameters_in}
 use Rattle.message.proofs.Standing.{parameters_few}
 use Rattle.rules.specs.Laying.{laid, laid_at}
-use Rattle.reader.proofs.Laying.{TakenEntries, filled_first, filled_more, filled_end, untaken, LaidTexts, laid_first, laid_room, laid_more, laid_end, sized_end}
-use Rattle.reader.proofs.Turns.{entry_here, entry-text}
-use Rattle.reader.specs.Read.{text_size, taken_at}
-use Rattle.reader.specs.declared.Taken.TheVariants as taken
+use Rattle.message.specs.declared.Found.{Found}
+use Rattle.reader.proofs.Laying.{founds, TakenEntries, filled_first, filled_room, filled_more, filled_end, LaidTexts, laid_first, laid_more, laid_end, sized_inside, sized_small, sized_end}
+use Rattle.reader.proofs.Turns.{text_short}
+use Rattle.reader.specs.Read.{stands, text_size}
 use Rattle.firmware.specs.DraftRecord.{text_numbers, numbers_of, entry_cells, entries_cells, draft_record, value_of, cell_in, entry_in}
 use Rattle.firmware.specs.Sizes.{draft_size}
 
@@ -96,23 +95,24 @@ cells_length (e ∷ es) = omega (arith, length-append (entry_cells e) (entries_c
 
 -- ---- the loop over the entries and their texts
 module _ (R : Rules) (o old : List ℕ) where
-  pub record Recorded (count at used : ℕ) (cells texts : List ℕ) : Type 0 where
+  pub record Recorded (left : List Found) (count used : ℕ) (cells texts : List ℕ) : Type 0 where
     pub entries : List Entry
-    pub filled : TakenEntries R o count at used entries
+    pub filled : TakenEntries R o left count used entries
     pub cells_are : cells ≡ zeros ++ entries_cells entries
-    pub laid_down : LaidTexts R o old count at used texts
+    pub laid_down : LaidTexts R o old left used texts
 
   module _ (room : text_size R o ≤ length old) where
-    pub recorded_first : (cells : List ℕ) → cells ≡ replicate draft_size 0 → Recorded 0 2 0 cells old
-    recorded_first cells e = record {
+    pub recorded_first : (left : List Found) → left ≡ founds R o → (cells : List ℕ) → cells ≡ replicate draft_size 0 →
+        Recorded left 0 0 cells old
+    recorded_first left l cells e = record {
       entries = replicate most no_entry;
-      filled = filled_first R o;
+      filled = filled_first R o left l;
       cells_are =
           e ∙ sym (replicate-append-replicate 8 680 0) ∙ ap (λ (l : List ℕ). zeros ++ l) (sym (none_cells most));
-      laid_down = laid_first R o old room;
+      laid_down = laid_first R o old room left l;
     }
 
-    module _ (count at used : ℕ) (cells texts : List ℕ) (w : Recorded count at used cells texts) where
+    module _ (left : List Found) (count used : ℕ) (cells texts : List ℕ) (w : Recorded left count used cells texts) where
       pub recorded_long : length cells ≡ draft_size
       recorded_long =
           omega (
@@ -124,45 +124,47 @@ module _ (R : Rules) (o old : List ℕ) where
             w.filled.long,
           )
 
-      module _ (h : count < most) (e : Entry) (n place : ℕ) (t : taken.Next e n place ≡ taken_at R o at used) where
-        pub recorded_room : (place - n + n ≤ length o) × (used + n ≤ length texts)
-        recorded_room =
-            laid_room R o old room count at used texts w.laid_down h (place - n) n place
-            (entry-text R o (most - count) at (omega arith) used e n place t)
+      module _ (f : Found) (fs : List Found) (l : left ≡ f ∷ fs) where
+        pub recorded_inside : f.start + f.length ≤ length o
+        recorded_inside = sized_inside R o f fs left l used w.filled.sized
 
-        -- the text lies behind the parameter's header, before its end
-        pub recorded_inside : (n ≤ place) × (place ≤ length o)
-        recorded_inside =
-            let here = entry_here R o (most - count) at (omega arith) used e n place t in
-            (omega (arith, here.behind), here.lies)
+        pub recorded_room : count < most
+        recorded_room = filled_room R o f fs left l count used w.entries w.filled
 
-        pub recorded_more : (next after : List ℕ) → next ≡ laid_at (entry_cells e) (8 + 8 * count) cells →
-            after ≡ laid_at (take n (drop (place - n) o)) used texts → Recorded (count + 1) place (used + n) next after
-        recorded_more next after p q = record {
-          entries = set w.entries count e;
-          filled = filled_more R o count at used w.entries w.filled h e n place t;
-          cells_are =
-              p ∙ ap (laid_at (entry_cells e) (8 + 8 * count)) w.cells_are
-              ∙ put_entry w.entries count e (omega (arith, w.filled.long));
-          laid_down =
-              laid_more R o old room count at used texts w.laid_down h (place - n) n place
-              (entry-text R o (most - count) at (omega arith) used e n place t) after q;
-        }
+        module _ (e : Entry) (n : ℕ) (p : e ≡ entry_of R used (stands o f)) (q : n ≡ length (text_of R (stands o f))) where
+          pub recorded_text : (n ≤ f.length) × (used + n ≤ length texts)
+          recorded_text = (
+            omega (arith, text_short R o f recorded_inside),
+            omega (arith, sized_small R o f fs left l used w.filled.sized n q, w.laid_down.long),
+          )
 
-      pub recorded_end : untaken o count at ≡ [] →
+          pub recorded_more : (next after : List ℕ) → next ≡ laid_at (entry_cells e) (8 + 8 * count) cells →
+              after ≡ laid_at (text_of R (stands o f)) used texts → Recorded fs (count + 1) (used + n) next after
+          recorded_more next after a b = record {
+            entries = set w.entries count e;
+            filled = filled_more R o f fs left l count used w.entries w.filled e n p q;
+            cells_are =
+                a ∙ ap (laid_at (entry_cells e) (8 + 8 * count)) w.cells_are
+                ∙ put_entry w.entries count e (omega (arith, w.filled.long, recorded_room));
+            laid_down =
+                subst (λ (k : ℕ). LaidTexts R o old fs (used + k) after) (sym q)
+                (laid_more R o old room f fs left l used texts w.laid_down (text_of R (stands o f)) refl after b);
+          }
+
+      pub recorded_end : left ≡ [] →
           (count ≡ (draft_of R (message_in o)).count)
           × ((used ≡ text_size R o)
           × ((cells ≡ zeros ++ entries_cells (draft_of R (message_in o)).entries)
           × (texts ≡ laid (texts_of R (parameters_in o)) old)))
       recorded_end e =
-          let z = filled_end R o count at used w.entries w.filled
-          (record { kind = get_or o 0 0; edition = R.edition; count = count; entries = w.entries }) refl refl refl refl e in (
+          let z = filled_end R o left e count used w.entries w.filled
+          (record { kind = get_or o 0 0; edition = R.edition; count = count; entries = w.entries }) refl refl refl refl in (
             ap (λ (d : Draft). d.count) z,
             (
-              sized_end R o count at used w.laid_down.sized e,
+              sized_end R o left e used w.laid_down.sized,
               (
                 w.cells_are ∙ ap (λ (d : Draft). zeros ++ entries_cells d.entries) z,
-                laid_end R o old room count at used texts w.laid_down e,
+                laid_end R o old room left e used texts w.laid_down,
               ),
             ),
           )
@@ -187,30 +189,6 @@ draft_edition R o = refl
 pub count_small : (R : Rules) (o : List ℕ) → (draft_of R (message_in o)).count ≤ most
 unfolding draft_of message_in parameters_in
 count_small R o = parameters_few most o 2
-
--- ---- octets cleared one after the other
-pub record Cleared (old : List ℕ) (i : ℕ) (cells : List ℕ) : Type 0 where
-  pub below : i ≤ length old
-  pub long : length cells ≡ length old
-  pub front : take i cells ≡ replicate i 0
-
-pub cleared_first : (old : List ℕ) → Cleared old 0 old
-cleared_first old = record { below = omega arith; long = refl; front = refl }
-
-module _ (old : List ℕ) (i : ℕ) (cells : List ℕ) (w : Cleared old i cells) where
-  pub cleared_more : i < length cells → Cleared old (i + 1) (set cells i 0)
-  cleared_more h = record {
-    below = omega (arith, w.long);
-    long = length-set cells i 0 ∙ w.long;
-    front =
-        ap (λ (k : ℕ). take k (set cells i 0)) (add-one i) ∙ take-suc-set cells i 0 h
-        ∙ ap (λ (l : List ℕ). l ++ 0 ∷ []) w.front ∙ replicate-append-replicate i 1 0;
-  }
-
-  pub cleared_end : length cells ≤ i → cells ≡ replicate (length old) 0
-  cleared_end h =
-      sym (take_all i cells h) ∙ w.front
-      ∙ (let z : i ≡ length old = omega (arith, w.below, w.long) in ap (λ (k : ℕ). replicate {A = ℕ} k 0) z)
 
 -- ---- what the header's readers read back
 two_octets : (n : ℕ) → n < 65536 → n % 256 + 256 * (n / 256 % 256) ≡ n

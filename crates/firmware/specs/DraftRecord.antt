@@ -2,15 +2,24 @@
 -- entries of eight octets: the type, the kind of value, and six octets of value. What is not used is 0 (document 01: a
 -- record that is only written is judged by its size alone).
 -- Assumes nothing.
+use Rattle.rules.specs.Table.{form_number}
 use Rattle.std.specs.Prelude.{ℕ, ◌+◌, ◌*◌, ◌/◌, ◌%◌, List, [], ◌∷◌, ◌++◌, get_or, replicate}
 use Rattle.rules.specs.Tests.{◌=?◌, pick}
 use Rattle.draft.specs.declared.Value.{Value}
 use Rattle.draft.specs.declared.Value.TheVariants.{Date, Code, State, Text, Carried, Moment, Duration, Marked}
 use Rattle.draft.specs.declared.Entry.{Entry}
 use Rattle.draft.specs.declared.Draft.{Draft}
-use Rattle.firmware.specs.declared.drafts.Numbers.{Numbers}
-use Rattle.draft.specs.Meaning.{form_number}
 use Rattle.rules.specs.declared.Form.TheVariants.{CodeValue, DateValue, StateValue, TextValue, CarriedValue, MomentValue, DurationValue, MarkedValue}
+
+-- the kind of a value and six octets of it
+pub record Numbers : Type 0 where
+  pub form : ℕ
+  pub a : ℕ
+  pub b : ℕ
+  pub c : ℕ
+  pub d : ℕ
+  pub e : ℕ
+  pub f : ℕ
 
 -- numbers of one octet each
 abbrev pub plain_numbers : ℕ → ℕ → ℕ → ℕ → ℕ → ℕ → Numbers

@@ -11,7 +11,7 @@ ghost use Rattle.walker.specs.Moves.{begun, seen, advanced};
 
 use caption::Shown;
 use draft::{Draft, Entry, Flat, Value};
-use rules::{Fault, MOST};
+use rules::{Fault, Form, MOST};
 use std::io;
 use std::io::{Read, Write};
 use walker::{Step, Stepped, Walker};
@@ -86,20 +86,20 @@ fn say_text(out: &mut impl Write, texts: &[u8], start: usize, size: usize) -> io
 
 // Four numbers, 0 where the value has fewer; of a moment five (document 02, Q-4).
 fn say_numbers(out: &mut impl Write, value: Flat) -> io::Result<()> {
-    say_number(out, b"", value.first as u64)?;
-    say_number(out, b" ", value.second as u64)?;
-    say_number(out, b" ", value.third as u64)?;
-    say_number(out, b" ", value.fourth as u64)?;
-    if value.form == draft::MOMENT_FORM {
-        say_number(out, b" ", value.fifth as u64)?;
+    say_number(out, b"", value.numbers[0] as u64)?;
+    say_number(out, b" ", value.numbers[1] as u64)?;
+    say_number(out, b" ", value.numbers[2] as u64)?;
+    say_number(out, b" ", value.numbers[3] as u64)?;
+    if value.form == Form::MomentValue {
+        say_number(out, b" ", value.numbers[4] as u64)?;
     }
     say(out, b"\n")
 }
 
 // The first octet of the contents stands ahead of a marked text (document 02, Q-4).
 fn say_mark(out: &mut impl Write, value: Flat) -> io::Result<()> {
-    if value.form == draft::MARKED_FORM {
-        say_number(out, b"", value.first as u64)?;
+    if value.form == Form::MarkedValue {
+        say_number(out, b"", value.numbers[0] as u64)?;
         say(out, b" ")?;
     }
     Ok(())
@@ -110,9 +110,10 @@ fn say_entry(out: &mut impl Write, entry: Entry, texts: &[u8]) -> io::Result<()>
     let value = entry.value;
     let flat = draft::flatten(value);
     say_octet(out, entry.kind)?;
-    say_number(out, b" ", flat.form as u64)?;
+    let form = u8::from(flat.form);
+    say_number(out, b" ", form as u64)?;
     say(out, b" ")?;
-    if draft::has_text(flat.form) {
+    if draft::has_text(form) {
         say_mark(out, flat)?;
         say_text(out, texts, flat.start, flat.length)
     } else {

@@ -12,7 +12,7 @@ use lib.Dec.{T}
 use Rattle.rules.specs.Tests.{◌≤?◌, ◌=?◌, ◌and◌, ◌or◌, pick}
 use Rattle.rules.specs.Octets.{total, checksum}
 use Rattle.rules.specs.Contents.{within, in_set, digit, pair_fits, pairs_fit, all_in, head_fits, some_length, short_month, days, month_of}
-use Rattle.rules.specs.Table.{rules_of, class_fault, row_in, row_of, listed_in, listed, class_of, rival_of, type_fault, form_of, whole}
+use Rattle.rules.specs.Table.{rules_of, class_fault, row_in, row_of, listed_in, listed, class_of, rival_of, type_fault, form_of, whole, form_number}
 use Rattle.rules.specs.Editions.{strict, lenient, edition, known, book_of, named_by}
 use Rattle.rules.specs.Message.{body, octets, message_kind}
 use Rattle.rules.specs.Charge.{dash, comma, missing, amount_by, amount_keep, currency_by, flags_at, flags_keep, charge_by, charge_keep}
@@ -36,7 +36,7 @@ use Rattle.message.specs.Parts.{parameter_at, matched, search_from, counted_at, 
 use Rattle.reader.specs.declared.Reading.{Reading}
 use Rattle.reader.proofs.Promised as reader
 use Rattle.reader.specs.Read.{pack_from, pack_of, read_of}
-use Rattle.draft.specs.Meaning.{form_number, kind_of, form_is, tens, ones, seconds_said, spelled}
+use Rattle.draft.specs.Meaning.{kind_of, form_is, tens, ones, seconds_said, spelled}
 use Rattle.draft.specs.Draft.{meaning_of, inside, parameter_of, parameters_of, message_of}
 use Rattle.draft.specs.declared.Value.TheVariants.{Date, Moment, Marked}
 use Rattle.draft.specs.declared.Draft.{Draft}

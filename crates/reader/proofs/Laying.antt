@@ -1,208 +1,196 @@
 -- How texts are laid down one behind the other, and entries taken one after the other: what holds between the turns
 -- of the loops.
 -- Assumes nothing.
-use Rattle.std.proofs.Common.{Result, Ok, Err}
+use Rattle.std.proofs.Common.{Result, Ok, Err, true, false}
+use Rattle.std.specs.Result.{is_ok}
+use Rattle.rules.proofs.Tests.{clash}
 use Prim.Native.Nat.{ℕ, suc, ◌+◌, ◌-◌, ◌≤◌, ◌<◌}
-use mathlib.Core.Path.{◌≡◌, refl, sym, ◌∙◌, ap, ap₂}
+use mathlib.Core.Path.{◌≡◌, refl, sym, ◌∙◌, ap, ap₂, subst}
 use mathlib.Core.List.{List, [], ◌∷◌, ◌++◌, append-nil, append_assoc}
 use native.Mathlib.Numerals.{add-one}
 use native.Mathlib.Omega.{arith}
-use lib.ListN.{length, length-append, length-drop, length-set, length-replicate, take, drop, set, get_or, replicate, take-append-drop}
+use lib.ListN.{length, length-append, length-set, length-replicate, take, drop, set, get_or, replicate, take-append-drop}
 use lib.Seq.{drop-drop, take-suc-set, drop-set-lt, length-take-le}
 use Rattle.rules.specs.Table.{Rules}
 use Rattle.rules.specs.declared.Fault.{Fault}
 use Rattle.rules.specs.Message.{Parameter, most}
+use Rattle.message.specs.declared.Found.{Found}
+use Rattle.message.specs.Walk.{founds_from}
 use Rattle.message.specs.Parameters.{parameters_from, parameters_in, message_in}
-use Rattle.message.proofs.Standing.{no_more}
+use Rattle.message.proofs.Walking.{founds_few}
 use Rattle.draft.specs.declared.Entry.{Entry}
 use Rattle.draft.specs.declared.Draft.{Draft}
 use Rattle.draft.specs.Draft.{no_entry, empty_of}
 use Rattle.rules.specs.Laying.{laid, laid_at}
 use Rattle.rules.proofs.Laying.{laid_front, laid_behind, laid_length}
-use Rattle.draft.specs.Packing.{texts_of, entries_of, draft_of}
+use Rattle.draft.specs.Packing.{text_of, texts_of, entry_of, entries_of, draft_of}
 use Rattle.draft.proofs.Packing.{entries_length}
-use Rattle.reader.specs.declared.Taken.TheVariants as taken
-use Rattle.reader.specs.declared.Text.TheVariants as text
-use Rattle.reader.specs.Read.{text_size, text_at, taken_at, pack_of, draft_from, read_of}
-use Rattle.reader.proofs.Turns.{TextHere, text_here, text_none, EntryHere, entry_here, entry_none, size_within}
-
--- the parameters not yet taken
-abbrev pub untaken : List ℕ → ℕ → ℕ → List Parameter
-untaken o count at = parameters_from (most - count) o at
-
--- none are left after 85, or where none stands
-pub left_full : (o : List ℕ) (count at : ℕ) → most ≤ count → untaken o count at ≡ []
-left_full o count at h = no_more (most - count) o at (omega arith)
-
-pub left_none : (R : Rules) (o : List ℕ) (count at : ℕ) → count < most → text.End ≡ text_at R o at →
-    untaken o count at ≡ []
-left_none R o count at h e = text_none R o (most - count) at (omega arith) e
-
-pub left_ended : (R : Rules) (o : List ℕ) (count at used : ℕ) → count < most → taken.End ≡ taken_at R o at used →
-    untaken o count at ≡ []
-left_ended R o count at used h e = entry_none R o (most - count) at (omega arith) used e
-
-turn : (o : List ℕ) (count at : ℕ) → parameters_from (most - count - 1) o at ≡ untaken o (count + 1) at
-turn o count at = let z : most - count - 1 ≡ most - (count + 1) = omega arith in ap (λ (n : ℕ). parameters_from n o at) z
+use Rattle.reader.specs.Read.{stands, text_size, pack_of, draft_from, read_of}
+use Rattle.reader.proofs.Turns.{stood, Lie, founds_stand, size_within}
 
 module _ (R : Rules) (o : List ℕ) where
-  size_is : text_size R o ≡ length (texts_of R (parameters_in o))
-  unfolding text_size
-  size_is = refl
+  -- those found from the first parameter on
+  abbrev pub founds : List Found
+  founds = founds_from most o 2
 
-  -- ---- the size of the texts
-  pub record Sized (count at size : ℕ) : Type 0 where
-    pub few : count ≤ most
-    pub sum : size + length (texts_of R (untaken o count at)) ≡ text_size R o
+  -- ---- the size of the texts: those so far, and those of what is still to come
+  pub record Sized (fs : List Found) (size : ℕ) : Type 0 where
+    pub lie : Lie o fs
+    pub sum : size + length (texts_of R (stood o fs)) ≡ text_size R o
 
-  pub sized_first : Sized 0 2 0
+  first_size : Sized founds 0
   unfolding text_size parameters_in
-  sized_first = record { few = omega arith; sum = omega arith }
+  first_size =
+      let all = founds_stand most o 2 in
+      record { lie = all.1; sum = omega (arith, ap (λ (ps : List Parameter). length (texts_of R ps)) all.0) }
 
-  module _ (count at size : ℕ) (s : Sized count at size) where
-    module _ (h : count < most) (start n place : ℕ) (e : text.At start n place ≡ text_at R o at) where
-      here : TextHere R o (most - count) at (omega arith) start n place
-      here = text_here R o (most - count) at (omega arith) start n place e
+  pub sized_first : (left : List Found) → left ≡ founds → Sized left 0
+  sized_first left e = subst (λ (l : List Found). Sized l 0) (sym e) first_size
 
-      text_long_lem : length (take n (drop start o)) ≡ n
-      text_long_lem = length-take-le n (drop start o) (omega (arith, length-drop start o, here.lies))
+  module _ (f : Found) (fs left : List Found) (e : left ≡ f ∷ fs) (size : ℕ) (sized : Sized left size) where
+    s : Sized (f ∷ fs) size
+    s = subst (λ (l : List Found). Sized l size) e sized
 
-      parted : length (texts_of R (untaken o count at)) ≡ n + length (texts_of R (untaken o (count + 1) place))
-      parted =
-          ap length here.texts ∙ length-append (take n (drop start o))
-          (texts_of R (parameters_from (most - count - 1) o place))
-          ∙ ap₂ (λ (a : ℕ) (ps : List Parameter). a + length (texts_of R ps)) text_long_lem (turn o count place)
+    pub sized_inside : f.start + f.length ≤ length o
+    unfolding Lie
+    sized_inside = s.lie.0
 
-      pub sized_more : Sized (count + 1) place (size + n)
-      sized_more = record { few = omega arith; sum = omega (arith, s.sum, parted) }
+    module _ (n : ℕ) (p : n ≡ length (text_of R (stands o f))) where
+      pub sized_more : Sized fs (size + n)
+      unfolding Lie stood texts_of
+      sized_more =
+          record {
+            lie = s.lie.1;
+            sum = omega (arith, s.sum, p, length-append (text_of R (stands o f)) (texts_of R (stood o fs)));
+          }
 
-      pub sized_small : size + n ≤ length o
-      sized_small = omega (arith, s.sum, parted, size_within R o)
+      pub sized_small : size + n ≤ text_size R o
+      sized_small = omega (arith, sized_more.sum)
 
-    pub sized_end : untaken o count at ≡ [] → size ≡ text_size R o
-    unfolding texts_of
-    sized_end e = omega (arith, s.sum, ap (λ (ps : List Parameter). length (texts_of R ps)) e)
+      pub sized_within : size + n ≤ length o
+      sized_within = omega (arith, sized_small, size_within R o)
+
+  pub sized_end : (left : List Found) → left ≡ [] → (size : ℕ) → Sized left size → size ≡ text_size R o
+  unfolding stood texts_of
+  sized_end left e size s = omega (arith, ap (λ (l : List Found). length (texts_of R (stood o l))) e, s.sum)
 
   -- ---- the texts laid down
-  pub record LaidTexts (old : List ℕ) (count at used : ℕ) (area : List ℕ) : Type 0 where
-    pub sized : Sized count at used
+  pub record LaidTexts (old : List ℕ) (fs : List Found) (used : ℕ) (area : List ℕ) : Type 0 where
+    pub sized : Sized fs used
     pub long : length area ≡ length old
-    pub texts : take used area ++ texts_of R (untaken o count at) ≡ texts_of R (parameters_in o)
+    pub texts : take used area ++ texts_of R (stood o fs) ≡ texts_of R (parameters_in o)
     pub rest : drop used area ≡ drop used old
 
   module _ (old : List ℕ) (room : text_size R o ≤ length old) where
-    pub laid_first : LaidTexts old 0 2 0 old
+    pub laid_first : (left : List Found) → left ≡ founds → LaidTexts old left 0 old
     unfolding parameters_in
-    laid_first = record { sized = sized_first; long = refl; texts = refl; rest = refl }
+    laid_first left e =
+        record {
+          sized = sized_first left e;
+          long = refl;
+          texts = ap (λ (l : List Found). texts_of R (stood o l)) e ∙ ap (texts_of R) (founds_stand most o 2).0;
+          rest = refl;
+        }
 
-    module _ (count at used : ℕ) (area : List ℕ) (w : LaidTexts old count at used area) where
-      module _ (h : count < most) (start n place : ℕ) (e : text.At start n place ≡ text_at R o at) where
-        pub laid_room : (start + n ≤ length o) × (used + n ≤ length area)
-        laid_room = (
-          (here count at used w.sized h start n place e).lies,
-          omega (arith, w.sized.sum, parted count at used w.sized h start n place e, w.long),
-        )
+    module _ (f : Found) (fs left : List Found) (e : left ≡ f ∷ fs) (used : ℕ) (area : List ℕ)
+        (laid : LaidTexts old left used area) (v : List ℕ) (p : v ≡ text_of R (stands o f)) where
+      pub laid_room : used + length v ≤ length area
+      laid_room = omega (arith, sized_small f fs left e used laid.sized (length v) (ap length p), laid.long)
 
-        pub laid_more : (next : List ℕ) → next ≡ laid_at (take n (drop start o)) used area →
-            LaidTexts old (count + 1) place (used + n) next
-        laid_more next p =
-            let v = take n (drop start o) in
-            let l : length v ≡ n = text_long_lem count at used w.sized h start n place e in
-            let f : used + length v ≤ length area = omega (arith, laid_room.1) in
-            let z : used + n ≡ used + length v = omega arith in
-            record {
-              sized = sized_more count at used w.sized h start n place e;
-              long = ap length p ∙ laid_length v used area f ∙ w.long;
-              texts =
-                  ap₂ (λ (k : ℕ) (a : List ℕ). take k a ++ texts_of R (untaken o (count + 1) place)) z p
-                  ∙ ap (λ (a : List ℕ). a ++ texts_of R (untaken o (count + 1) place)) (laid_front v used area f)
-                  ∙ append_assoc (take used area) v (texts_of R (untaken o (count + 1) place))
-                  ∙ ap (λ (a : List ℕ). take used area ++ a)
-                  (ap (λ (ps : List Parameter). v ++ texts_of R ps) (sym (turn o count place))
-                  ∙ sym (here count at used w.sized h start n place e).texts)
-                  ∙ w.texts;
-              rest =
-                  ap₂ drop z p
-                  ∙ laid_behind v used area f
-                  ∙ sym (drop-drop (length v) used area) ∙ ap (drop (length v)) w.rest
-                  ∙ drop-drop (length v) used old
-                  ∙ ap (λ (k : ℕ). drop k old) (sym z);
-            }
+      pub laid_more : (next : List ℕ) → next ≡ laid_at v used area → LaidTexts old fs (used + length v) next
+      unfolding stood texts_of
+      laid_more next q =
+          record {
+            sized = sized_more f fs left e used laid.sized (length v) (ap length p);
+            long = ap length q ∙ laid_length v used area laid_room ∙ laid.long;
+            texts =
+                ap (λ (a : List ℕ). take (used + length v) a ++ texts_of R (stood o fs)) q
+                ∙ ap (λ (a : List ℕ). a ++ texts_of R (stood o fs)) (laid_front v used area laid_room)
+                ∙ append_assoc (take used area) v (texts_of R (stood o fs))
+                ∙ ap (λ (u : List ℕ). take used area ++ (u ++ texts_of R (stood o fs))) p
+                ∙ ap (λ (l : List Found). take used area ++ texts_of R (stood o l)) (sym e)
+                ∙ laid.texts;
+            rest =
+                ap (drop (used + length v)) q
+                ∙ laid_behind v used area laid_room
+                ∙ sym (drop-drop (length v) used area) ∙ ap (drop (length v)) laid.rest
+                ∙ drop-drop (length v) used old;
+          }
 
-      pub laid_end : untaken o count at ≡ [] → area ≡ laid (texts_of R (parameters_in o)) old
-      unfolding laid texts_of
-      laid_end e =
-          let t : take used area ≡ texts_of R (parameters_in o) =
-          sym (append-nil (take used area))
-          ∙ ap (λ (ps : List Parameter). take used area ++ texts_of R ps) (sym e) ∙ w.texts in
-          let u : used ≡ text_size R o = sized_end count at used w.sized e in
-          sym (take-append-drop used area) ∙ ap₂ ◌++◌ t (w.rest ∙ ap (λ (k : ℕ). drop k old) (u ∙ size_is))
+    pub laid_end : (left : List Found) → left ≡ [] → (used : ℕ) (area : List ℕ) → LaidTexts old left used area →
+        area ≡ laid (texts_of R (parameters_in o)) old
+    unfolding laid stood texts_of text_size
+    laid_end left e used area w =
+        sym (take-append-drop used area)
+        ∙ ap₂ ◌++◌
+        (sym (append-nil (take used area))
+        ∙ ap (λ (l : List Found). take used area ++ texts_of R (stood o l)) (sym e) ∙ w.texts)
+        (w.rest ∙ ap (λ (k : ℕ). drop k old) (sized_end left e used w.sized))
 
   -- ---- the entries taken
-  pub record TakenEntries (count at used : ℕ) (entries : List Entry) : Type 0 where
-    pub few : count ≤ most
+  pub record TakenEntries (fs : List Found) (count used : ℕ) (entries : List Entry) : Type 0 where
+    pub sized : Sized fs used
+    pub few : count + length fs ≤ most
     pub long : length entries ≡ most
-    pub used_small : used ≤ at
-    pub front : take count entries ++ entries_of R used (untaken o count at) ≡ entries_of R 0 (parameters_in o)
+    pub front : take count entries ++ entries_of R used (stood o fs) ≡ entries_of R 0 (parameters_in o)
     pub rest : drop count entries ≡ replicate (most - count) no_entry
 
-  pub filled_first : TakenEntries 0 2 0 (replicate most no_entry)
+  pub filled_first : (left : List Found) → left ≡ founds → TakenEntries left 0 0 (replicate most no_entry)
   unfolding parameters_in
-  filled_first =
+  filled_first left e =
       record {
-        few = omega arith;
+        sized = sized_first left e;
+        few = omega (arith, ap length e, founds_few most o 2);
         long = length-replicate most no_entry;
-        used_small = omega arith;
-        front = refl;
+        front = ap (λ (l : List Found). entries_of R 0 (stood o l)) e ∙ ap (entries_of R 0) (founds_stand most o 2).0;
         rest = refl;
       }
 
-  module _ (count at used : ℕ) (entries : List Entry) (w : TakenEntries count at used entries) where
-    module _ (h : count < most) (e : Entry) (n place : ℕ) (t : taken.Next e n place ≡ taken_at R o at used) where
-      entry_is : EntryHere R o (most - count) at (omega arith) used e n place
-      entry_is = entry_here R o (most - count) at (omega arith) used e n place t
+  module _ (f : Found) (fs left : List Found) (e : left ≡ f ∷ fs) (count used : ℕ) (entries : List Entry)
+      (taken : TakenEntries left count used entries) where
+    pub filled_room : count < most
+    filled_room = omega (arith, ap length e, taken.few)
 
-      pub filled_small : used + n ≤ length o
-      filled_small = omega (arith, w.used_small, entry_is.behind, entry_is.lies)
+    pub filled_more : (x : Entry) (n : ℕ) → x ≡ entry_of R used (stands o f) → n ≡ length (text_of R (stands o f)) →
+        TakenEntries fs (count + 1) (used + n) (set entries count x)
+    unfolding stood entries_of
+    filled_more x n p q =
+        let g : count < length entries = omega (arith, taken.long, filled_room) in
+        record {
+          sized = sized_more f fs left e used taken.sized n q;
+          few = omega (arith, ap length e, taken.few);
+          long = length-set entries count x ∙ taken.long;
+          front =
+              ap (λ (l : List Entry). l ++ entries_of R (used + n) (stood o fs))
+              (ap (λ (k : ℕ). take k (set entries count x)) (add-one count) ∙ take-suc-set entries count x g)
+              ∙ append_assoc (take count entries) (x ∷ []) (entries_of R (used + n) (stood o fs))
+              ∙ ap₂ (λ (y : Entry) (k : ℕ). take count entries ++ (y ∷ entries_of R (used + k) (stood o fs))) p q
+              ∙ ap (λ (l : List Found). take count entries ++ entries_of R used (stood o l)) (sym e)
+              ∙ taken.front;
+          rest =
+              drop-set-lt (count + 1) entries count x (omega arith)
+              ∙ sym (drop-drop 1 count entries)
+              ∙ ap (drop 1)
+              (taken.rest ∙ (let z : most - count ≡ suc (most - (count + 1)) = omega (arith, filled_room) in
+              ap (λ (k : ℕ). replicate k no_entry) z));
+        }
 
-      pub filled_more : TakenEntries (count + 1) place (used + n) (set entries count e)
-      filled_more =
-          let f : count < length entries = omega (arith, w.long) in
-          record {
-            few = omega arith;
-            long = length-set entries count e ∙ w.long;
-            used_small = omega (arith, w.used_small, entry_is.behind);
-            front =
-                ap (λ (l : List Entry). l ++ entries_of R (used + n) (untaken o (count + 1) place))
-                (ap (λ (k : ℕ). take k (set entries count e)) (add-one count) ∙ take-suc-set entries count e f)
-                ∙ append_assoc (take count entries) (e ∷ []) (entries_of R (used + n) (untaken o (count + 1) place))
-                ∙ ap (λ (l : List Entry). take count entries ++ l)
-                (ap (λ (ps : List Parameter). e ∷ entries_of R (used + n) ps) (sym (turn o count place))
-                ∙ sym entry_is.entries)
-                ∙ w.front;
-            rest =
-                drop-set-lt (count + 1) entries count e (omega arith)
-                ∙ sym (drop-drop 1 count entries)
-                ∙ ap (drop 1)
-                (w.rest ∙ (let z : most - count ≡ suc (most - (count + 1)) = omega arith in
-                ap (λ (k : ℕ). replicate k no_entry) z));
-          }
-
-    pub filled_end : (d : Draft) → d.kind ≡ get_or o 0 0 → d.edition ≡ R.edition → d.count ≡ count →
-        d.entries ≡ entries → untaken o count at ≡ [] → d ≡ draft_of R (message_in o)
-    unfolding draft_of message_in entries_of
-    filled_end d k v c s e =
-        let t : take count entries ≡ entries_of R 0 (parameters_in o) =
-        sym (append-nil (take count entries))
-        ∙ ap (λ (ps : List Parameter). take count entries ++ entries_of R used ps) (sym e) ∙ w.front in
-        let n : count ≡ length (parameters_in o) =
-        sym (length-take-le count entries (omega (arith, w.few, w.long))) ∙ ap length t
-        ∙ entries_length R 0 (parameters_in o) in
-        let a : d.count ≡ length (parameters_in o) = c ∙ n in
-        let b : d.entries ≡ entries_of R 0 (parameters_in o) ++ replicate (most - length (parameters_in o)) no_entry =
-        s ∙ sym (take-append-drop count entries)
-        ∙ ap₂ ◌++◌ t (w.rest ∙ ap (λ (m : ℕ). replicate (most - m) no_entry) n) in
-        λ i. record { kind = k i; edition = v i; count = a i; entries = b i }
+  pub filled_end : (left : List Found) → left ≡ [] → (count used : ℕ) (entries : List Entry) →
+      TakenEntries left count used entries → (d : Draft) → d.kind ≡ get_or o 0 0 → d.edition ≡ R.edition → d.count ≡ count → d.entries ≡ entries →
+      d ≡ draft_of R (message_in o)
+  unfolding draft_of message_in stood entries_of
+  filled_end left e count used entries w d k v c s =
+      let t : take count entries ≡ entries_of R 0 (parameters_in o) =
+      sym (append-nil (take count entries))
+      ∙ ap (λ (l : List Found). take count entries ++ entries_of R used (stood o l)) (sym e) ∙ w.front in
+      let n : count ≡ length (parameters_in o) =
+      sym (length-take-le count entries (omega (arith, w.few, w.long))) ∙ ap length t
+      ∙ entries_length R 0 (parameters_in o) in
+      let a : d.count ≡ length (parameters_in o) = c ∙ n in
+      let b : d.entries ≡ entries_of R 0 (parameters_in o) ++ replicate (most - length (parameters_in o)) no_entry =
+      s ∙ sym (take-append-drop count entries)
+      ∙ ap₂ ◌++◌ t (w.rest ∙ ap (λ (m : ℕ). replicate (most - m) no_entry) n) in
+      λ i. record { kind = k i; edition = v i; count = a i; entries = b i }
 
 -- ---- what becomes of the octets, and the draft to it
 module _ (R : Rules) (o : List ℕ) (room : ℕ) (p : Result ℕ Fault) (d : Draft) (e : p ≡ pack_of R o room) where
@@ -211,12 +199,20 @@ module _ (R : Rules) (o : List ℕ) (room : ℕ) (p : Result ℕ Fault) (d : Dra
   unfolding read_of
   reads v h q = let z = q ∙ ap (draft_from R o) e in λ i. record { edition = h i; answer = e i; draft = z i }
 
-  pub reads_whole : (v n : ℕ) → v ≡ R.edition → p ≡ Ok n → d ≡ draft_of R (message_in o) →
+  pub reads_whole : (v : ℕ) → v ≡ R.edition → true ≡ is_ok p → d ≡ draft_of R (message_in o) →
       (record { edition = v; answer = p; draft = d }) ≡ read_of R o room
   unfolding draft_from
-  reads_whole v n h q f = reads v h (f ∙ ap (draft_from R o) (sym q))
+  reads_whole v h q f = reads v h (f ∙ whole p q)
+    where
+      whole : (x : Result ℕ Fault) → true ≡ is_ok x → draft_of R (message_in o) ≡ draft_from R o x
+      whole (Ok n) q = refl
+      whole (Err g) q = clash (cc q)
 
-  pub reads_refused : (v : ℕ) (f : Fault) → v ≡ R.edition → p ≡ Err f → d ≡ empty_of v 0 →
+  pub reads_refused : (v : ℕ) → v ≡ R.edition → false ≡ is_ok p → d ≡ empty_of v 0 →
       (record { edition = v; answer = p; draft = d }) ≡ read_of R o room
   unfolding draft_from
-  reads_refused v f h q g = reads v h (g ∙ ap (λ (x : ℕ). empty_of x 0) h ∙ ap (draft_from R o) (sym q))
+  reads_refused v h q f = reads v h (f ∙ ap (λ (x : ℕ). empty_of x 0) h ∙ refused p q)
+    where
+      refused : (x : Result ℕ Fault) → false ≡ is_ok x → empty_of R.edition 0 ≡ draft_from R o x
+      refused (Ok n) q = clash (cc q)
+      refused (Err g) q = refl

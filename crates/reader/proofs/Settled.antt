@@ -3,6 +3,7 @@
 use mathlib.Core.Path.{◌≡◌, sym, ◌∙◌}
 use Rattle.reader.proofs.fits.Reads as fits
 use Rattle.reader.proofs.pack.Reads as pack
+use Rattle.reader.proofs.entry_of.Reads as entry_of
 use Rattle.reader.proofs.entry.Reads as entry
 use Rattle.reader.proofs.read_way.Reads as read_way
 use Rattle.reader.proofs.read.Reads as read
@@ -13,6 +14,10 @@ fits_settled κs a r r' s s' p q = p ∙ sym q
 pub pack_settled : (κs : _) (a : _) (r r' : _) (s s' : _) → pack.Post κs a r s → pack.Post κs a r' s' →
     (r ≡ r') × (s.1.1.0.now ≡ s'.1.1.0.now)
 pack_settled κs a r r' s s' p q = (p.0 ∙ sym q.0, p.1 ∙ sym q.1)
+
+pub entry_of_settled : (κs : _) (a : _) (r r' : _) (s s' : _) → entry_of.Post κs a r s → entry_of.Post κs a r' s' →
+    r ≡ r'
+entry_of_settled κs a r r' s s' p q = p ∙ sym q
 
 pub entry_settled : (κs : _) (a : _) (r r' : _) (s s' : _) → entry.Post κs a r s → entry.Post κs a r' s' → r ≡ r'
 entry_settled κs a r r' s s' p q = p ∙ sym q

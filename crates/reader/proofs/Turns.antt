@@ -1,15 +1,13 @@
 -- How the texts and entries go on from parameter to parameter.
 -- Assumes nothing.
-use Rattle.std.proofs.Common.{Option, Some, None, sum_by}
-use Rattle.std.proofs.lemmas.List.Sums.{sum_by-cons}
+use Rattle.std.proofs.Common.{Option, Some, None}
 use Prim.Native.Nat.{ℕ, zero, suc, ◌+◌, ◌-◌, ◌*◌, ◌≤◌, ◌<◌}
 use mathlib.Core.Path.{◌≡◌, refl, sym, ◌∙◌, ap, ap₂}
 use mathlib.Core.List.{List, [], ◌∷◌, ◌++◌}
 use native.Mathlib.Omega.{arith}
 use lib.ListN.{length, length-append, length-drop, take, drop}
-use lib.Seq.{length-take-le, take-nil, drop-drop, drop-length}
-use Rattle.rules.proofs.Laying.{part_is}
-use Rattle.rules.proofs.Tests.{clash}
+use lib.Seq.{length-take-le, drop-length}
+use Rattle.rules.proofs.Laying.{rest_whole}
 use Rattle.rules.specs.Table.{Rules}
 use Rattle.rules.specs.declared.Form.{Form}
 use Rattle.rules.specs.declared.Form.TheVariants.{DateValue, CodeValue, StateValue, TextValue, CarriedValue, MomentValue, DurationValue, MarkedValue}
@@ -18,28 +16,13 @@ use Rattle.message.specs.Parts.{found_at, parameter_at}
 use Rattle.message.specs.Walk.{found_then, founds_from}
 use Rattle.message.specs.Parameters as message
 use Rattle.message.specs.Parameters.{parameters_from, parameters_in}
-use Rattle.message.proofs.Standing.{none_here, one_here}
 use Rattle.message.proofs.Searching.{found_inside, found_behind}
 use Rattle.message.specs.declared.Found.{Found}
-use Rattle.draft.specs.declared.Value.{Value}
 use Rattle.draft.specs.declared.Entry.{Entry}
+use Rattle.draft.specs.Draft.{text_long}
 use Rattle.draft.specs.Meaning.{Meaning, date_is, code_is, state_is, text_is, carried_is, moment_is, duration_is, marked_is, kind_of, meant, text_in}
-use Rattle.draft.specs.Packing.{value_at, meaning_in, entry_of, text_of, entries_of, texts_of}
-use Rattle.reader.specs.declared.Taken.TheVariants as taken
-use Rattle.reader.specs.declared.Text.TheVariants as text
-use Rattle.reader.specs.Read.{standing, text_part, text_long, taken_from, taken_at, text_from, text_at, text_size}
-
--- the text is the contents, what stands behind their first octet, or nothing
-text_part_lem : (f : Form) (v : List ℕ) → length (text_in (meant f v)) ≡ text_part f (length v)
-unfolding text_in meant text_part
-text_part_lem DateValue v = refl
-text_part_lem CodeValue v = refl
-text_part_lem StateValue v = refl
-text_part_lem TextValue v = refl
-text_part_lem CarriedValue v = refl
-text_part_lem MomentValue v = refl
-text_part_lem DurationValue v = refl
-text_part_lem MarkedValue v = length-drop 1 v
+use Rattle.draft.specs.Packing.{value_at, meaning_in, entry_of, text_of, texts_of}
+use Rattle.reader.specs.Read.{parameter_with, standing, stands, text_size}
 
 short : (f : Form) (v : List ℕ) → length (text_in (meant f v)) ≤ length v
 unfolding text_in meant
@@ -69,129 +52,20 @@ text_last MarkedValue [] = refl
 text_last MarkedValue (x ∷ v) =
     let z : suc (length v) - length v ≡ 1 = omega arith in ap (λ (n : ℕ). drop n (x ∷ v)) z
 
--- the octets behind m of the first n
-drop-take : (m n : ℕ) (l : List ℕ) → m ≤ n → drop m (take n l) ≡ take (n - m) (drop m l)
-drop-take zero n l h = let z : n ≡ n - 0 = omega arith in ap (λ (k : ℕ). take k l) z
-drop-take (suc m) zero l h = absurd (omega arith)
-drop-take (suc m) (suc n) [] h = sym (take-nil (suc n - suc m))
-drop-take (suc m) (suc n) (x ∷ l) h =
-    let z : n - m ≡ suc n - suc m = omega arith in
-    drop-take m n l (omega arith) ∙ ap (λ (k : ℕ). take k (drop m l)) z
+-- of a parameter
+pub text_ends : (R : Rules) (k : ℕ) (v : List ℕ) →
+    drop (length v - length (text_of R (parameter_with k v))) v ≡ text_of R (parameter_with k v)
+unfolding text_of meaning_in
+text_ends R k v = text_last (kind_of R k) v
 
-module _ (R : Rules) (o : List ℕ) (k start n : ℕ) (h : start + n ≤ length o) where
-  part_length_lem : length (take n (drop start o)) ≡ n
-  part_length_lem = length-take-le n (drop start o) (omega (arith, length-drop start o))
+module _ (R : Rules) (o : List ℕ) (f : Found) (h : f.start + f.length ≤ length o) where
+  pub contents_long : length (take f.length (drop f.start o)) ≡ f.length
+  contents_long = length-take-le f.length (drop f.start o) (omega (arith, length-drop f.start o))
 
-  pub text_length : length (text_of R (standing o k start n)) ≡ text_part (kind_of R k) n
+  -- a text lies within the contents
+  pub text_short : length (text_of R (stands o f)) ≤ f.length
   unfolding text_of meaning_in
-  text_length =
-      text_part_lem (kind_of R k) (take n (drop start o)) ∙ ap (λ (x : ℕ). text_part (kind_of R k) x) part_length_lem
-
-  -- where a text stands, and that it lies within the contents
-  pub text_short : length (text_of R (standing o k start n)) ≤ n
-  unfolding text_of meaning_in
-  text_short = omega (arith, short (kind_of R k) (take n (drop start o)), part_length_lem)
-
-  pub text_stands : take (length (text_of R (standing o k start n)))
-      (drop (start + n - length (text_of R (standing o k start n))) o) ≡
-      text_of R (standing o k start n)
-  unfolding text_of meaning_in
-  text_stands =
-      let l = length (text_of R (standing o k start n)) in
-      let a : start + n - l ≡ start + (n - l) = omega (arith, text_short) in
-      let b : l ≡ n - (n - l) = omega (arith, text_short) in
-      let c : n - l ≡ length (take n (drop start o)) - l = omega (arith, part_length_lem) in
-      ap₂ (λ (x y : ℕ). take x (drop y o)) b a
-      ∙ ap (take (n - (n - l))) (sym (drop-drop (n - l) start o))
-      ∙ sym (drop-take (n - l) n (drop start o) (omega arith))
-      ∙ ap (λ (x : ℕ). drop x (take n (drop start o))) c
-      ∙ text_last (kind_of R k) (take n (drop start o))
-
--- ---- the next turn of a loop
-module _ (R : Rules) (o : List ℕ) (turns at : ℕ) (h : 0 < turns) where
-  -- a text was found: it lies inside, and the other texts stand behind it
-  pub record TextHere (start n place : ℕ) : Type 0 where
-    pub lies : start + n ≤ length o
-    pub texts : texts_of R (parameters_from turns o at) ≡
-        take n (drop start o) ++ texts_of R (parameters_from (turns - 1) o place)
-
-  pub text_here : (start n place : ℕ) → text.At start n place ≡ text_at R o at → TextHere start n place
-  unfolding text_at text_from texts_of
-  text_here start n place e = go (parameter_at o at) refl e
-    where
-      go : (f : Option Found) → f ≡ parameter_at o at → text.At start n place ≡ text_from R o f → TextHere start n place
-      go (Some one) q e =
-          let i = found_inside o at (found_at one.kind one.start one.length) one.kind one.start one.length q refl in
-          let a : start ≡ one.start + one.length - length (text_of R (standing o one.kind one.start one.length)) = cc in
-          let b : n ≡ length (text_of R (standing o one.kind one.start one.length)) = cc in
-          let d : place ≡ one.start + one.length = cc in
-          record {
-            lies = omega (arith, text_short R o one.kind one.start one.length (omega arith));
-            texts =
-                ap (texts_of R) (one_here turns o at h one.kind one.start one.length q)
-                ∙ ap (λ (v : List ℕ). v ++ texts_of R (parameters_from (turns - 1) o (one.start + one.length)))
-                (sym (text_stands R o one.kind one.start one.length (omega arith)))
-                ∙ (λ i. take (sym b i) (drop (sym a i) o) ++ texts_of R (parameters_from (turns - 1) o (sym d i)));
-          }
-      go None q e = clash cc
-
-  pub text_none : text.End ≡ text_at R o at → parameters_from turns o at ≡ []
-  unfolding text_at text_from
-  text_none e = go (parameter_at o at) refl e
-    where
-      go : (f : Option Found) → f ≡ parameter_at o at → text.End ≡ text_from R o f → parameters_from turns o at ≡ []
-      go (Some one) q e = clash cc
-      go None q e = none_here turns o at h q
-
-  module _ (used : ℕ) where
-    -- an entry was found: the other entries stand behind it, and the texts so far are shorter than what they were
-    -- read from
-    pub record EntryHere (e : Entry) (n place : ℕ) : Type 0 where
-      pub entries : entries_of R used (parameters_from turns o at) ≡
-          e ∷ entries_of R (used + n) (parameters_from (turns - 1) o place)
-      pub behind : at + n ≤ place
-      pub lies : place ≤ length o
-
-    pub entry_here : (e : Entry) (n place : ℕ) → taken.Next e n place ≡ taken_at R o at used → EntryHere e n place
-    unfolding taken_at taken_from entries_of
-    entry_here e n place t = go (parameter_at o at) refl t
-      where
-        go : (f : Option Found) → f ≡ parameter_at o at → taken.Next e n place ≡ taken_from R o used f → EntryHere e n place
-        go (Some one) q t =
-            let a : entry_of R used (standing o one.kind one.start one.length) ≡ e = cc in
-            let b : length (text_of R (standing o one.kind one.start one.length)) ≡ n = cc in
-            let d : one.start + one.length ≡ place = cc in
-            let i = found_inside o at (found_at one.kind one.start one.length) one.kind one.start one.length q refl in
-            record {
-              entries =
-                  ap (entries_of R used) (one_here turns o at h one.kind one.start one.length q)
-                  ∙ (λ i. a i ∷ entries_of R (used + b i) (parameters_from (turns - 1) o (d i)));
-              behind = omega (arith, text_short R o one.kind one.start one.length (omega arith), found_behind o at one.kind one.start one.length q);
-              lies = omega arith;
-            }
-        go None q t = clash cc
-
-    -- its text ends where the parameter ends
-    pub entry-text : (e : Entry) (n place : ℕ) → taken.Next e n place ≡ taken_at R o at used →
-        text.At (place - n) n place ≡ text_at R o at
-    unfolding taken_at taken_from text_at text_from
-    entry-text e n place t = go (parameter_at o at) refl t
-      where
-        go : (f : Option Found) → f ≡ parameter_at o at → taken.Next e n place ≡ taken_from R o used f →
-            text.At (place - n) n place ≡ text_from R o f
-        go (Some one) q t =
-            let b : n ≡ length (text_of R (standing o one.kind one.start one.length)) = cc in
-            let d : place ≡ one.start + one.length = cc in
-            λ i. text.At (d i - b i) (b i) (d i)
-        go None q t = clash cc
-
-    pub entry_none : taken.End ≡ taken_at R o at used → parameters_from turns o at ≡ []
-    unfolding taken_at taken_from
-    entry_none e = go (parameter_at o at) refl e
-      where
-        go : (f : Option Found) → f ≡ parameter_at o at → taken.End ≡ taken_from R o used f → parameters_from turns o at ≡ []
-        go (Some one) q e = clash cc
-        go None q e = none_here turns o at h q
+  text_short = omega (arith, short (kind_of R f.kind) (take f.length (drop f.start o)), contents_long)
 
 -- ---- texts are no longer than what they are read from
 pub texts_within : (R : Rules) (turns : ℕ) (o : List ℕ) (at : ℕ) →
@@ -208,9 +82,9 @@ texts_within R (suc turns) o at = go (texts_within R turns o) (parameter_at o at
           arith,
           ih (one.start + one.length),
           found_behind o at one.kind one.start one.length q,
-          text_short R o one.kind one.start one.length (omega arith),
+          text_short R o one (omega arith),
           length-append
-              (text_of R (standing o one.kind one.start one.length)) (texts_of R (parameters_from turns o (one.start + one.length))),
+              (text_of R (stands o one)) (texts_of R (parameters_from turns o (one.start + one.length))),
         )
     go ih None q = omega arith
 
@@ -232,32 +106,6 @@ pub size_within : (R : Rules) (o : List ℕ) → text_size R o ≤ length o
 unfolding text_size parameters_in
 size_within R o = omega (arith, texts_within R most o 2)
 
--- the texts of those that a walk finds, summed up
-abbrev pub text_in_found : Rules → Found → ℕ
-text_in_found R f = text_part (kind_of R f.kind) f.length
-
-pub texts_sum : (R : Rules) (o : List ℕ) (turns at : ℕ) →
-    sum_by (text_in_found R) (founds_from turns o at) ≡ length (texts_of R (parameters_from turns o at))
-unfolding founds_from found_then parameters_from message.found texts_of
-texts_sum R o zero at = refl
-texts_sum R o (suc turns) at = go (texts_sum R o turns) (parameter_at o at) refl
-  where
-    go : ((p : ℕ) → sum_by (text_in_found R) (founds_from turns o p) ≡ length (texts_of R (parameters_from turns o p))) →
-        (x : Option Found) → x ≡ parameter_at o at →
-        sum_by (text_in_found R) (found_then x (founds_from turns o)) ≡
-        length (texts_of R (message.found o x (parameters_from turns o)))
-    go ih None e = refl
-    go ih (Some f) e =
-        omega (
-          arith,
-          sum_by-cons (text_in_found R) f (founds_from turns o (f.start + f.length)),
-          ih (f.start + f.length),
-          text_length R o f.kind f.start f.length
-              (omega (arith, found_inside o at _ f.kind f.start f.length e refl)),
-          length-append (text_of R (standing o f.kind f.start f.length))
-              (texts_of R (parameters_from turns o (f.start + f.length))),
-        )
-
 -- the text that a value tells of is that of what it means
 value_text : (used : ℕ) (m : Meaning) → text_long (value_at used m) ≡ length (text_in m)
 unfolding text_long value_at text_in
@@ -270,37 +118,52 @@ value_text used (moment_is a b c d e) = refl
 value_text used (duration_is a b c) = refl
 value_text used (marked_is x v) = refl
 
--- ---- what was found, from its parts
-module _ (R : Rules) (o : List ℕ) (at : ℕ) (f : Option Found) (e : f ≡ parameter_at o at) where
-  module _ (k start l n : ℕ) (p : f ≡ found_at k start l) (g : Form) (m : g ≡ kind_of R k)
-      (q : n ≡ text_part g l) where
-    size : n ≡ length (text_of R (standing o k start l))
-    size =
-        q ∙ ap (λ (x : Form). text_part x l) m
-        ∙ sym (text_length R o k start l (omega (arith, found_inside o at f k start l e p)))
+pub entry_text : (R : Rules) (used : ℕ) (p : Parameter) → text_long (entry_of R used p).value ≡ length (text_of R p)
+unfolding entry_of text_of
+entry_text R used p = value_text used (meaning_in R p)
 
-    pub text_within : n ≤ l
-    text_within = omega (arith, size, text_short R o k start l (omega (arith, found_inside o at f k start l e p)))
+-- the entry of a parameter found, by its contents, and how long its text is
+module _ (R : Rules) (o : List ℕ) (f : Found) (used : ℕ) (v : List ℕ) (p : v ≡ take f.length (drop f.start o))
+    (e : Entry) (q : e ≡ entry_of R used (parameter_with f.kind v)) where
+  pub entry_found : e ≡ entry_of R used (stands o f)
+  entry_found = q ∙ ap (λ (u : List ℕ). entry_of R used (parameter_with f.kind u)) p
 
-    pub text_found : text.At (start + l - n) n (start + l) ≡ text_at R o at
-    unfolding text_at text_from
-    text_found = ap (λ (x : ℕ). text.At (start + l - x) x (start + l)) size ∙ ap (text_from R o) (sym p ∙ e)
+  pub entry_long : (n : ℕ) → n ≡ text_long e.value → n ≡ length (text_of R (stands o f))
+  entry_long n t = t ∙ ap (λ (x : Entry). text_long x.value) entry_found ∙ entry_text R used (stands o f)
 
-  pub entry_found : (k start l : ℕ) → f ≡ found_at k start l → (n used : ℕ) (v : Value) (g : Form) →
-      n ≡ text_long v → g ≡ kind_of R k → v ≡ value_at used (meant g (take (start + l - start) (drop start o))) →
-      taken.Next (record { kind = k; value = v }) n (start + l) ≡ taken_at R o at used
-  unfolding taken_at taken_from entry_of meaning_in text_of
-  entry_found k start l p n used v g q a d =
-      let z : v ≡ value_at used (meant (kind_of R k) (take l (drop start o))) =
-      d ∙ ap₂ (λ (x : Form) (y : List ℕ). value_at used (meant x y)) a (part_is o start l) in
-      let t : n ≡ length (text_in (meant (kind_of R k) (take l (drop start o)))) =
-      q ∙ ap text_long z ∙ value_text used (meant (kind_of R k) (take l (drop start o))) in
-      (λ i. taken.Next (record { kind = k; value = z i }) (t i) (start + l)) ∙ ap (taken_from R o used) (sym p ∙ e)
+  -- its text ends where they end
+  pub entry_last : (n : ℕ) → n ≡ text_long e.value →
+      take (length v - (length v - n)) (drop (length v - n) v) ≡ text_of R (stands o f)
+  entry_last n t =
+      let same = t ∙ ap (λ (x : Entry). text_long x.value) q ∙ entry_text R used (parameter_with f.kind v) in
+      rest_whole (length v - n) v
+      ∙ ap (λ (k : ℕ). drop (length v - k) v) same
+      ∙ text_ends R f.kind v
+      ∙ ap (λ (u : List ℕ). text_of R (parameter_with f.kind u)) p
 
-  pub text_ended : f ≡ None → text.End ≡ text_at R o at
-  unfolding text_at text_from
-  text_ended p = ap (text_from R o) (sym p ∙ e)
+-- ---- the parameters that a walk finds
+unfoldable pub stood : List ℕ → List Found → List Parameter
+stood o [] = []
+stood o (f ∷ fs) = stands o f ∷ stood o fs
 
-  pub entry_ended : (used : ℕ) → f ≡ None → taken.End ≡ taken_at R o at used
-  unfolding taken_at taken_from
-  entry_ended used p = ap (taken_from R o used) (sym p ∙ e)
+-- they lie within the octets
+unfoldable pub Lie : List ℕ → List Found → Type 0
+Lie o [] = Unit {0}
+Lie o (f ∷ fs) = (f.start + f.length ≤ length o) × Lie o fs
+
+pub founds_stand : (turns : ℕ) (o : List ℕ) (at : ℕ) →
+    (stood o (founds_from turns o at) ≡ parameters_from turns o at) × Lie o (founds_from turns o at)
+unfolding stood Lie founds_from found_then parameters_from message.found
+founds_stand zero o at = (refl, tt)
+founds_stand (suc turns) o at = go (founds_stand turns o) (parameter_at o at) refl
+  where
+    go : ((p : ℕ) → (stood o (founds_from turns o p) ≡ parameters_from turns o p) × Lie o (founds_from turns o p)) →
+        (x : Option Found) → x ≡ parameter_at o at →
+        (stood o (found_then x (founds_from turns o)) ≡ message.found o x (parameters_from turns o)) ×
+        Lie o (found_then x (founds_from turns o))
+    go ih None e = (refl, tt)
+    go ih (Some f) e =
+        let behind = ih (f.start + f.length) in (
+          ap (λ (ps : List Parameter). stands o f ∷ ps) behind.0,
+          (omega (arith, found_inside o at _ f.kind f.start f.length e refl), behind.1),
+        )

@@ -1,20 +1,16 @@
 -- What a read answers, and what the text area then holds (document 01, Drafts; Numbers: 1 to 6, then 8, then 7, then
 -- 9; document 02, Q-11: 10).
 -- Assumes nothing.
-use Rattle.std.specs.Prelude.{ℕ, ◌+◌, ◌-◌, List, length, take, drop, Result, Ok, Err, Option, Some, None}
+use Rattle.std.specs.Prelude.{ℕ, ◌+◌, List, length, take, drop, Result, Ok, Err, Option, Some, None}
 use Rattle.rules.specs.Tests.{◌≤?◌, pick}
 use Rattle.rules.specs.Table.{Rules, rules_of}
 use Rattle.rules.specs.Editions.{known, book_of}
 use Rattle.rules.specs.Message.{Parameter}
-use Rattle.rules.specs.declared.Form.{Form}
-use Rattle.rules.specs.declared.Form.TheVariants.{DateValue, CodeValue, StateValue, TextValue, CarriedValue, MomentValue, DurationValue, MarkedValue}
 use Rattle.rules.specs.declared.Fault.{Fault}
 use Rattle.message.specs.Verdict.{verdict_of}
 use Rattle.message.specs.Parts.{parameter_at}
 use Rattle.message.specs.Parameters.{parameters_in, message_in}
 use Rattle.message.specs.declared.Found.{Found}
-use Rattle.draft.specs.declared.Value.{Value}
-use Rattle.draft.specs.declared.Value.TheVariants as value
 use Rattle.draft.specs.declared.Draft.{Draft}
 use Rattle.draft.specs.Draft.{empty_of}
 use Rattle.rules.specs.Laying.{laid}
@@ -22,9 +18,6 @@ use Rattle.rules.specs.Refusals.{noted}
 use Rattle.draft.specs.Packing.{entry_of, text_of, texts_of, draft_of}
 use Rattle.reader.specs.declared.Reading.{Reading}
 use Rattle.reader.specs.declared.Taken.{Taken}
-use Rattle.reader.specs.declared.Taken.TheVariants as taken
-use Rattle.reader.specs.declared.Text.{Text}
-use Rattle.reader.specs.declared.Text.TheVariants as text
 
 -- ---- the whole read
 -- the octets that the texts of all parameters take
@@ -79,48 +72,26 @@ unfoldable pub area_in : ℕ → ℕ → List ℕ → List ℕ → List ℕ
 area_in e w o old = pick (known e w) (area_after (rules_of (book_of e w)) o old) old
 
 -- ---- parameter by parameter
--- the parameter of a type whose contents stand at a place
+-- a parameter of a type with its contents; the one whose contents stand at a place; and one found
+abbrev pub parameter_with : ℕ → List ℕ → Parameter
+parameter_with k v = record { kind = k; contents = v }
+
 abbrev pub standing : List ℕ → ℕ → ℕ → ℕ → Parameter
-standing o k start n = record { kind = k; contents = take n (drop start o) }
+standing o k start n = parameter_with k (take n (drop start o))
+
+abbrev pub stands : List ℕ → Found → Parameter
+stands o f = standing o f.kind f.start f.length
 
 -- the entry of the parameter at a place, its text to be packed at another; how long its text is; the place behind the
 -- parameter
-unfoldable pub taken_from : Rules → List ℕ → ℕ → Option Found → Taken
+unfoldable pub taken_from : Rules → List ℕ → ℕ → Option Found → Option Taken
 taken_from R o used (Some one) =
-    taken.Next (entry_of R used (standing o one.kind one.start one.length)) (length (text_of R (standing o one.kind one.start one.length))) (one.start + one.length)
-taken_from R o used None = taken.End
+    Some (record {
+      entry = entry_of R used (stands o one);
+      text = length (text_of R (stands o one));
+      place = one.start + one.length;
+    })
+taken_from R o used None = None
 
-unfoldable pub taken_at : Rules → List ℕ → ℕ → ℕ → Taken
+unfoldable pub taken_at : Rules → List ℕ → ℕ → ℕ → Option Taken
 taken_at R o at used = taken_from R o used (parameter_at o at)
-
--- where the text of the parameter at a place stands, and the place behind the parameter, where the text ends
-unfoldable pub text_from : Rules → List ℕ → Option Found → Text
-text_from R o (Some one) =
-    let l = length (text_of R (standing o one.kind one.start one.length)) in text.At (one.start + one.length - l) l (one.start + one.length)
-text_from R o None = text.End
-
-unfoldable pub text_at : Rules → List ℕ → ℕ → Text
-text_at R o at = text_from R o (parameter_at o at)
-
--- how long the text of a value is
-unfoldable pub text_long : Value → ℕ
-text_long (value.Date m d h n) = 0
-text_long (value.Code x) = 0
-text_long (value.State s r) = 0
-text_long (value.Text start n) = n
-text_long (value.Carried start n) = n
-text_long (value.Moment m d h n s) = 0
-text_long (value.Duration h m s) = 0
-text_long (value.Marked x start n) = n
-
--- how long the text of a value of this kind is that n octets of contents say: it is all of them, those behind the first
--- (document 02, Q-4), or there is none
-unfoldable pub text_part : Form → ℕ → ℕ
-text_part DateValue n = 0
-text_part CodeValue n = 0
-text_part StateValue n = 0
-text_part TextValue n = n
-text_part CarriedValue n = n
-text_part MomentValue n = 0
-text_part DurationValue n = 0
-text_part MarkedValue n = n - 1

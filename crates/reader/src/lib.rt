@@ -2,21 +2,21 @@
 // area. Nothing is written before the verdict is known.
 #![tactic(auto)]
 
-ghost use Rattle.std.specs.Prelude.{◌≡◌, ◌+◌, ◌-◌, ◌≤◌, length, take, drop, length as long};
+ghost use Rattle.std.specs.Prelude.{ℕ, ◌≡◌, ◌+◌, ◌*◌, ◌≤◌, ◌<◌, length, take, drop, slice_index};
 ghost use Rattle.rules.specs.Table.{rules_of};
 ghost use Rattle.rules.specs.Editions.{strict};
-ghost use Rattle.rules.specs.declared.Form.TheVariants as form;
 ghost use Rattle.message.specs.Parameters.{parameters_in, message_in};
-ghost use Rattle.draft.specs.Meaning.{kind_of, number_of, digits_at, seconds_of, meant};
+ghost use Rattle.draft.specs.Meaning.{kind_of, number_of, digits_at, seconds_of, meant, text_in};
 ghost use Rattle.rules.specs.Laying.{laid, laid_at};
-ghost use Rattle.draft.specs.Packing.{value_at, draft_of, texts_of};
-ghost use Rattle.reader.specs.Read.{text_part, text_long, text_size, text_at, taken_at, room_for, fitting_of, pack_of, area_after, read_of, read_in, area_in};
+ghost use Rattle.draft.specs.Packing.{value_at, entry_of, text_of, draft_of, texts_of};
+ghost use Rattle.reader.specs.Read.{parameter_with, stands, text_size, taken_at, room_for, fitting_of, pack_of, area_after, read_of, read_in, area_in};
 
 use draft::{Draft, Entry, Value};
 use message::{Found, Parameters};
 use rules::{Book, Fault, Form, MOST};
 
-// What a read answers, and the edition that it names, which is the draft's; with a refusal the draft is the empty one.
+// What a read answers, and the edition that it names, which is the draft's. Not a `Result` with the draft in it, nor a
+// `Named`: with a refusal too a draft is promised, the empty one of that edition (`Reads.refused`).
 #[derive(Clone, Copy)]
 pub struct Reading {
     pub edition: u8,
@@ -26,27 +26,14 @@ pub struct Reading {
 
 // The entry of a parameter, how long its text is, and the place behind the parameter.
 #[derive(Clone, Copy)]
-pub enum Taken {
-    Next {
-        entry: Entry,
-        text: usize,
-        place: usize,
-    },
-    End,
-}
-
-// Where the text of a parameter stands, 0 octets long where it has none, and the place behind the parameter.
-#[derive(Clone, Copy)]
-enum Text {
-    At {
-        start: usize,
-        length: usize,
-        place: usize,
-    },
-    End,
+pub struct Taken {
+    pub entry: Entry,
+    pub text: usize,
+    pub place: usize,
 }
 
 // The number of two digits.
+#[tactic(auto, unfolding(draft::specs::Meaning::number_of))]
 fn number_of(a: u8, b: u8) -> u8
     ensures { result ≡ number_of a b }
 {
@@ -60,31 +47,12 @@ fn pair_at(contents: &[u8], i: usize) -> u8
     number_of(message::octet(contents, i), message::octet(contents, i + 1))
 }
 
-fn date_of(contents: &[u8]) -> Value
-    ensures { result ≡ value_at 0 (meant form.DateValue contents.now) }
+// The first numbers of two digits.
+fn pairs<const N: usize>(contents: &[u8]) -> [u8; N]
+    requires { N ≤ 4 }
+    ensures { (i : ℕ) → i < N → slice_index result i ≡ digits_at contents.now (2 * i) }
 {
-    let month = pair_at(contents, 0);
-    let day = pair_at(contents, 2);
-    let hour = pair_at(contents, 4);
-    let minute = pair_at(contents, 6);
-    Value::Date {
-        month,
-        day,
-        hour,
-        minute,
-    }
-}
-
-fn state_of(contents: &[u8]) -> Value
-    ensures { result ≡ value_at 0 (meant form.StateValue contents.now) }
-{
-    let state = message::octet(contents, 0);
-    let high = message::octet(contents, 1);
-    let low = message::octet(contents, 2);
-    Value::State {
-        state,
-        reference: rules::reference_of(high, low),
-    }
+    std::array::from_fn(|i| pair_at(contents, 2 * i))
 }
 
 // The seconds behind a date, and one more; 0 where none were sent (document 02, Q-4).
@@ -98,63 +66,26 @@ fn seconds_of(contents: &[u8]) -> u8
     }
 }
 
-fn moment_of(contents: &[u8]) -> Value
-    ensures { result ≡ value_at 0 (meant form.MomentValue contents.now) }
-{
-    let month = pair_at(contents, 0);
-    let day = pair_at(contents, 2);
-    let hour = pair_at(contents, 4);
-    let minute = pair_at(contents, 6);
-    let second = seconds_of(contents);
-    Value::Moment {
-        month,
-        day,
-        hour,
-        minute,
-        second,
-    }
-}
-
-fn duration_of(contents: &[u8]) -> Value
-    ensures { result ≡ value_at 0 (meant form.DurationValue contents.now) }
-{
-    let hours = pair_at(contents, 0);
-    let minutes = pair_at(contents, 2);
-    let seconds = pair_at(contents, 4);
-    Value::Duration {
-        hours,
-        minutes,
-        seconds,
-    }
-}
-
-// How many octets stand behind the first of so many.
-fn behind_first(length: usize) -> usize
-    ensures { result ≡ length - 1 }
-{
-    if length == 0 { 0 } else { length - 1 }
-}
-
-fn marked_of(contents: &[u8], at: usize) -> Value
-    ensures { result ≡ value_at at (meant form.MarkedValue contents.now) }
-{
-    let mark = message::octet(contents, 0);
-    let length = behind_first(contents.len());
-    Value::Marked {
-        mark,
-        start: at,
-        length,
-    }
-}
-
 // The value that contents say, its text to be packed at a place.
+#[tactic(auto, unfolding(draft::specs::Packing::value_at, draft::specs::Meaning::meant))]
 fn value_of(kind: Form, contents: &[u8], at: usize) -> Value
     ensures { result ≡ value_at at (meant kind contents.now) }
 {
     match kind {
-        Form::DateValue => date_of(contents),
+        Form::DateValue => {
+            let [month, day, hour, minute] = pairs::<4>(contents);
+            Value::Date {
+                month,
+                day,
+                hour,
+                minute,
+            }
+        }
         Form::CodeValue => Value::Code(message::octet(contents, 0)),
-        Form::StateValue => state_of(contents),
+        Form::StateValue => Value::State {
+            state: message::octet(contents, 0),
+            reference: rules::reference_of(message::octet(contents, 1), message::octet(contents, 2)),
+        },
         Form::TextValue => Value::Text {
             start: at,
             length: contents.len(),
@@ -163,26 +94,29 @@ fn value_of(kind: Form, contents: &[u8], at: usize) -> Value
             start: at,
             length: contents.len(),
         },
-        Form::MomentValue => moment_of(contents),
-        Form::DurationValue => duration_of(contents),
-        Form::MarkedValue => marked_of(contents, at),
-    }
-}
-
-// How long the text of a value is that so many octets of contents say: it is all of them, those behind the first, or
-// there is none.
-fn text_part(kind: Form, length: usize) -> usize
-    ensures { result ≡ text_part kind length }
-{
-    match kind {
-        Form::DateValue => 0,
-        Form::CodeValue => 0,
-        Form::StateValue => 0,
-        Form::TextValue => length,
-        Form::CarriedValue => length,
-        Form::MomentValue => 0,
-        Form::DurationValue => 0,
-        Form::MarkedValue => behind_first(length),
+        Form::MomentValue => {
+            let [month, day, hour, minute] = pairs::<4>(contents);
+            Value::Moment {
+                month,
+                day,
+                hour,
+                minute,
+                second: seconds_of(contents),
+            }
+        }
+        Form::DurationValue => {
+            let [hours, minutes, seconds] = pairs::<3>(contents);
+            Value::Duration {
+                hours,
+                minutes,
+                seconds,
+            }
+        }
+        Form::MarkedValue => Value::Marked {
+            mark: message::octet(contents, 0),
+            start: at,
+            length: contents.len().saturating_sub(1),
+        },
     }
 }
 
@@ -193,29 +127,37 @@ fn form_at(book: Book, kind: u8) -> Form
     rules::form_of(rules::class_of(book, kind))
 }
 
-// A parameter's text ends where its contents end.
-fn text_at(book: Book, octets: &[u8], at: usize) -> Text
-    ensures { result ≡ text_at (rules_of book) octets.now at }
+// The contents of a parameter found.
+fn contents_of(octets: &[u8], found: Found) -> &[u8]
+    requires { found.start + found.length ≤ length octets.now }
+    ensures { result.now ≡ take found.length (drop found.start octets.now) }
 {
-    let found = message::parameter(octets, at);
-    match found {
-        Some(
-            Found {
-                kind,
-                start,
-                length,
-            },
-        ) => {
-            let place = start + length as usize;
-            let text = text_part(form_at(book, kind), length as usize);
-            Text::At {
-                start: place - text,
-                length: text,
-                place,
-            }
-        }
-        None => Text::End,
+    let end = found.start + found.length as usize;
+    &octets[found.start..end]
+}
+
+// The text that contents of a kind say: all of them, those behind the first, or none.
+#[tactic(auto, unfolding(draft::specs::Meaning::text_in, draft::specs::Meaning::meant))]
+fn text_part(kind: Form, contents: &[u8]) -> &[u8]
+    ensures { result.now ≡ text_in (meant kind contents.now) }
+{
+    match kind {
+        Form::TextValue | Form::CarriedValue => contents,
+        Form::MarkedValue => match contents {
+            [_, behind @ ..] => behind,
+            [] => contents,
+        },
+        _ => &[],
     }
+}
+
+// The text of a parameter found.
+#[tactic(auto, unfolding(draft::specs::Packing::text_of, draft::specs::Packing::meaning_in))]
+fn text_of(book: Book, octets: &[u8], found: Found) -> &[u8]
+    requires { found.start + found.length ≤ length octets.now }
+    ensures { result.now ≡ text_of (rules_of book) (stands octets.now found) }
+{
+    text_part(form_at(book, found.kind), contents_of(octets, found))
 }
 
 // The text octets of all parameters: repeats, those that do not count, carried contents too.
@@ -224,19 +166,18 @@ fn text_size(book: Book, octets: &[u8]) -> usize
 {
     let mut size: usize = 0;
     for found in Parameters::new(octets, MOST) {
-        size += text_part(form_at(book, found.kind), found.length as usize);
+        size += text_of(book, octets, found).len();
     }
     size
 }
 
-// A text of the octets, laid down at a place of the area.
-fn lay_text(octets: &[u8], start: usize, length: usize, area: &mut [u8], at: usize)
-    requires { (start + length ≤ long octets.now) × (at + length ≤ long area.old) }
-    ensures { area.new ≡ laid_at (take length (drop start octets.now)) at area.old }
+// Octets laid down at a place of the area.
+fn lay_text(text: &[u8], area: &mut [u8], at: usize)
+    requires { at + length text.now ≤ length area.old }
+    ensures { area.new ≡ laid_at text.now at area.old }
 {
-    let end = start + length;
-    let past = at + length;
-    area[at..past].copy_from_slice(&octets[start..end]);
+    let end = at + text.len();
+    area[at..end].copy_from_slice(text);
 }
 
 // Each text behind the one before it, from octet 0 of the area on; how many octets they take.
@@ -245,24 +186,11 @@ fn lay_texts(book: Book, octets: &[u8], area: &mut [u8]) -> usize
     ensures size { result ≡ text_size (rules_of book) octets.now }
     ensures area { area.new ≡ laid (texts_of (rules_of book) (parameters_in octets.now)) area.old }
 {
-    let mut at: usize = 2;
     let mut used: usize = 0;
-    for count in 0..MOST {
-        let text = text_at(book, octets, at);
-        match text {
-            Text::At {
-                start,
-                length,
-                place,
-            } => {
-                lay_text(octets, start, length, area, used);
-                used += length;
-                at = place;
-            }
-            Text::End => {
-                return used;
-            }
-        }
+    for found in Parameters::new(octets, MOST) {
+        let text = text_of(book, octets, found);
+        lay_text(text, area, used);
+        used += text.len();
     }
     used
 }
@@ -303,103 +231,43 @@ pub fn pack(book: Book, octets: &[u8], area: &mut [u8]) -> Result<u16, Fault>
     Ok(size as u16)
 }
 
-// How long the text of a value is.
-fn text_long(v: Value) -> usize
-    ensures { result ≡ text_long v }
+// The entry of a parameter, by its type and its contents, its text to be packed at a place of the area.
+#[tactic(auto, unfolding(draft::specs::Packing::entry_of, draft::specs::Packing::meaning_in))]
+pub fn entry_of(book: Book, kind: u8, contents: &[u8], used: usize) -> Entry
+    ensures { result ≡ entry_of (rules_of book) used (parameter_with kind contents.now) }
 {
-    match v {
-        Value::Date {
-            month: _,
-            day: _,
-            hour: _,
-            minute: _,
-        } => 0,
-        Value::Code(_) => 0,
-        Value::State {
-            state: _,
-            reference: _,
-        } => 0,
-        Value::Text { start: _, length } => length,
-        Value::Carried { start: _, length } => length,
-        Value::Moment {
-            month: _,
-            day: _,
-            hour: _,
-            minute: _,
-            second: _,
-        } => 0,
-        Value::Duration {
-            hours: _,
-            minutes: _,
-            seconds: _,
-        } => 0,
-        Value::Marked {
-            mark: _,
-            start: _,
-            length,
-        } => length,
+    Entry {
+        kind,
+        value: value_of(form_at(book, kind), contents, used),
     }
 }
 
 // The entry of the parameter at a place of a message, its text to be packed at a place of the area.
-pub fn entry(book: Book, octets: &[u8], at: usize, used: usize) -> Taken
+pub fn entry(book: Book, octets: &[u8], at: usize, used: usize) -> Option<Taken>
     ensures { result ≡ taken_at (rules_of book) octets.now at used }
 {
-    let found = message::parameter(octets, at);
-    match found {
-        Some(
-            Found {
-                kind,
-                start,
-                length,
-            },
-        ) => {
-            let place = start + length as usize;
-            let value = value_of(form_at(book, kind), &octets[start..place], used);
-            Taken::Next {
-                entry: Entry { kind, value },
-                text: text_long(value),
-                place,
-            }
-        }
-        None => Taken::End,
-    }
+    let found = message::parameter(octets, at)?;
+    let entry = entry_of(book, found.kind, contents_of(octets, found), used);
+    Some(Taken {
+        entry,
+        text: draft::text_length(entry.value),
+        place: found.start + found.length as usize,
+    })
 }
 
 // An entry for each parameter; the other places are not used.
 fn draft_of(book: Book, octets: &[u8]) -> Draft
     ensures { result ≡ draft_of (rules_of book) (message_in octets.now) }
 {
-    let none = draft::no_entry();
-    let mut entries = [none; MOST];
-    let kind = message::octet(octets, 0);
-    let edition = rules::edition_of(book);
-    let mut at: usize = 2;
+    let mut draft = draft::empty(rules::edition_of(book), message::octet(octets, 0));
     let mut used: usize = 0;
-    for count in 0..MOST {
-        let taken = entry(book, octets, at, used);
-        match taken {
-            Taken::Next { entry, text, place } => {
-                entries[count] = entry;
-                used += text;
-                at = place;
-            }
-            Taken::End => {
-                return Draft {
-                    kind,
-                    edition,
-                    count,
-                    entries,
-                };
-            }
-        }
+    for found in Parameters::new(octets, MOST) {
+        let entry = entry_of(book, found.kind, contents_of(octets, found), used);
+        draft.entries[draft.count] = entry;
+        draft.count += 1;
+        used += draft::text_length(entry.value);
     }
-    Draft {
-        kind,
-        edition,
-        count: MOST,
-        entries,
-    }
+    draft
 }
 
 // A whole read by a book: the draft of the message, or one of 1 to 10 with its place.
@@ -409,17 +277,11 @@ fn read_by(book: Book, octets: &[u8], area: &mut [u8]) -> Reading
 {
     let edition = rules::edition_of(book);
     let answer = pack(book, octets, area);
-    match answer {
-        Ok(_) => Reading {
-            edition,
-            answer,
-            draft: draft_of(book, octets),
-        },
-        Err(_) => Reading {
-            edition,
-            answer,
-            draft: draft::empty(edition, 0),
-        },
+    let draft = if answer.is_ok() { draft_of(book, octets) } else { draft::empty(edition, 0) };
+    Reading {
+        edition,
+        answer,
+        draft,
     }
 }
 

@@ -3,10 +3,11 @@
 use Rattle.std.proofs.Common.{◌≡◌, ℕ, ◌+◌, ◌-◌, ◌<◌, ◌≤◌, List, ◌++◌, length, take, drop, sym, ap, ◌∙◌, ap₂, arith, length-take-le}
 use Rattle.rules.specs.Message.{most}
 use Rattle.rules.specs.Tests.{◌≤?◌, pick}
-use Rattle.rules.specs.Table.{Rules, class_of, form_of}
+use Rattle.rules.specs.Table.{Rules, class_of, form_of, form_number}
 use Rattle.rules.specs.declared.Class.{Class}
-use Rattle.draft.specs.Meaning.{form_number}
 use Rattle.draft.specs.Draft.{used}
+use Rattle.rules.specs.declared.Form.{Form}
+use Rattle.draft.proofs.Meaning.{same_form}
 use Rattle.draft.specs.Same.{flat_of}
 use Rattle.draft.specs.declared.Flat.{Flat}
 use Rattle.draft.specs.declared.Entry.{Entry}
@@ -30,15 +31,15 @@ entries_went R d texts room m l h e q g =
     g ∙ ap (λ (m : Measure). on_measure m room) (sym q ∙ e) ∙ measured_is R d texts room (used_count d l h)
 
 -- ---- an entry, by the class of its type and its value laid flat
-module _ (R : Rules) (texts : List ℕ) (e : Entry) (o : e.kind < 256) (c : Class) (f : Flat) (k : ℕ)
-    (p : c ≡ class_of R e.kind) (q : f ≡ flat_of e.value) (s : k ≡ form_number (form_of c)) where
-  same_form : f.form ≡ k → (flat_of e.value).form ≡ form_number (form_of (class_of R e.kind))
-  same_form h = ap (λ (f : Flat). f.form) (sym q) ∙ h ∙ s ∙ ap (λ (c : Class). form_number (form_of c)) p
+module _ (R : Rules) (texts : List ℕ) (e : Entry) (o : e.kind < 256) (c : Class) (f : Flat) (k : Form)
+    (p : c ≡ class_of R e.kind) (q : f ≡ flat_of e.value) (s : k ≡ form_of c) where
+  number_same : f.form ≡ k → form_number (flat_of e.value).form ≡ form_number (form_of (class_of R e.kind))
+  number_same h = ap form_number (ap (λ (f : Flat). f.form) (sym q) ∙ h ∙ s ∙ ap form_of p)
 
   pub entry_none : (f.form ≡ k → ⊥) → 0 ≡ takes_of R texts e
   entry_none n =
       takes_none R texts e o
-      (λ h. n (ap (λ (f : Flat). f.form) q ∙ h ∙ ap (λ (c : Class). form_number (form_of c)) (sym p) ∙ sym s))
+      (λ h. n (ap (λ (f : Flat). f.form) q ∙ same_form _ _ h ∙ ap form_of (sym p) ∙ sym s))
 
   pub entry_value : (r : ℕ) → f.form ≡ k →
       r ≡ pick (f.start + f.length ≤? length texts)
@@ -47,7 +48,7 @@ module _ (R : Rules) (texts : List ℕ) (e : Entry) (o : e.kind < 256) (c : Clas
   entry_value r h g =
       g ∙ ap₂ (λ (c : Class) (f : Flat). pick (f.start + f.length ≤? length texts)
       (fitting c (head_of e.value ++ take f.length (drop f.start texts))) 0) p q
-      ∙ takes_value R texts e o (same_form h)
+      ∙ takes_value R texts e o (number_same h)
 
 -- ---- an answer that is a message: what is asked before it is laid down
 pub layable : (R : Rules) (d : Draft) (texts : List ℕ) (room n : ℕ) (w : Written) → w ≡ write_of R d texts room →

@@ -3,10 +3,10 @@
 use Rattle.std.proofs.Common.{◌≡◌, ℕ, zero, suc, ◌+◌, ◌-◌, ◌<◌, ◌≤◌, Bool, true, false, T, ◌⊎◌, List, [], ◌∷◌, ◌++◌, length, take, drop, sym, refl, ap, ◌∙◌, subst, ap₂, inl, inr, arith, length-append, length-take-le}
 use Rattle.rules.specs.Tests.{◌≤?◌, ◌and◌, pick}
 use Rattle.rules.proofs.Tests.{decide, both, le_of, of_le, eq_of, of_eq, pick_yes, pick_not}
-use Rattle.rules.specs.Table.{Rules, class_of, form_of}
+use Rattle.rules.specs.Table.{Rules, class_of, form_of, form_number}
 use Rattle.rules.proofs.ContentLaw.{lawful}
 use Rattle.rules.specs.Message.{body}
-use Rattle.draft.specs.Meaning.{form_number, kind_of, form_is, tens, ones, seconds_said, spelled}
+use Rattle.draft.specs.Meaning.{kind_of, form_is, tens, ones, seconds_said, spelled}
 use Rattle.draft.specs.Draft.{meaning_of, inside, parameter_of, parameters_of, used}
 use Rattle.draft.specs.Same.{flat_of}
 use Rattle.draft.proofs.Alike.{inside_flat}
@@ -23,7 +23,7 @@ use Rattle.writer.specs.declared.Measure.TheVariants.{Bad, Size}
 use Rattle.writer.specs.Judging.{stamp_of, spelling_of, head_of, fitting, takes_of, measure_from}
 
 -- ---- a value's contents, by its flat form
-pub form_flat : (texts : List ℕ) (v : Value) → form_number (form_is (meaning_of texts v)) ≡ (flat_of v).form
+pub form_flat : (texts : List ℕ) (v : Value) → form_number (form_is (meaning_of texts v)) ≡ form_number (flat_of v).form
 unfolding form_number form_is meaning_of flat_of
 form_flat texts (Date m d h n) = refl
 form_flat texts (Code x) = refl
@@ -90,7 +90,7 @@ module _ (R : Rules) where
   -- ---- an entry
   module _ (texts : List ℕ) (e : Entry) (o : e.kind < 256) where
     -- its kind of value is its type's: the rest decides
-    module _ (f : (flat_of e.value).form ≡ form_number (form_of (class_of R e.kind))) where
+    module _ (f : form_number (flat_of e.value).form ≡ form_number (form_of (class_of R e.kind))) where
       chosen : (a b : Bool) (n : ℕ) → T a → T b → (i k : Bool) →
           pick i (pick k n 0) 0 ≡ pick (a and (b and (i and k))) n 0
       unfolding pick ◌and◌
@@ -113,7 +113,7 @@ module _ (R : Rules) where
           ap₂ (λ (b : Bool) (v : List ℕ). pick b (fitting (class_of R e.kind) v) 0)
           (sym (inside_flat texts e.value)) (contents_are texts e.value) ∙ takes_is
 
-    pub takes_none : ((flat_of e.value).form ≡ form_number (form_of (class_of R e.kind)) → ⊥) → 0 ≡ takes_of R texts e
+    pub takes_none : (form_number (flat_of e.value).form ≡ form_number (form_of (class_of R e.kind)) → ⊥) → 0 ≡ takes_of R texts e
     unfolding takes_of legal_entry kind_of
     takes_none n =
         sym (pick_not _ _ _ (λ t. n (sym (form_flat texts e.value) ∙ eq_of _ _ (both _ _ (both _ _ t).1).0)))

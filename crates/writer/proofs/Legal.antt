@@ -4,11 +4,10 @@ use Rattle.std.proofs.Common.{◌≡◌, ℕ, suc, ◌+◌, ◌<◌, ◌≤◌, 
 use native.Mathlib.Nat.{min-le_left}
 use Rattle.rules.specs.Tests.{◌≤?◌, ◌and◌, pick, every}
 use Rattle.rules.proofs.Tests.{decide, both, join, le_of, of_le, eq_of, of_eq, pick_yes, pick_not, picked_by, clash, not_zero}
-use Rattle.rules.specs.Table.{Rules}
+use Rattle.rules.specs.Table.{Rules, form_number}
 use Rattle.rules.proofs.ContentLaw.{SoundRules}
 use Rattle.rules.proofs.Sizes.{three_each}
 use Rattle.rules.specs.Message.{message_kind, AllLegal, LegalMessage, most}
-use Rattle.draft.specs.Meaning.{form_number}
 use Rattle.draft.proofs.Meaning.{same_form}
 use Rattle.draft.specs.Draft.{all_inside, parameter_of, parameters_of, used, message_of}
 use Rattle.draft.specs.declared.Entry.{Entry}

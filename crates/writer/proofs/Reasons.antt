@@ -4,11 +4,11 @@
 use Rattle.std.proofs.Common.{◌≡◌, ℕ, zero, suc, ◌+◌, ◌<◌, ◌≤◌, T, ◌⊎◌, ◌↔◌, List, [], ◌∷◌, get_or, take, sym, ap, ◌∙◌, subst, inl, inr, arith}
 use Rattle.rules.specs.Tests.{◌=?◌, pick}
 use Rattle.rules.proofs.Tests.{decide, both, le_of, of_le, eq_of, of_eq, pick_yes, pick_not, pick_case, not_zero}
-use Rattle.rules.specs.Table.{rules_of, row_in, row_of, class_of, form_of}
+use Rattle.rules.specs.Table.{rules_of, row_in, row_of, class_of, form_of, form_number}
 use Rattle.rules.specs.declared.Book.{Book}
 use Rattle.rules.specs.declared.Book.TheVariants.{PresentStrict, PresentLenient, OldStrict, OldLenient}
 use Rattle.rules.specs.Message.{message_kind, most}
-use Rattle.draft.specs.Meaning.{form_number, form_is, kind_of}
+use Rattle.draft.specs.Meaning.{form_is, kind_of}
 use Rattle.draft.specs.Draft.{no_entry, meaning_of, used}
 use Rattle.draft.specs.declared.Entry.{Entry}
 use Rattle.draft.specs.declared.Draft.{Draft}

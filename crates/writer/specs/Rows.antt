@@ -9,10 +9,10 @@ use Rattle.rules.specs.Contents.{within, in_set, digit, pair_fits, pairs_fit, sh
 use Rattle.rules.specs.Charge.{dash, comma, missing, units, run, amount, after, costs, charge_fits}
 use Rattle.rules.specs.Terminal.{terminal_fits}
 use Rattle.rules.specs.Extension.{blank, country_fits, extension_fits}
-use Rattle.rules.specs.Table.{ascii, rules_of, row_in, row_of, class_of, form_of, whole}
+use Rattle.rules.specs.Table.{ascii, rules_of, row_in, row_of, class_of, form_of, whole, form_number}
 use Rattle.rules.specs.Editions.{lenient, edition, known, book_of}
 use Rattle.rules.specs.Message.{body, octets, message_kind, most}
-use Rattle.draft.specs.Meaning.{form_number, kind_of, form_is, tens, ones, seconds_said, spelled}
+use Rattle.draft.specs.Meaning.{kind_of, form_is, tens, ones, seconds_said, spelled}
 use Rattle.draft.specs.Draft.{no_entry, meaning_of, inside, parameter_of, parameters_of, message_of}
 use Rattle.draft.specs.declared.Value.{Value}
 use Rattle.draft.specs.declared.Value.TheVariants.{Date, Code, State, Text, Carried, Moment, Duration, Marked}

@@ -2,10 +2,10 @@
 -- Assumes nothing.
 use Rattle.std.specs.Prelude.{ℕ, suc, ◌+◌, Bool, List, [], ◌∷◌, length}
 use Rattle.rules.specs.Tests.{◌≤?◌, ◌=?◌, ◌and◌, pick}
-use Rattle.rules.specs.Table.{Rules, rules_of, contents_fit, class_of}
+use Rattle.rules.specs.Table.{Rules, rules_of, contents_fit, class_of, form_number}
 use Rattle.rules.specs.Editions.{known, book_of}
 use Rattle.rules.specs.Message.{body, message_kind, most}
-use Rattle.draft.specs.Meaning.{form_number, kind_of, form_is, spelled}
+use Rattle.draft.specs.Meaning.{kind_of, form_is, spelled}
 use Rattle.draft.specs.Draft.{meaning_of, inside, parameters_of, used}
 use Rattle.rules.specs.Laying.{laid}
 use Rattle.rules.specs.Refusals.{noted}

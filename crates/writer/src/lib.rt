@@ -243,7 +243,7 @@ fn entry_length(book: Book, e: Entry, texts: &[u8]) -> u8
     let value = e.value;
     let class = rules::class_of(book, e.kind);
     let flat = draft::flatten(value);
-    if flat.form == draft::form_of(class) {
+    if flat.form == rules::form_of(class) {
         value_length(class, value, texts, flat.start, flat.length)
     } else {
         0

@@ -1,9 +1,8 @@
--- `reader::lay_text` meets its contract: the part is copied over one of the area that is as long, from its place on.
+-- `reader::lay_text` meets its contract: the octets are copied over a part of the area that is as long.
 -- Assumes nothing.
-use Rattle.reader.proofs.Copies.{put_part}
+use native.Mathlib.Omega.{arith}
+use Rattle.rules.proofs.Laying.{part_over}
 use Rattle.reader.proofs.lay_text.Goals as goal
 
 pub returns : goal.returns
-returns c =
-    put_part c.args.octets.now c.args.area.now _ c.args.start c.args.length c.args.at c.requires.0
-    c.copy_from_slice.ensures.after
+returns c = part_over c.args.text.now c.args.area.now _ c.args.at _ (omega arith) c.copy_from_slice.ensures.after

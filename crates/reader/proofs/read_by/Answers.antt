@@ -3,18 +3,12 @@
 use Rattle.reader.proofs.Laying.{reads_whole, reads_refused}
 use Rattle.reader.proofs.read_by.Goals as goal
 
-pub returns-in-Ok : goal.returns-in-Ok
-returns-in-Ok c =
-    record {
-      answer = reads_whole _ _ _ _ _ c.pack-answer.ensures.answer _ _ c.edition_of-edition.ensures c.in-Ok.is
-          c.draft_of.ensures;
-      area = c.pack-answer.ensures.area;
-    }
+pub returns-then-is_ok-clause-answer : goal.returns-then-is_ok-clause-answer
+returns-then-is_ok-clause-answer c =
+    reads_whole _ _ _ _ _ c.pack-answer.ensures.answer _ c.edition_of-edition.ensures c.if-is_ok.ensures.value
+    c.draft_of-draft.ensures
 
-pub returns-in-Err : goal.returns-in-Err
-returns-in-Err c =
-    record {
-      answer = reads_refused _ _ _ _ _ c.pack-answer.ensures.answer _ _ c.edition_of-edition.ensures c.in-Err.is
-          c.empty.ensures;
-      area = c.pack-answer.ensures.area;
-    }
+pub returns-else-is_ok-clause-answer : goal.returns-else-is_ok-clause-answer
+returns-else-is_ok-clause-answer c =
+    reads_refused _ _ _ _ _ c.pack-answer.ensures.answer _ c.edition_of-edition.ensures c.if-is_ok.ensures.value
+    c.empty-draft.ensures

@@ -12,7 +12,7 @@ use borrow.Author.Rules.{rules}
 use Rattle.firmware.proofs.drafts.lay_draft.Goals as goal
 
 pub lay_entries-filled-requires : goal.lay_entries-filled-requires
-lay_entries-filled-requires c = (c.clear.ensures ∙ ap (λ (k : ℕ). replicate {A = ℕ} k 0) c.requires.0, c.requires.1)
+lay_entries-filled-requires c = (search rules, c.requires.1)
 
 pub overflow_cast-cells : goal.overflow_cast-cells
 overflow_cast-cells c = omega (arith, count_small (rules_of c.args.book) c.args.octets.now, c.lay_entries-filled.ensures.count)
