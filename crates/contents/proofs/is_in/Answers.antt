@@ -1,6 +1,6 @@
 -- `contents::is_in` meets its contract: some range has the octet.
 -- Assumes nothing.
-use Rattle.std.proofs.Common.{rules, tests, ◌≡◌, refl, ◌∙◌, ap, ℕ, List, [], ◌∷◌, true, false, Bool, ◌||◌}
+use Rattle.std.proofs.Common.{rules, tests, ◌≡◌, refl, ◌∙◌, ℕ, List, [], ◌∷◌, true, false, Bool, ◌||◌}
 use Rattle.std.proofs.lemmas.Iterator.{YieldsList-from_slice}
 use Rattle.std.proofs.lemmas.Iterator.Search.{any_from_yields_List}
 use Rattle.std.specs.List.{list_any}

@@ -7,7 +7,6 @@ use lib.ListN.{get_or}
 use Rattle.rules.proofs.Returns.{via}
 use Rattle.rules.proofs.OctetRows.{admits_kind}
 use Rattle.rules.proofs.Standing.{text_starts, text_goes, text_stops, text_ends}
-use borrow.Author.Rules.{rules}
 use Rattle.contents.proofs.kind_along.Goals as goal
 
 pub loop-i-init : goal.loop-i-init

@@ -3,7 +3,6 @@
 use mathlib.Core.Path.{◌∙◌}
 use Prim.Native.Nat.{◌<◌}
 use native.Mathlib.Omega.{arith}
-use native.Mathlib.Nat.{zero-add}
 use lib.ListN.{length, drop, get_or, length-drop}
 use Rattle.rules.specs.ContentJudge.{judge_of}
 use Rattle.rules.proofs.Octets.{octets_known, octets-drop}
