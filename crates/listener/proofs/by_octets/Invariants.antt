@@ -2,8 +2,6 @@
 -- contents that it has come to. The measure is what is left of the run. A turn reads its octet and its row and judges
 -- it; then it goes further, or stops.
 -- Assumes nothing.
-use Rattle.std.proofs.Common.{◌-◌}
-use lib.ListN as list
 use Rattle.rules.specs.Table.{rules_of}
 use Rattle.rules.proofs.ContentLaw.{sound_rules}
 use Rattle.listener.specs.Heard.{inside_of}
