@@ -21,15 +21,18 @@ ghost use Rattle.rules.specs.declared.Class.TheVariants as class;
 
 use rules::Class;
 
-// A date's last month, hour and minute (document 01, The message).
-const LAST_MONTH: u8 = 12;
+// The numbers from the first to the second.
+type Range = (u8, u8);
 
-const LAST_HOUR: u8 = 23;
+// The months, hours and minutes of a date (document 01, The message); seconds are as minutes.
+const MONTHS: Range = (1, 12);
 
-const LAST_MINUTE: u8 = 59;
+const HOURS: Range = (0, 23);
 
-// A duration's last hour (document 02, Q-4).
-const LAST_HOURS: u8 = 99;
+const MINUTES: Range = (0, 59);
+
+// The hours of a duration (document 02, Q-4).
+const LONG_HOURS: Range = (0, 99);
 
 // The kinds of content octets, each a bit of a row.
 const DIGIT: u8 = 1;
@@ -51,6 +54,7 @@ const COMMA: u8 = 0x2C;
 const SPACE: u8 = 0x20;
 
 // Does a row say that the kind admits its octet?
+#[tactic(auto, using(rules::proofs::Telling::eq_is), unfolding(rules::specs::OctetRows::admitted))]
 fn admits(row: u8, kind: u8) -> bool
     ensures { result ≡ admitted row kind }
 {
@@ -65,76 +69,64 @@ fn digit_of(x: u8) -> u8
 }
 
 // The digits of a date: octet x stands beside the row that says whether it is one.
-fn tens_ok(lo: u8, hi: u8, row: u8, x: u8) -> bool
-    ensures { result ≡ tens_by (admitted row 1) (lo, hi) x }
+#[tactic(auto, using(rules::proofs::Telling::telling), unfolding(rules::specs::ContentJudge::opens))]
+fn tens_ok(range: Range, row: u8, x: u8) -> bool
+    ensures { result ≡ tens_by (admitted row 1) range x }
 {
-    if admits(row, DIGIT) {
-        let t = 10 * (digit_of(x) as u16);
-        lo as u16 <= t + 9 && t <= hi as u16
-    } else {
-        false
-    }
+    admits(row, DIGIT)
+        && {
+            let t = 10 * (digit_of(x) as u16);
+            range.0 as u16 <= t + 9 && t <= range.1 as u16
+        }
 }
 
-fn ones_ok(lo: u8, hi: u8, m: u8, row: u8, x: u8) -> bool
-    ensures { result ≡ ones_by (admitted row 1) (lo, hi) m x }
+#[tactic(auto, using(rules::proofs::Telling::telling), unfolding(rules::specs::Contents::within))]
+fn ones_ok(range: Range, m: u8, row: u8, x: u8) -> bool
+    ensures { result ≡ ones_by (admitted row 1) range m x }
 {
-    if admits(row, DIGIT) {
-        let v = 10 * (m as u16) + digit_of(x) as u16;
-        lo as u16 <= v && v <= hi as u16
-    } else {
-        false
-    }
+    admits(row, DIGIT)
+        && {
+            let v = 10 * (m as u16) + digit_of(x) as u16;
+            range.0 as u16 <= v && v <= range.1 as u16
+        }
 }
 
 // One of two digits for a number out of the range: the tens, or the ones after the tens m.
-fn pair_ok(lo: u8, hi: u8, i: u8, m: u8, row: u8, x: u8) -> bool
-    ensures { result ≡ pick (i =? 0) (tens_by (admitted row 1) (lo, hi) x) (ones_by (admitted row 1) (lo, hi) m x) }
+#[tactic(auto, using(rules::proofs::Telling::telling))]
+fn pair_ok(range: Range, i: u8, m: u8, row: u8, x: u8) -> bool
+    ensures { result ≡ pick (i =? 0) (tens_by (admitted row 1) range x) (ones_by (admitted row 1) range m x) }
 {
-    if i == 0 {
-        tens_ok(lo, hi, row, x)
-    } else {
-        ones_ok(lo, hi, m, row, x)
+    match i {
+        0 => tens_ok(range, row, x),
+        _ => ones_ok(range, m, row, x),
     }
 }
 
 // The ones of a day, of which m are left from the tens on: more than 21 only after the tens 0, where 0 makes none.
+#[tactic(auto, using(rules::proofs::Telling::telling))]
 fn day_ok(m: u8, row: u8, x: u8) -> bool
     ensures { result ≡ day_by (admitted row 1) m x }
 {
-    if admits(row, DIGIT) {
-        let ones = digit_of(x);
-        if ones <= m {
-            if m <= 21 { true } else { 1 <= ones }
-        } else {
-            false
-        }
-    } else {
-        false
-    }
+    admits(row, DIGIT) && digit_of(x) <= m && (m <= 21 || 1 <= digit_of(x))
 }
 
 // Two digits each for the month, a day of that month, the hour and the minute (document 02, Q-2).
+#[tactic(auto, using(rules::proofs::Telling::telling))]
 fn date_ok(i: u8, m: u8, row: u8, x: u8) -> bool
     ensures { result ≡ calendar_by (admitted row 1) time_ranges i m x }
 {
-    if i < 2 {
-        pair_ok(1, LAST_MONTH, i, m, row, x)
-    } else if i == 2 {
-        tens_ok(1, m, row, x)
-    } else if i == 3 {
-        day_ok(m, row, x)
-    } else if i < 6 {
-        pair_ok(0, LAST_HOUR, i - 4, m, row, x)
-    } else if i < 8 {
-        pair_ok(0, LAST_MINUTE, i - 6, m, row, x)
-    } else {
-        true
+    match i {
+        0..=1 => pair_ok(MONTHS, i, m, row, x),
+        2 => tens_ok((1, m), row, x),
+        3 => day_ok(m, row, x),
+        4..=5 => pair_ok(HOURS, i - 4, m, row, x),
+        6..=7 => pair_ok(MINUTES, i - 6, m, row, x),
+        _ => true,
     }
 }
 
 // Is the octet in one of some ranges, from the first to the second of each?
-fn is_in(set: &[(u8, u8)], x: u8) -> bool
+fn is_in(set: &[Range], x: u8) -> bool
     ensures { result ≡ in_set set.now x }
 {
     set.iter().any(|range| rules::among(range.0, range.1, x))
@@ -162,11 +154,11 @@ fn kind_of(c: Class) -> u8
 }
 
 // Are the octets of the class judged by their rows?
+#[tactic(auto, using(rules::proofs::Telling::telling, rules::proofs::Telling::eq_is), unfolding(rules::specs::OctetRows::asks))]
 pub fn asks(c: Class) -> bool
     ensures { result ≡ rows.asks c }
 {
-    let kind = kind_of(c);
-    kind != 0
+    kind_of(c) != 0
 }
 
 // May octet x be the first of contents that are not judged by rows?
@@ -191,33 +183,31 @@ fn code_ok(c: Class, x: u8) -> bool
 }
 
 // The same, and two digits for the seconds, if they are sent (source 004, 5.4.10).
+#[tactic(auto, using(rules::proofs::Telling::telling))]
 fn moment_ok(i: u8, m: u8, row: u8, x: u8) -> bool
     ensures { result ≡ calendar_by (admitted row 1) (time_ranges ++ second_range ∷ []) i m x }
 {
-    if i < 8 {
-        date_ok(i, m, row, x)
-    } else if i < 10 {
-        pair_ok(0, LAST_MINUTE, i - 8, m, row, x)
-    } else {
-        true
+    match i {
+        0..=7 => date_ok(i, m, row, x),
+        8..=9 => pair_ok(MINUTES, i - 8, m, row, x),
+        _ => true,
     }
 }
 
 // Two digits each for the hours, the minutes and the seconds (source 004, 5.4.21).
+#[tactic(auto, using(rules::proofs::Telling::telling))]
 fn duration_ok(i: u8, m: u8, row: u8, x: u8) -> bool
     ensures { result ≡ pair_by (admitted row 1) duration_ranges i m x }
 {
-    if i < 2 {
-        pair_ok(0, LAST_HOURS, i, m, row, x)
-    } else if i < 4 {
-        pair_ok(0, LAST_MINUTE, i - 2, m, row, x)
-    } else if i < 6 {
-        pair_ok(0, LAST_MINUTE, i - 4, m, row, x)
-    } else {
-        true
+    match i {
+        0..=1 => pair_ok(LONG_HOURS, i, m, row, x),
+        2..=3 => pair_ok(MINUTES, i - 2, m, row, x),
+        4..=5 => pair_ok(MINUTES, i - 4, m, row, x),
+        _ => true,
     }
 }
 
+#[tactic(auto, using(rules::proofs::Telling::telling), unfolding(rules::specs::Charge::missing))]
 // Do the flags of a charge say that it is not available (source 004, 5.4.18, bit 4)?
 fn is_missing(flags: u8) -> bool
     ensures { result ≡ missing flags }
@@ -225,6 +215,7 @@ fn is_missing(flags: u8) -> bool
     flags / 8 % 2 == 1
 }
 
+#[tactic(auto, using(rules::proofs::Telling::telling), unfolding(rules::specs::Charge::units))]
 // Do they say that units are charged (bit 5)?
 fn in_units(flags: u8) -> bool
     ensures { result ≡ units flags }
@@ -233,108 +224,84 @@ fn in_units(flags: u8) -> bool
 }
 
 // The second and third octet of a currency, behind letters (0) or dashes (1).
+#[tactic(auto, using(rules::proofs::Telling::telling), unfolding(rules::specs::Charge::currency_by, rules::specs::Charge::dash))]
 fn currency_ok(m: u8, row: u8, x: u8) -> bool
     ensures { result ≡ currency_by (admitted row 8) m x }
 {
-    if m == 0 {
-        admits(row, LETTER)
-    } else if m == 1 {
-        x == DASH
-    } else {
-        false
+    match m {
+        0 => admits(row, LETTER),
+        1 => x == DASH,
+        _ => false,
     }
 }
 
 // Flags behind letters (0), which ask for a charge, or dashes (1), which ask that there is none or that it is units.
+#[tactic(auto, using(rules::proofs::Telling::telling), unfolding(rules::specs::Charge::flags_at))]
 fn flags_ok(m: u8, x: u8) -> bool
     ensures { result ≡ flags_at m x }
 {
-    if m == 0 {
-        !is_missing(x)
-    } else if m == 1 {
-        if is_missing(x) { true } else { in_units(x) }
-    } else {
-        false
+    match m {
+        0 => !is_missing(x),
+        1 => is_missing(x) || in_units(x),
+        _ => false,
     }
 }
 
 // A digit, or the comma.
+#[tactic(auto, using(rules::proofs::Telling::telling), unfolding(rules::specs::Charge::comma))]
 fn cipher_ok(row: u8, x: u8) -> bool
     ensures { result ≡ (comma x or admitted row 1) }
 {
-    if x == COMMA { true } else { admits(row, DIGIT) }
+    x == COMMA || admits(row, DIGIT)
 }
 
 // Octet k of the ten behind the flags, where m is remembered: 0 a cost, 1 behind its comma, 2 units and a price, 3
 // behind its comma, 4 units alone, 5 nothing.
+#[tactic(auto, using(rules::proofs::Telling::telling), unfolding(rules::specs::Charge::amount_by, rules::specs::Charge::dash))]
 fn amount_ok(m: u8, k: u8, row: u8, x: u8) -> bool
     ensures { result ≡ amount_by (admitted row 1) m k x }
 {
-    if m == 0 {
-        cipher_ok(row, x)
-    } else if m == 1 {
-        admits(row, DIGIT)
-    } else if m == 2 {
-        if k <= 4 {
-            admits(row, DIGIT)
-        } else {
-            cipher_ok(row, x)
-        }
-    } else if m == 3 {
-        admits(row, DIGIT)
-    } else if m == 4 {
-        if k <= 4 {
-            admits(row, DIGIT)
-        } else {
-            x == DASH
-        }
-    } else if m == 5 {
-        x == DASH
-    } else {
-        false
+    match (m, k) {
+        (0, _) => cipher_ok(row, x),
+        (1 | 3, _) => admits(row, DIGIT),
+        (2 | 4, 0..=4) => admits(row, DIGIT),
+        (2, _) => cipher_ok(row, x),
+        (4 | 5, _) => x == DASH,
+        _ => false,
     }
 }
 
 // Currency, flags, and ten octets that they ask for (source 004, 5.4.18).
+#[tactic(auto, using(rules::proofs::Telling::telling), unfolding(rules::specs::Charge::charge_by, rules::specs::Charge::dash))]
 fn charge_ok(i: u8, m: u8, row: u8, x: u8) -> bool
     ensures { result ≡ charge_by (admitted row 1) (admitted row 8) i m x }
 {
-    if i == 0 {
-        if x == DASH { true } else { admits(row, LETTER) }
-    } else if i < 3 {
-        currency_ok(m, row, x)
-    } else if i == 3 {
-        flags_ok(m, x)
-    } else if i < 14 {
-        amount_ok(m, i - 4, row, x)
-    } else {
-        true
+    match i {
+        0 => x == DASH || admits(row, LETTER),
+        1 | 2 => currency_ok(m, row, x),
+        3 => flags_ok(m, x),
+        4..=13 => amount_ok(m, i - 4, row, x),
+        _ => true,
     }
 }
 
 // What a terminal is selected by: a connection type (01H) where there are two octets, a number or a subaddress.
+#[tactic(auto, using(rules::proofs::Telling::telling))]
 fn selector_ok(n: usize, x: u8) -> bool
     ensures { result ≡ (within (2, 3) x or (n =? 2 and x =? 1)) }
 {
-    if rules::among(2, 3, x) {
-        true
-    } else if n == 2 {
-        x == 1
-    } else {
-        false
-    }
+    rules::among(2, 3, x) || n == 2 && x == 1
 }
 
 // The selector, then a connection's code, or digits (source 004, 5.4.24).
+#[tactic(auto, using(rules::proofs::Telling::telling), unfolding(rules::specs::Terminal::terminal_by))]
 fn terminal_ok(n: u8, i: u8, m: u8, row: u8, x: u8) -> bool
     ensures { result ≡ terminal_by (admitted row 2) n i m x }
 {
-    if i == 0 {
-        selector_ok(n as usize, x)
-    } else if m == 1 {
-        x <= 7
-    } else {
-        admits(row, NUMBER)
+    match (i, m) {
+        (0, _) => selector_ok(n as usize, x),
+        (_, 1) => x <= 7,
+        _ => admits(row, NUMBER),
     }
 }
 
@@ -355,41 +322,35 @@ fn mark_ok(x: u8) -> bool
     )
 }
 
+#[tactic(auto, using(rules::proofs::Telling::telling), unfolding(rules::specs::ContentJudge::head_by))]
 fn display_ok(i: u8, row: u8, x: u8) -> bool
     ensures { result ≡ head_by (admitted row 4) display_set i x }
 {
-    if i == 0 {
-        mark_ok(x)
-    } else {
-        admits(row, NAME)
+    match i {
+        0 => mark_ok(x),
+        _ => admits(row, NAME),
     }
 }
 
 // A digit, or a space.
+#[tactic(auto, using(rules::proofs::Telling::telling), unfolding(rules::specs::Extension::blank))]
 fn country_ok(row: u8, x: u8) -> bool
     ensures { result ≡ (blank x or admitted row 1) }
 {
-    if x == SPACE { true } else { admits(row, DIGIT) }
+    x == SPACE || admits(row, DIGIT)
 }
 
 // One to three digits and spaces behind them, then seven characters (source 004, 5.4.27).
+#[tactic(auto, using(rules::proofs::Telling::telling), unfolding(rules::specs::Extension::extension_by, rules::specs::Extension::blank))]
 fn extension_ok(i: u8, m: u8, row: u8, x: u8) -> bool
     ensures { result ≡ extension_by (admitted row 1) (admitted row 4) i m x }
 {
-    if i == 0 {
-        admits(row, DIGIT)
-    } else if i == 1 {
-        country_ok(row, x)
-    } else if i == 2 {
-        if m == 1 {
-            x == SPACE
-        } else {
-            country_ok(row, x)
-        }
-    } else if i < 10 {
-        admits(row, NAME)
-    } else {
-        true
+    match (i, m) {
+        (0, _) => admits(row, DIGIT),
+        (2, 1) => x == SPACE,
+        (1 | 2, _) => country_ok(row, x),
+        (3..=9, _) => admits(row, NAME),
+        _ => true,
     }
 }
 
@@ -411,20 +372,19 @@ fn mixed_ok(c: Class, n: u8, i: u8, m: u8, row: u8, x: u8) -> bool
 
 // May octet x stand at index i of n, where m is remembered? Where the class asks for its row, it goes by the row
 // beside it.
+#[tactic(auto, using(rules::proofs::Telling::telling), unfolding(rules::specs::OctetRows::ok_by))]
 pub fn content_ok(c: Class, n: u8, i: u8, m: u8, row: u8, x: u8) -> bool
     ensures { result ≡ ok_by c n i m row x }
 {
-    let kind = kind_of(c);
-    if kind == 0 {
-        if i == 0 { code_ok(c, x) } else { true }
-    } else if kind == MIXED {
-        mixed_ok(c, n, i, m, row, x)
-    } else {
-        admits(row, kind)
+    match kind_of(c) {
+        0 => i != 0 || code_ok(c, x),
+        MIXED => mixed_ok(c, n, i, m, row, x),
+        kind => admits(row, kind),
     }
 }
 
 // The days of a month; February has 29 (document 02, Q-2).
+#[tactic(auto, using(rules::proofs::Telling::telling), unfolding(rules::specs::Contents::days, rules::specs::Contents::short_month))]
 fn days_in(month: u16) -> u8
     ensures { result ≡ days month }
 {
@@ -451,78 +411,74 @@ fn days_left(m: u8, x: u8) -> u8
 }
 
 // Of a date: the tens of the month, its days, what is left of them; behind the day the digit alone.
+#[tactic(auto, using(rules::proofs::Telling::telling), unfolding(rules::specs::ContentJudge::calendar_keep))]
 fn date_kept(i: u8, m: u8, x: u8) -> u8
     ensures { result ≡ calendar_keep i m x }
 {
-    if i == 1 {
-        month_days(m, x)
-    } else if i == 2 {
-        days_left(m, x)
-    } else {
-        digit_of(x)
+    match i {
+        1 => month_days(m, x),
+        2 => days_left(m, x),
+        _ => digit_of(x),
     }
 }
 
 // Of a charge: letters or dashes; what the flags ask for; that a comma has come.
+#[tactic(auto, using(rules::proofs::Telling::telling), unfolding(rules::specs::Charge::flags_keep))]
 fn flags_kept(m: u8, x: u8) -> u8
     ensures { result ≡ flags_keep m x }
 {
-    if is_missing(x) {
-        5
-    } else if in_units(x) {
-        if m == 0 { 2 } else { 4 }
-    } else {
-        0
+    match (is_missing(x), in_units(x), m) {
+        (true, _, _) => 5,
+        (false, false, _) => 0,
+        (false, true, 0) => 2,
+        (false, true, _) => 4,
     }
 }
 
+#[tactic(auto, using(rules::proofs::Telling::telling), unfolding(rules::specs::Charge::amount_keep, rules::specs::Charge::comma))]
 fn amount_kept(m: u8, x: u8) -> u8
     ensures { result ≡ amount_keep m x }
 {
-    if m == 0 {
-        if x == COMMA { 1 } else { 0 }
-    } else if m == 2 {
-        if x == COMMA { 3 } else { 2 }
-    } else {
-        m
+    match (m, x) {
+        (0, COMMA) => 1,
+        (2, COMMA) => 3,
+        _ => m,
     }
 }
 
+#[tactic(auto, using(rules::proofs::Telling::telling), unfolding(rules::specs::Charge::charge_keep, rules::specs::Charge::dash))]
 fn charge_kept(i: u8, m: u8, x: u8) -> u8
     ensures { result ≡ charge_keep i m x }
 {
-    if i == 0 {
-        if x == DASH { 1 } else { 0 }
-    } else if i < 3 {
-        m
-    } else if i == 3 {
-        flags_kept(m, x)
-    } else if i < 14 {
-        amount_kept(m, x)
-    } else {
-        0
+    match (i, x) {
+        (0, DASH) => 1,
+        (1 | 2, _) => m,
+        (3, _) => flags_kept(m, x),
+        (4..=13, _) => amount_kept(m, x),
+        _ => 0,
     }
 }
 
 // Of a terminal: that a connection type came first.
+#[tactic(auto, using(rules::proofs::Telling::telling), unfolding(rules::specs::Terminal::terminal_keep))]
 fn terminal_kept(i: u8, m: u8, x: u8) -> u8
     ensures { result ≡ terminal_keep i m x }
 {
-    if i == 0 {
-        if x == 1 { 1 } else { 0 }
-    } else {
-        m
+    match (i, x) {
+        (0, 1) => 1,
+        (0, _) => 0,
+        _ => m,
     }
 }
 
 // Of an extension: that the country has one digit.
+#[tactic(auto, using(rules::proofs::Telling::telling), unfolding(rules::specs::Extension::extension_keep, rules::specs::Extension::blank))]
 fn extension_kept(i: u8, x: u8) -> u8
     ensures { result ≡ extension_keep i x }
 {
-    if i == 1 {
-        if x == SPACE { 1 } else { 0 }
-    } else {
-        0
+    match (i, x) {
+        (1, SPACE) => 1,
+        _ => 0,
     }
 }
 
@@ -556,46 +512,37 @@ fn kind_along(kinds: &[u8], kind: u8, v: &[u8]) -> usize
 }
 
 // Do two octets make a number out of the range, the tens first?
-fn two_digits(lo: u8, hi: u8, kinds: &[u8], a: u8, b: u8) -> bool
+fn two_digits(range: Range, kinds: &[u8], a: u8, b: u8) -> bool
     requires { Rowed kinds.now }
-    ensures { result ≡ (tens_fit (lo, hi) a and ones_fit (lo, hi) (a - 48) b) }
+    ensures { result ≡ (tens_fit range a and ones_fit range (a - 48) b) }
 {
-    if admits(kinds[a as usize], DIGIT) {
-        if admits(kinds[b as usize], DIGIT) {
-            rules::among(lo, hi, 10 * (a - 48) + (b - 48))
-        } else {
-            false
-        }
-    } else {
-        false
+    if !admits(kinds[a as usize], DIGIT) {
+        return false;
     }
+    admits(kinds[b as usize], DIGIT) && rules::among(range.0, range.1, 10 * (a - 48) + (b - 48))
 }
 
 // Are there two octets at a place that make a number out of the range?
-fn pair_at(lo: u8, hi: u8, kinds: &[u8], v: &[u8], at: usize) -> bool
+fn pair_at(range: Range, kinds: &[u8], v: &[u8], at: usize) -> bool
     requires { Rowed kinds.now × (at ≤ 6) }
-    ensures { result ≡ (2 ≤? pair_stands (lo, hi) (list.drop at v.now)) }
+    ensures { result ≡ (2 ≤? pair_stands range (list.drop at v.now)) }
 {
-    if v.len() <= at + 1 {
-        false
-    } else {
-        two_digits(lo, hi, kinds, v[at], v[at + 1])
-    }
+    at + 1 < v.len() && two_digits(range, kinds, v[at], v[at + 1])
 }
 
 // Two digits at a place for a number out of the range: the place behind those of them that may stand.
-fn pair_along(lo: u8, hi: u8, kinds: &[u8], v: &[u8], at: usize) -> usize
+fn pair_along(range: Range, kinds: &[u8], v: &[u8], at: usize) -> usize
     requires { Rowed kinds.now × (at ≤ 6) }
-    ensures { result ≡ at + pair_stands (lo, hi) (list.drop at v.now) }
+    ensures { result ≡ at + pair_stands range (list.drop at v.now) }
 {
-    if pair_at(lo, hi, kinds, v, at) {
+    if pair_at(range, kinds, v, at) {
         return at + 2;
     }
     if v.len() <= at {
         return at;
     }
     let x = v[at];
-    if tens_ok(lo, hi, kinds[x as usize], x) {
+    if tens_ok(range, kinds[x as usize], x) {
         at + 1
     } else {
         at
@@ -603,6 +550,7 @@ fn pair_along(lo: u8, hi: u8, kinds: &[u8], v: &[u8], at: usize) -> usize
 }
 
 // The days of the month that contents begin with.
+#[tactic(auto, unfolding(rules::specs::Contents::month_of))]
 fn days_along(v: &[u8]) -> u8
     requires { 2 ≤ list.length v.now }
     ensures { result ≡ days (month_of v.now) }
@@ -615,19 +563,19 @@ fn date_along(kinds: &[u8], v: &[u8]) -> usize
     requires { Rowed kinds.now }
     ensures { result ≡ good_front class.Date v.now }
 {
-    let month = pair_along(1, LAST_MONTH, kinds, v, 0);
+    let month = pair_along(MONTHS, kinds, v, 0);
     if month < 2 {
         return month;
     }
-    let day = pair_along(1, days_along(v), kinds, v, 2);
+    let day = pair_along((1, days_along(v)), kinds, v, 2);
     if day < 4 {
         return day;
     }
-    let hour = pair_along(0, LAST_HOUR, kinds, v, 4);
+    let hour = pair_along(HOURS, kinds, v, 4);
     if hour < 6 {
         return hour;
     }
-    let minute = pair_along(0, LAST_MINUTE, kinds, v, 6);
+    let minute = pair_along(MINUTES, kinds, v, 6);
     if minute < 8 {
         return minute;
     }
@@ -639,16 +587,14 @@ fn terminal_along(kinds: &[u8], v: &[u8]) -> usize
     requires { Rowed kinds.now × (1 ≤ list.length v.now) }
     ensures { result ≡ good_front class.Terminal v.now }
 {
-    let n = v.len();
     let first = v[0];
-    if selector_ok(n, first) {
-        if first == 1 {
-            if v[1] <= 7 { 2 } else { 1 }
-        } else {
-            1 + kind_along(kinds, NUMBER, &v[1..])
-        }
-    } else {
-        0
+    if !selector_ok(v.len(), first) {
+        return 0;
+    }
+    match first {
+        1 if v[1] <= 7 => 2,
+        1 => 1,
+        _ => 1 + kind_along(kinds, NUMBER, &v[1..]),
     }
 }
 
@@ -739,9 +685,5 @@ pub fn fits(c: Class, v: &[u8]) -> bool
     }
     let n = v.len() as u8;
     // in a room that the parameter fills
-    if rules::length_fits(c, n + 2, n) {
-        first_wrong(c, v) == v.len()
-    } else {
-        false
-    }
+    rules::length_fits(c, n + 2, n) && first_wrong(c, v) == v.len()
 }

@@ -68,6 +68,7 @@ struct Inside {
 }
 
 // The spot after an octet that a stage took, which stands in this parameter.
+#[tactic(auto, using(rules::proofs::Telling::telling), unfolding(rules::specs::Judge::machine))]
 fn moved(book: Book, stage: Stage, q: Spot, x: u8, parameter: u8) -> Spot
     requires { (q.place < 65535) × (parameter ≡ judge.stands_in stage q.parameter) }
     ensures { result ≡ machine.moved (judge.machine (rules_of book)) stage q x }
@@ -81,6 +82,7 @@ fn moved(book: Book, stage: Stage, q: Spot, x: u8, parameter: u8) -> Spot
 }
 
 // An octet that a stage refuses, which stands in this parameter.
+#[tactic(auto, using(rules::proofs::Telling::telling), unfolding(rules::specs::Judge::machine))]
 fn declined(book: Book, stage: Stage, number: u8, q: Spot, parameter: u8) -> State
     requires { parameter ≡ judge.stands_in stage q.parameter }
     ensures { result ≡ machine.declined (judge.machine (rules_of book)) stage number q }
@@ -93,6 +95,7 @@ fn declined(book: Book, stage: Stage, number: u8, q: Spot, parameter: u8) -> Sta
 }
 
 // The octet at this index is to come; after the last of them a header, or the checksum.
+#[tactic(auto, using(rules::proofs::Telling::telling), unfolding(rules::specs::Judge::contents))]
 fn contents(class: Class, length: u8, index: u8, memory: u8, room: u8) -> Stage
     ensures { result ≡ judge.contents class length index memory room }
 {
@@ -193,6 +196,7 @@ fn content_at(f: Frame, index: u8, memory: u8) -> Stage
 }
 
 // Contents after an octet that may stand in them.
+#[tactic(auto, using(rules::proofs::Telling::telling), unfolding(rules::specs::Judge::stands_in, crate::specs::Heard::further))]
 fn further(book: Book, f: Frame, index: u8, memory: u8, q: Spot, x: u8) -> Inside
     requires { (index < 255) × (q.place < 65535) }
     ensures { result ≡ heard.further (rules_of book) f index memory q x }
@@ -280,6 +284,7 @@ fn along(book: Book, f: Frame, first: u8, kept: u8, spot: Spot, octets: &[u8], f
 }
 
 // The parameter of an octet that spoils a message: none at the checksum.
+#[tactic(auto, using(rules::proofs::Telling::telling))]
 fn parameter_of(number: u8, begun: u8) -> u8
     ensures { result ≡ pick (number =? 6) 0 begun }
 {
@@ -296,19 +301,16 @@ fn by_turns(book: Book, room: u8, q: Spot, octets: &[u8], i: usize) -> Ran
     let gone = i + stop.place as usize;
     let place = q.place + stop.place;
     let begun = q.parameter + stop.parameter;
-    if stop.number == 0 {
-        Ran {
+    match (stop.number, stop.place) {
+        (0, _) => Ran {
             state: State::Message(place),
             taken: gone,
-        }
-    } else if stop.number == 8 {
-        if stop.place == 0 {
-            let x = octets[i];
-            Ran {
-                state: at_header(book, room, q, x),
-                taken: i + 1,
-            }
-        } else {
+        },
+        (8, 0) => Ran {
+            state: at_header(book, room, q, octets[i]),
+            taken: i + 1,
+        },
+        (8, _) => {
             let spot = Spot {
                 sum: stop.sum,
                 place,
@@ -319,15 +321,16 @@ fn by_turns(book: Book, room: u8, q: Spot, octets: &[u8], i: usize) -> Ran
                 taken: gone,
             }
         }
-    } else {
-        let fault = Fault {
-            number: stop.number,
-            place,
-            parameter: parameter_of(stop.number, begun),
-        };
-        Ran {
-            state: State::Refused(fault),
-            taken: gone + 1,
+        _ => {
+            let fault = Fault {
+                number: stop.number,
+                place,
+                parameter: parameter_of(stop.number, begun),
+            };
+            Ran {
+                state: State::Refused(fault),
+                taken: gone + 1,
+            }
         }
     }
 }
@@ -401,13 +404,12 @@ fn place_fits(stage: Stage, at: u16) -> bool
         Stage::Kind => at == 0,
         Stage::Size => at == 1,
         Stage::Header { room } => between(5, 257, place + room as u32),
-        Stage::Length { class: _, room } => { 1 <= room && between(6, 258, place + room as u32) }
+        Stage::Length { room, .. } => 1 <= room && between(6, 258, place + room as u32),
         Stage::Content {
-            class: _,
             length,
             index,
-            memory: _,
             room,
+            ..
         } => {
             let i = index as u32;
             index < length && between(5 + i, 257 + i, place + length as u32 + room as u32)
@@ -415,6 +417,7 @@ fn place_fits(stage: Stage, at: u16) -> bool
     }
 }
 
+#[tactic(auto, using(rules::proofs::Telling::telling), unfolding(rules::specs::Judge::amid))]
 fn amid(count: u32, index: u32, place: u32) -> bool
     requires { (count ≤ 255) × (index ≤ 256) }
     ensures { result ≡ judge.amid count index place }
@@ -429,17 +432,10 @@ fn count_fits(stage: Stage, at: u16, parameter: u8) -> bool
     let place = at as u32;
     let count = parameter as u32;
     match stage {
-        Stage::Kind => parameter == 0,
-        Stage::Size => parameter == 0,
-        Stage::Header { room: _ } => 3 * count + 2 <= place,
-        Stage::Length { class: _, room: _ } => amid(count, 0, place),
-        Stage::Content {
-            class: _,
-            length: _,
-            index,
-            memory: _,
-            room: _,
-        } => amid(count, 1 + index as u32, place),
+        Stage::Kind | Stage::Size => parameter == 0,
+        Stage::Header { .. } => 3 * count + 2 <= place,
+        Stage::Length { .. } => amid(count, 0, place),
+        Stage::Content { index, .. } => amid(count, 1 + index as u32, place),
     }
 }
 
@@ -476,6 +472,7 @@ fn spot_in_range(book: Book, stage: Stage, q: Spot) -> bool
     place_fits(stage, q.place) && count_fits(stage, q.place, q.parameter)
 }
 
+#[tactic(auto, using(rules::proofs::Telling::telling), unfolding(rules::specs::Judge::in_range))]
 fn in_range(book: Book, s: State) -> bool
     ensures { result ≡ in_range (rules_of book) s }
 {
@@ -492,26 +489,14 @@ fn run(book: Book, s: State, octets: &[u8]) -> Ran
 {
     let mut cur = s;
     let mut i = 0;
+    // the place jumps by what a stage took
     while i < octets.len() {
-        match cur {
-            State::Waiting(stage, q) => {
-                let next = onward(book, stage, q, octets, i);
-                cur = next.state;
-                i = next.taken;
-            }
-            State::Message(_) => {
-                return Ran {
-                    state: cur,
-                    taken: i,
-                };
-            }
-            State::Refused(_) => {
-                return Ran {
-                    state: cur,
-                    taken: i,
-                };
-            }
-        }
+        let State::Waiting(stage, q) = cur else {
+            break;
+        };
+        let next = onward(book, stage, q, octets, i);
+        cur = next.state;
+        i = next.taken;
     }
     Ran {
         state: cur,
@@ -519,6 +504,7 @@ fn run(book: Book, s: State, octets: &[u8]) -> Ran
     }
 }
 
+#[tactic(auto, using(rules::proofs::Telling::telling), unfolding(crate::specs::Heard::answer_of))]
 fn answer_of(s: State) -> Answer
     ensures { result ≡ answer_of s }
 {
@@ -529,6 +515,7 @@ fn answer_of(s: State) -> Answer
     }
 }
 
+#[tactic(auto, using(rules::proofs::Telling::telling))]
 // A refusal that no octet causes: nothing is taken, the listener comes back as it was, and no edition is named.
 fn untaken(l: Listener, number: u8) -> Heard
     ensures { result ≡ heard.untaken number l }
@@ -541,6 +528,7 @@ fn untaken(l: Listener, number: u8) -> Heard
     }
 }
 
+#[tactic(auto, unfolding(crate::specs::Heard::new_listener, rules::specs::Judge::machine))]
 // A new listener; a listener is reset by putting a new one in its place. It keeps the numbers told, unknown ones too.
 pub fn reset_way(edition: u8, way: u8) -> Listener
     ensures { result ≡ new_listener edition way }
@@ -574,26 +562,22 @@ pub fn listen(l: Listener, octets: &[u8]) -> Heard
 {
     let edition = l.edition;
     let way = l.way;
-    let state = l.state;
     let book = rules::book_of(edition, way);
-    if in_range(book, state) {
-        if rules::is_known(edition, way) {
-            let ran = run(book, state, octets);
-            let now_at = ran.state;
-            Heard {
-                listener: Listener {
-                    edition,
-                    way,
-                    state: now_at,
-                },
-                answer: answer_of(now_at),
-                taken: ran.taken,
-                edition,
-            }
-        } else {
-            untaken(l, 16)
-        }
-    } else {
-        untaken(l, 17)
+    if !in_range(book, l.state) {
+        return untaken(l, 17);
+    }
+    if !rules::is_known(edition, way) {
+        return untaken(l, 16);
+    }
+    let ran = run(book, l.state, octets);
+    Heard {
+        listener: Listener {
+            edition,
+            way,
+            state: ran.state,
+        },
+        answer: answer_of(ran.state),
+        taken: ran.taken,
+        edition,
     }
 }

@@ -3,10 +3,14 @@
 use Prim.Native.Nat.{ℕ, ◌≤◌}
 use mathlib.Core.Path.{◌≡◌, refl, sym, ◌∙◌, ap}
 use native.Mathlib.Omega.{arith}
+use Rattle.std.specs.Prelude.{◌<◌, Result, Ok, Err, MatchResult}
+use Rattle.std.specs.Result.{result_unwrap_or}
+use Rattle.rules.specs.declared.UnknownClass.{UnknownClass}
 use Rattle.rules.specs.Tests.{◌=?◌, pick}
 use Rattle.rules.specs.Codes.{class_code, class_coded}
 use Rattle.rules.proofs.Table.{tabled}
 use Rattle.rules.proofs.Rivals.{same_table}
+use Rattle.rules.proofs.Telling.{telling}
 use Rattle.rules.specs.declared.Class.{Class}
 use Rattle.rules.specs.declared.Class.TheVariants.{Carried, Date, Number, Absent, Name, Lamp, Identity, CallType, Waiting, Forwarded, User, ShortText, Moment, Charge, Duration, Terminal, Display, Service, Extension, OldNumber, OldForwarded, OldUser, Unlisted}
 
@@ -39,6 +43,18 @@ coded_code Unlisted = refl
 -- so a class of this code is the class that the code has
 pub is_coded : (c : Class) (k : ℕ) → class_code c ≡ k → c ≡ class_coded k
 is_coded c k e = sym (coded_code c) ∙ ap class_coded e
+
+-- no class has a code above
+past : (k : ℕ) → 22 < k → Carried ≡ class_coded k
+unfolding class_coded
+past k h = grind (arith, telling)
+
+-- and where none has it the code is read as carried
+pub or_carried : (k : ℕ) (r : Result Class UnknownClass) →
+    MatchResult r (λ c. class_code c ≡ k) (λ e. (e.0 ≡ k) × (22 < k)) → result_unwrap_or r Carried ≡ class_coded k
+unfolding class_coded pick ◌=?◌
+or_carried k (Ok c) e = is_coded c k e
+or_carried k (Err e) h = past k h.1
 
 -- the codes are 0 to 22
 pub code_coded : (k : ℕ) → k ≤ 22 → class_code (class_coded k) ≡ k

@@ -2,14 +2,14 @@
 -- class is its edition's, in its way.
 -- Assumes nothing.
 use mathlib.Core.Path.{◌≡◌, refl, sym, ◌∙◌, ap}
-use mathlib.Core.Bool.{Bool, true, false}
+use mathlib.Core.Bool.{Bool, true, false, cond}
 use mathlib.Core.List.{List, [], ◌∷◌}
 use Prim.Native.Nat.{ℕ, ◌<◌}
 use lib.ListN.{get_or}
 use lib.Dec.{T}
 use Rattle.rules.specs.Tests.{◌=?◌, ◌and◌, ◌or◌, pick, every}
 use Rattle.rules.proofs.Tests.{pick_not, eq_of, both}
-use Rattle.rules.proofs.Returns.{holds, T_of}
+use Rattle.rules.proofs.Returns.{holds}
 use Rattle.rules.specs.Table.{Row, rules_of, old_book, plain_row, rows01, rows_old, row_in, row_of, listed_in, listed, rowed, class_of, rival_of}
 use Rattle.rules.specs.declared.Class.{Class}
 use Rattle.rules.specs.declared.Book.{Book}
@@ -48,37 +48,23 @@ listed_are PresentLenient t = listed_in_lem _ _ t refl tt
 listed_are OldStrict t = listed_in_lem _ _ t refl tt
 listed_are OldLenient t = listed_in_lem _ _ t refl tt
 
--- ---- a book's class is that of its edition's rows, and of its own class where there is none
-pub in_old : (b : Book) (t : ℕ) (o r : Class) → o ≡ (rules_of b).others → old_book b ≡ true →
-    r ≡ (row_in (plain_row t o) rows_old t).class → r ≡ class_of (rules_of b) t
+-- a book's class is that of its edition's rows, and of its own class where there is none
+pub class_is : (b : Book) (t : ℕ) →
+    class_of (rules_of b) t ≡
+    cond (old_book b)
+    (row_in (plain_row t (rules_of b).others) rows_old t).class
+    (row_in (plain_row t (rules_of b).others) rows01 t).class
 unfolding old_book rules_of class_of row_of
-in_old PresentStrict t o r e f q = absurd (T_of false f)
-in_old PresentLenient t o r e f q = absurd (T_of false f)
-in_old OldStrict t o r e f q = q ∙ ap (λ (c : Class). (row_in (plain_row t c) rows_old t).class) e
-in_old OldLenient t o r e f q = q ∙ ap (λ (c : Class). (row_in (plain_row t c) rows_old t).class) e
+class_is PresentStrict t = refl
+class_is PresentLenient t = refl
+class_is OldStrict t = refl
+class_is OldLenient t = refl
 
-pub in_present : (b : Book) (t : ℕ) (o r : Class) → o ≡ (rules_of b).others → old_book b ≡ false →
-    r ≡ (row_in (plain_row t o) rows01 t).class → r ≡ class_of (rules_of b) t
-unfolding old_book rules_of class_of row_of
-in_present PresentStrict t o r e f q = q ∙ ap (λ (c : Class). (row_in (plain_row t c) rows01 t).class) e
-in_present PresentLenient t o r e f q = q ∙ ap (λ (c : Class). (row_in (plain_row t c) rows01 t).class) e
-in_present OldStrict t o r e f q = absurd (T_of false (sym f))
-in_present OldLenient t o r e f q = absurd (T_of false (sym f))
-
--- ---- the pairs as the code has them
-unfoldable pub rivals : ℕ → ℕ
-rivals t = pick (t =? 0x02) 0x04 (pick (t =? 0x04) 0x02 (pick (t =? 0x07) 0x08 (pick (t =? 0x08) 0x07 t)))
-
-unfoldable pub old_rivals : ℕ → ℕ
-old_rivals t = pick (t =? 0x02) 0x04 (pick (t =? 0x04) 0x02 t)
-
-pub paired : (r t : ℕ) → t < 256 → r ≡ rivals t → r ≡ rival_of (rules_of PresentLenient) t
-unfolding rivals tabled pick ◌=?◌ rival_of row_of row_in rules_of
-paired r t h e = e ∙ same_table rivals (rival_of (rules_of PresentLenient)) 256 t refl h
-
-pub paired_old : (r t : ℕ) → t < 256 → r ≡ old_rivals t → r ≡ rival_of (rules_of OldLenient) t
-unfolding old_rivals tabled pick ◌=?◌ rival_of row_of row_in rules_of
-paired_old r t h e = e ∙ same_table old_rivals (rival_of (rules_of OldLenient)) 256 t refl h
+-- ---- the pairs as the code has them, by the number of an edition
+unfoldable pub rivals : ℕ → ℕ → ℕ
+rivals e t =
+    pick (t =? 0x02) 0x04
+    (pick (t =? 0x04) 0x02 (pick (e =? 0 and t =? 0x07) 0x08 (pick (e =? 0 and t =? 0x08) 0x07 t)))
 
 -- the way has no part in them
 rival_in : (d e : Row) (rs : List Row) (t : ℕ) → d.rival ≡ e.rival → (row_in d rs t).rival ≡ (row_in e rs t).rival
@@ -91,10 +77,17 @@ rival_in d e (r ∷ rs) t q = go (rival_in d e rs t q) (t =? r.kind)
     go ih true = refl
     go ih false = ih
 
-pub rival_present : (t : ℕ) → rival_of (rules_of PresentLenient) t ≡ rival_of (rules_of PresentStrict) t
-unfolding rival_of row_of rules_of
-rival_present t = rival_in _ _ _ t refl
+rival_present : (t : ℕ) → t < 256 → rival_of (rules_of PresentLenient) t ≡ rivals 0 t
+unfolding rivals tabled pick ◌=?◌ ◌and◌ rival_of row_of row_in rules_of
+rival_present t h = same_table (rival_of (rules_of PresentLenient)) (rivals 0) 256 t refl h
 
-pub rival_old : (t : ℕ) → rival_of (rules_of OldLenient) t ≡ rival_of (rules_of OldStrict) t
+rival_old : (t : ℕ) → t < 256 → rival_of (rules_of OldLenient) t ≡ rivals 1 t
+unfolding rivals tabled pick ◌=?◌ ◌and◌ rival_of row_of row_in rules_of
+rival_old t h = same_table (rival_of (rules_of OldLenient)) (rivals 1) 256 t refl h
+
+pub rival_is : (b : Book) (t : ℕ) → t < 256 → rival_of (rules_of b) t ≡ rivals (rules_of b).edition t
 unfolding rival_of row_of rules_of
-rival_old t = rival_in _ _ _ t refl
+rival_is PresentStrict t h = rival_in _ _ rows01 t refl ∙ rival_present t h
+rival_is PresentLenient t h = rival_present t h
+rival_is OldStrict t h = rival_in _ _ rows_old t refl ∙ rival_old t h
+rival_is OldLenient t h = rival_old t h

@@ -1,6 +1,6 @@
 -- What the code holds of a class: a number for each, in the record of a listener; and its lengths.
 -- Assumes nothing.
-use Rattle.std.specs.Prelude.{ℕ, Bool, List, [], ◌∷◌}
+use Rattle.std.specs.Prelude.{ℕ, Bool, List, [], ◌∷◌, Option, Some, None}
 use Rattle.rules.specs.Tests.{◌≤?◌, ◌=?◌, pick}
 use Rattle.rules.specs.Contents.{Range, in_set, only}
 use Rattle.rules.specs.Editions.{lenient}
@@ -77,11 +77,13 @@ class_coded k =
     (pick (k =? 21) OldUser
     (pick (k =? 22) Unlisted Carried)))))))))))))))))))))
 
--- the length of a class that its range has not; 0 where there is none
-unfoldable pub other_length : Class → ℕ
-other_length c = pick (class_code c =? 12) 10 0
+-- the length of a class that its range has not, if there is one
+unfoldable pub other_length : Class → Option ℕ
+other_length Moment = Some 10
+other_length c = None
 
 -- ---- the lengths of a class as the code has them
--- the lengths from the least to the most, and one other (0 where there is none)
-unfoldable pub ranges : ℕ → ℕ → ℕ → List Range
-ranges least most other = (least, most) ∷ pick (other =? 0) [] (only other)
+-- the lengths from the least to the most, and perhaps one other
+unfoldable pub ranges : ℕ → ℕ → Option ℕ → List Range
+ranges least most None = (least, most) ∷ []
+ranges least most (Some other) = (least, most) ∷ only other

@@ -26,16 +26,16 @@ pub const MOST: usize = 85;
 pub const LONGEST: usize = 253;
 
 // The classes of the present edition's rows have the codes from 1 up to this one.
-const LAST_PRESENT: u8 = 18;
+const LAST_PRESENT: u8 = Class::Extension as u8;
 
 // The classes of all editions' rows have the codes from 1 up to this one.
-const LAST_LISTED: u8 = 21;
+const LAST_LISTED: u8 = Class::OldUser as u8;
 
 // The first of the classes that the old edition alone has.
-const FIRST_OLD: u8 = 19;
+const FIRST_OLD: u8 = Class::OldNumber as u8;
 
 // The code of carried contents.
-const CARRIED: u8 = 0;
+const CARRIED: u8 = Class::Carried as u8;
 
 // The classes of contents, in the order of their codes.
 #[derive(Clone, Copy, PartialEq, Eq)]
@@ -173,6 +173,7 @@ pub fn noted(number: u8, place: u16) -> Fault
 }
 
 // Is there an edition of this number?
+#[tactic(auto, using(crate::proofs::Telling::telling), unfolding(crate::specs::Editions::edition))]
 pub fn is_edition(edition: u8) -> bool
     ensures { result ≡ editions.edition edition }
 {
@@ -225,42 +226,17 @@ pub fn named_by(number: u8, edition: u8) -> u8
 }
 
 // The class of a code; a code of none is read as carried.
-#[tactic(auto, using(crate::proofs::Telling::telling), unfolding(crate::specs::Codes::class_coded))]
+#[tactic(auto, using(crate::proofs::Codes::or_carried))]
 pub fn class_coded(code: u8) -> Class
     ensures { result ≡ class_coded code }
 {
-    match code {
-        1 => Class::Date,
-        2 => Class::Number,
-        3 => Class::Absent,
-        4 => Class::Name,
-        5 => Class::Lamp,
-        6 => Class::Identity,
-        7 => Class::CallType,
-        8 => Class::Waiting,
-        9 => Class::Forwarded,
-        10 => Class::User,
-        11 => Class::ShortText,
-        12 => Class::Moment,
-        13 => Class::Charge,
-        14 => Class::Duration,
-        15 => Class::Terminal,
-        16 => Class::Display,
-        17 => Class::Service,
-        18 => Class::Extension,
-        19 => Class::OldNumber,
-        20 => Class::OldForwarded,
-        21 => Class::OldUser,
-        22 => Class::Unlisted,
-        _ => Class::Carried,
-    }
+    Class::try_from(code).unwrap_or(Class::Carried)
 }
 
-#[tactic(auto, unfolding(crate::specs::Codes::class_code))]
 pub fn code_of(c: Class) -> u8
     ensures { result ≡ class_code c }
 {
-    c as u8
+    u8::from(c)
 }
 
 impl From<Class> for u8 {
@@ -432,6 +408,8 @@ fn others_of(b: Book) -> Class
     }
 }
 
+// The class of a type: each edition has its table, and the book the class of types without a row.
+#[tactic(auto, using(crate::proofs::Rivals::class_is))]
 pub fn class_of(b: Book, t: u8) -> Class
     ensures { result ≡ class_of (rules_of b) t }
 {
@@ -443,6 +421,7 @@ pub fn class_of(b: Book, t: u8) -> Class
 }
 
 // Has the type a row of the book? One that has none is carried, or refused.
+#[tactic(auto, using(crate::proofs::Rivals::listed_are))]
 pub fn is_listed(b: Book, t: u8) -> bool
     ensures { result ≡ listed (rules_of b) t }
 {
@@ -457,39 +436,17 @@ fn is_rowed(c: Class) -> bool
     !matches!(c, Class::Carried | Class::Unlisted)
 }
 
-#[tactic(auto, using(crate::proofs::Telling::telling), unfolding(crate::specs::Table::rival_of, crate::specs::Table::row_of, crate::specs::Table::row_in, crate::specs::Table::rules_of))]
-fn present_rival(t: u8) -> u8
-    ensures { result ≡ rival_of (rules_of book.PresentLenient) t }
-{
-    match t {
-        0x02 => 0x04,
-        0x04 => 0x02,
-        0x07 => 0x08,
-        0x08 => 0x07,
-        _ => t,
-    }
-}
-
-#[tactic(auto, using(crate::proofs::Telling::telling), unfolding(crate::specs::Table::rival_of, crate::specs::Table::row_of, crate::specs::Table::row_in, crate::specs::Table::rules_of))]
-fn old_rival(t: u8) -> u8
-    ensures { result ≡ rival_of (rules_of book.OldLenient) t }
-{
-    match t {
-        0x02 => 0x04,
-        0x04 => 0x02,
-        _ => t,
-    }
-}
-
 // The other type of its pair; itself, where it is no half of one.
+#[tactic(auto, using(crate::proofs::Telling::telling, crate::proofs::Rivals::rival_is), unfolding(crate::proofs::Rivals::rivals))]
 pub fn rival_of(b: Book, t: u8) -> u8
     ensures { result ≡ rival_of (rules_of b) t }
 {
-    match b {
-        Book::PresentStrict => present_rival(t),
-        Book::PresentLenient => present_rival(t),
-        Book::OldStrict => old_rival(t),
-        Book::OldLenient => old_rival(t),
+    match (edition_of(b), t) {
+        (_, 0x02) => 0x04,
+        (_, 0x04) => 0x02,
+        (PRESENT, 0x07) => 0x08,
+        (PRESENT, 0x08) => 0x07,
+        _ => t,
     }
 }
 
@@ -501,25 +458,45 @@ pub fn is_strict(b: Book) -> bool
     matches!(b, Book::PresentStrict | Book::OldStrict)
 }
 
-// The lengths of a class: from the least to the most, and perhaps another.
+// The lengths from the least to the most.
 #[derive(Clone, Copy)]
 struct Lengths {
     least: u8,
     most: u8,
 }
 
-// The other length of a class; 0 where it has none.
-#[tactic(auto, using(crate::proofs::Telling::telling), unfolding(crate::specs::Codes::other_length, crate::specs::Codes::class_code))]
-fn other_length(c: Class) -> u8
-    ensures { result ≡ other_length c }
-{
-    match c {
-        Class::Moment => 10,
-        _ => 0,
+impl Lengths {
+    // Is it one of them?
+    fn have(self, n: u8) -> bool
+        ensures { result ≡ within (self.least, self.most) n }
+    {
+        among(self.least, self.most, n)
+    }
+
+    // Does one of them fit the room?
+    #[tactic(auto, using(crate::proofs::Telling::telling), unfolding(crate::specs::Judge::range_possible))]
+    fn may_fit(self, room: u8) -> bool
+        ensures { result ≡ range_possible (self.least, self.most) room }
+    {
+        let least = self.least as u16;
+        let most = self.most as u16;
+        let wide = room as u16;
+        least + 2 <= wide && (wide <= most + 2 || least + 5 <= wide && least <= most)
     }
 }
 
-#[tactic(auto, using(crate::proofs::Telling::telling), unfolding(crate::specs::Codes::other_length, crate::specs::Codes::class_code, crate::specs::Table::whole, crate::specs::Codes::ranges))]
+// The length of a class that its range has not, if there is one.
+#[tactic(auto, unfolding(crate::specs::Codes::other_length))]
+fn other_length(c: Class) -> Option<u8>
+    ensures { result ≡ other_length c }
+{
+    match c {
+        Class::Moment => Some(10),
+        _ => None,
+    }
+}
+
+#[tactic(auto, using(crate::proofs::Telling::telling), unfolding(crate::specs::Codes::other_length, crate::specs::Table::whole, crate::specs::Codes::ranges))]
 fn lengths_of(c: Class) -> Lengths
     ensures { (whole c).lengths ≡ ranges result.least result.most (other_length c) }
 {
@@ -559,15 +536,15 @@ pub fn among(lo: u8, hi: u8, x: u8) -> bool
     lo <= x && x <= hi
 }
 
-// May contents of the class have this length?
+// May contents of the class have this length? The other one is asked for only where the range has failed.
+#[tactic(auto, using(crate::proofs::Telling::telling, crate::proofs::OtherLength::lengths_are), unfolding(crate::proofs::OtherLength::is_other))]
 fn length_ok(c: Class, n: u8) -> bool
     ensures { result ≡ length_fits c n }
 {
-    let l = lengths_of(c);
-    among(l.least, l.most, n)
-        || {
-            let other = other_length(c);
-            other != 0 && n == other
+    lengths_of(c).have(n)
+        || match other_length(c) {
+            Some(other) => n == other,
+            None => false,
         }
 }
 
@@ -589,25 +566,19 @@ pub fn length_fits(c: Class, room: u8, n: u8) -> bool
     length_ok(c, n) && room_ok(n, room)
 }
 
-#[tactic(auto, using(crate::proofs::Telling::telling), unfolding(crate::specs::Judge::range_possible))]
-fn room_for(lo: u8, hi: u8, room: u8) -> bool
-    ensures { result ≡ range_possible (lo, hi) room }
-{
-    let least = lo as u16;
-    let most = hi as u16;
-    let wide = room as u16;
-    least + 2 <= wide && (wide <= most + 2 || least + 5 <= wide && least <= most)
-}
-
 // Does one of the lengths of the class fit the room?
+#[tactic(auto, using(crate::proofs::Telling::telling, crate::proofs::OtherLength::possible_are), unfolding(crate::specs::Judge::possible, crate::proofs::OtherLength::other_possible))]
 pub fn possible(c: Class, room: u8) -> bool
     ensures { result ≡ judge.possible c room }
 {
-    let l = lengths_of(c);
-    room_for(l.least, l.most, room)
-        || {
-            let other = other_length(c);
-            other != 0 && room_for(other, other, room)
+    lengths_of(c).may_fit(room)
+        || match other_length(c) {
+            Some(other) => Lengths {
+                least: other,
+                most: other,
+            }
+            .may_fit(room),
+            None => false,
         }
 }
 
@@ -631,5 +602,5 @@ pub fn same_octets(v: &[u8], w: &[u8]) -> bool
 pub fn reference_of(high: u8, low: u8) -> u16
     ensures { result ≡ reference_of high low }
 {
-    256 * (high as u16) + low as u16
+    u16::from_be_bytes([high, low])
 }

@@ -1,5 +1,6 @@
 -- `contents::fits` meets its contract: the length is one of the class's, and each octet may stand where it stands.
 -- Assumes nothing.
+use mathlib.Core.Path.{◌∙◌}
 use Rattle.rules.proofs.Returns.{via}
 use Rattle.contents.proofs.Fitting.{too_long, length_not, octets_decide}
 use Rattle.contents.proofs.fits.Goals as goal
@@ -13,4 +14,4 @@ returns-then-length_fits c =
     c.first_wrong.ensures
 
 pub returns-else-length_fits : goal.returns-else-length_fits
-returns-else-length_fits c = length_not _ _ (via _ _ _ c.length_fits.ensures c.if-length_fits.false)
+returns-else-length_fits c = c.if-length_fits.false ∙ length_not _ _ (via _ _ _ c.length_fits.ensures c.if-length_fits.false)

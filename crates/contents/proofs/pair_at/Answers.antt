@@ -2,13 +2,15 @@
 -- Assumes nothing.
 use mathlib.Core.Path.{◌∙◌}
 use Rattle.rules.proofs.Standing.{no_pair, pair_there}
+use native.Mathlib.Omega.{arith}
 use borrow.Author.Rules.{rules}
 use Rattle.contents.proofs.pair_at.Goals as goal
 
-pub returns-then-v-at : goal.returns-then-v-at
-returns-then-v-at c = no_pair _ _ _ c.if-v-at.true
+pub returns-else-at-v : goal.returns-else-at-v
+returns-else-at-v c =
+    grind (arith, no_pair (c.args.range) c.args.v.now c.args.at c.if-at-v.false)
 
-pub returns-else-v-at : goal.returns-else-v-at
-returns-else-v-at c =
+pub returns-then-at-v : goal.returns-then-at-v
+returns-then-at-v c =
     let a = c.args in
-    c.two_digits.ensures ∙ pair_there (a.lo, a.hi) a.v.now a.at (search rules)
+    c.two_digits.ensures ∙ pair_there a.range a.v.now a.at (search rules)

@@ -17,7 +17,7 @@ pub bounds-v-1 : goal.bounds-v-1
 bounds-v-1 c =
     omega (
       arith,
-      connection_two _ _ (via _ _ _ c.selector_ok.ensures c.if-selector_ok.true) c.if-first-eq1.true,
+      connection_two _ _ (via _ _ _ c.selector_ok.ensures c.if-not-selector_ok.false) c.in-1.is,
     )
 
 pub kind_along-requires : goal.kind_along-requires
@@ -32,29 +32,29 @@ overflow_add-result c =
     omega (arith, c.requires.1, rest, most, length-drop 1 v) in
     search rules
 
-pub returns-then-v-le7 : goal.returns-then-v-le7
+pub returns-in-1 : goal.returns-in-1
 unfolding pick
-returns-then-v-le7 c =
+returns-in-1 c =
     let v = c.args.v.now in
-    let told = via _ _ _ c.selector_ok.ensures c.if-selector_ok.true in
-    terminal_code v (connection_two _ _ told c.if-first-eq1.true) told c.if-first-eq1.true true
+    let told = via _ _ _ c.selector_ok.ensures c.if-not-selector_ok.false in
+    terminal_code v (connection_two _ _ told c.in-1.is) told c.in-1.is true
     (yes_le _ _ c.if-v-le7.true)
 
-pub returns-else-v-le7 : goal.returns-else-v-le7
+pub returns-in-1-2 : goal.returns-in-1-2
 unfolding pick
-returns-else-v-le7 c =
+returns-in-1-2 c =
     let v = c.args.v.now in
-    let told = via _ _ _ c.selector_ok.ensures c.if-selector_ok.true in
-    terminal_code v (connection_two _ _ told c.if-first-eq1.true) told c.if-first-eq1.true false
+    let told = via _ _ _ c.selector_ok.ensures c.if-not-selector_ok.false in
+    terminal_code v (connection_two _ _ told c.in-1.is) told c.in-1.is false
     (no_le _ _ c.if-v-le7.false)
 
-pub returns-else-first-eq1 : goal.returns-else-first-eq1
-returns-else-first-eq1 c =
+pub returns-in_default : goal.returns-in_default
+returns-in_default c =
     let v = c.args.v.now in
-    terminal_digits v c.requires.1 (via _ _ _ c.selector_ok.ensures c.if-selector_ok.true) c.if-first-eq1.false _
+    terminal_digits v c.requires.1 (via _ _ _ c.selector_ok.ensures c.if-not-selector_ok.false) (omega arith) _
     (rw (behind_first v c.requires.1) at c.kind_along.ensures)
 
-pub returns-else-selector_ok : goal.returns-else-selector_ok
-returns-else-selector_ok c =
+pub returns-then-not-selector_ok : goal.returns-then-not-selector_ok
+returns-then-not-selector_ok c =
     terminal_stops c.args.v.now c.requires.1
-    (via _ _ _ c.selector_ok.ensures c.if-selector_ok.false)
+    (via _ _ _ c.selector_ok.ensures c.if-not-selector_ok.true)

@@ -43,8 +43,8 @@ overflow_add-begun c =
 pub at_header-requires : goal.at_header-requires
 at_header-requires c = (place_small _ (sound_rules _) _ _ c.requires.0, count_small _ (sound_rules _) _ _ c.requires.0)
 
-pub overflow_add-result-else-stop-eq8 : goal.overflow_add-result-else-stop-eq8
-overflow_add-result-else-stop-eq8 c =
+pub overflow_add-result-in_default : goal.overflow_add-result-in_default
+overflow_add-result-in_default c =
     let known = c.shared_slice_known-1 in
     let a = c.args in
     omega (
@@ -53,35 +53,35 @@ overflow_add-result-else-stop-eq8 c =
           (octets_known a.octets.now known.given) c.requires.0 _ c.through-stop.ensures,
     )
 
-pub returns-then-stop-eq0 : goal.returns-then-stop-eq0
-returns-then-stop-eq0 c =
+pub returns-in-0-default : goal.returns-in-0-default
+returns-in-0-default c =
     let known = c.shared_slice_known-1 in
     let a = c.args in
     let octets = octets_known a.octets.now known.given in
     jumped _ (sound_rules _) _ _ _ _ _ _
     (to_message _ (sound_rules _) _ _ _ _ c.requires.1 octets c.requires.0 _
-    c.through-stop.ensures c.if-stop-eq0.true) _ refl
+    c.through-stop.ensures c.in-0-default.is-0) _ refl
 
-pub returns-then-stop-eq0-2 : goal.returns-then-stop-eq0-2
-returns-then-stop-eq0-2 c =
+pub returns-in-8-eq0 : goal.returns-in-8-eq0
+returns-in-8-eq0 c =
     one_step _ (sound_rules _) _ _ _ _ _ c.requires.0 c.requires.1
-    (omega (arith, c.shared_slice_known-then-stop-eq0-2-1.given c.args.i)) c.at_header.ensures
+    (omega (arith, c.shared_slice_known-in-8-eq0-1.given c.args.i)) c.at_header.ensures
 
-pub returns-else-stop-eq0-2 : goal.returns-else-stop-eq0-2
-returns-else-stop-eq0-2 c =
+pub returns-in-8-default : goal.returns-in-8-default
+returns-in-8-default c =
     let known = c.shared_slice_known-1 in
     let a = c.args in
     let octets = octets_known a.octets.now known.given in
     jumped _ (sound_rules _) _ _ _ _ _ _
     (to_header _ (sound_rules _) _ _ _ _ c.requires.1 octets c.requires.0 _
-    c.through-stop.ensures c.if-stop-eq8.true c.if-stop-eq0-2.false) _ refl
+    c.through-stop.ensures c.in-8-default.is-0 c.in-8-default.is-1.1) _ refl
 
-pub returns-else-stop-eq8 : goal.returns-else-stop-eq8
-returns-else-stop-eq8 c =
+pub returns-in_default : goal.returns-in_default
+returns-in_default c =
     let known = c.shared_slice_known-1 in
     let a = c.args in
     let octets = octets_known a.octets.now known.given in
     jumped _ (sound_rules _) _ _ _ _ _ _
     (to_refusal _ (sound_rules _) _ _ _ _ c.requires.1 octets c.requires.0 _
-    c.through-stop.ensures c.if-stop-eq0.false c.if-stop-eq8.false _
+    c.through-stop.ensures (omega arith) (omega arith) _
     c.parameter_of.ensures) _ (add_assoc a.i _ 1)

@@ -39,25 +39,25 @@ by_book : (l : Listener) (h : List ℕ) (b c : Book) (r : Heard) → b ≡ c →
 by_book l h b c r e p = p ∙ ap (λ (x : Book). heard_in (language_of x) l h) e
 
 pub run-ran-requires : goal.run-ran-requires
-run-ran-requires c = T_of _ (sym c.in_range.ensures ∙ c.if-in_range.true)
+run-ran-requires c = T_of _ (sym c.in_range.ensures ∙ c.if-not-in_range.false)
 
-pub returns-then-is_known : goal.returns-then-is_known
+pub returns : goal.returns
 unfolding heard_in
-returns-then-is_known c =
+returns c =
     by_book _ _ _ _ _ c.book_of-book.ensures
-    (pick_t _ _ _ _ (sym c.in_range.ensures ∙ c.if-in_range.true)
-    (pick_t _ _ _ _ (sym c.is_known.ensures ∙ c.if-is_known.true)
+    (pick_t _ _ _ _ (sym c.in_range.ensures ∙ c.if-not-in_range.false)
+    (pick_t _ _ _ _ (sym c.is_known.ensures ∙ c.if-not-is_known.false)
     (together _ _ _ _ _ _ _ c.run-ran.ensures c.answer_of.ensures)))
 
-pub returns-else-is_known : goal.returns-else-is_known
+pub returns-then-not-is_known : goal.returns-then-not-is_known
 unfolding heard_in
-returns-else-is_known c =
+returns-then-not-is_known c =
     by_book _ _ _ _ _ c.book_of-book.ensures
-    (pick_t _ _ _ _ (sym c.in_range.ensures ∙ c.if-in_range.true)
-    (pick_f _ _ _ _ (sym c.is_known.ensures ∙ c.if-is_known.false) c.untaken.ensures))
+    (pick_t _ _ _ _ (sym c.in_range.ensures ∙ c.if-not-in_range.false)
+    (pick_f _ _ _ _ (sym c.is_known.ensures ∙ c.if-not-is_known.true) c.untaken-then-not-is_known.ensures))
 
-pub returns-else-in_range : goal.returns-else-in_range
+pub returns-then-not-in_range : goal.returns-then-not-in_range
 unfolding heard_in
-returns-else-in_range c =
+returns-then-not-in_range c =
     by_book _ _ _ _ _ c.book_of-book.ensures
-    (pick_f _ _ _ _ (sym c.in_range.ensures ∙ c.if-in_range.false) c.untaken-else-in_range.ensures)
+    (pick_f _ _ _ _ (sym c.in_range.ensures ∙ c.if-not-in_range.true) c.untaken.ensures)

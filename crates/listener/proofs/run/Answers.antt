@@ -1,13 +1,23 @@
 -- `listener::run` meets its contract. The loop's invariant: the state is in range, and the run from here on gives
 -- what the whole run gives. The measure is what is left of the run.
 -- Assumes nothing.
-use Rattle.std.proofs.Common.{T, drop, sym, refl, ap, ◌∙◌, subst, arith, rules}
+use Rattle.rules.specs.declared.Spot.{Spot}
+use Rattle.rules.specs.declared.Stage.{Stage}
+use Rattle.rules.specs.declared.State.TheVariants.{Waiting, Message, Refused}
+use Rattle.std.proofs.Common.{◌≡◌, true, T, drop, sym, refl, ap, ◌∙◌, subst, arith, rules}
 use Rattle.rules.specs.Table.{rules_of}
 use Rattle.rules.specs.Judge.{machine, in_range}
 use Rattle.rules.specs.declared.State.{State}
 use Rattle.listener.specs.Heard.{stopped, run_from}
 use Rattle.listener.proofs.Runs.{run_zero, ran_stopped, ran_out}
 use Rattle.listener.proofs.run.Goals as goal
+
+-- a state that doesn't wait has its answer
+ended : (s : State) → ((t : Stage) (q : Spot) → s ≡ Waiting t q → ⊥) → stopped s ≡ true
+unfolding stopped
+ended (Waiting t q) n = absurd (n t q refl)
+ended (Message k) n = refl
+ended (Refused f) n = refl
 
 pub loop-i-init : goal.loop-i-init
 loop-i-init c = (search rules, c.requires, run_zero _ _ _)
@@ -33,13 +43,9 @@ loop-i-preserved c =
           (sym c.in-Waiting.is) ∙ at.invariant.2,
     )
 
-pub returns-in-Message : goal.returns-in-Message
+pub returns-in_default : goal.returns-in_default
 unfolding stopped
-returns-in-Message c = sym (ran_stopped _ _ _ _ (rw c.in-Message.is refl)) ∙ c.loop-i.invariant.2
+returns-in_default c = sym (ran_stopped _ _ _ _ (ended _ c.in_default.not-Waiting)) ∙ c.loop-i.invariant.2
 
-pub returns-in-Refused : goal.returns-in-Refused
-unfolding stopped
-returns-in-Refused c = sym (ran_stopped _ _ _ _ (rw c.in-Refused.is refl)) ∙ c.loop-i.invariant.2
-
-pub returns : goal.returns
-returns c = sym (ran_out _ _ _ _ c.loop-i-test.false) ∙ c.loop-i.invariant.2
+pub returns-after-loop-i : goal.returns-after-loop-i
+returns-after-loop-i c = sym (ran_out _ _ _ _ c.loop-i-test.false) ∙ c.loop-i.invariant.2
