@@ -20,10 +20,9 @@ use Rattle.message.specs.Judges.{verdict_number}
 use Rattle.message.proofs.Judges.{told_small}
 use Rattle.desk.specs.declared.Desk.{Desk}
 use Rattle.desk.specs.declared.Outcome.{Outcome}
-use Rattle.rules.specs.declared.Named.{Named}
 use Rattle.desk.specs.References.{places_fit}
 use Rattle.desk.specs.Holding.{Fit}
-use Rattle.desk.specs.Told.{told, refusal}
+use Rattle.desk.specs.Told.{told, refusal, Settling}
 use Rattle.desk.specs.Settle.{refused, refused_with, settle_of, settled_by_none, settle_in}
 use Rattle.desk.specs.Settles.{Settles, SettlesBy}
 use Rattle.desk.proofs.Holding.{fit_of, of_fit}
@@ -31,10 +30,10 @@ use Rattle.desk.proofs.Told.{number_is, place_is, parameter_is}
 use Rattle.desk.proofs.Settles as settles
 
 -- an outcome by the edition e, and one by none
-abbrev pub named : ℕ → Outcome → Named Outcome
+abbrev pub named : ℕ → Outcome → Settling
 named e x = record { edition = named_by (told x.answer).number e; answer = x }
 
-abbrev pub unnamed : Outcome → Named Outcome
+abbrev pub unnamed : Outcome → Settling
 unnamed x = record { edition = 0; answer = x }
 
 module _ (e w : ℕ) (d : Desk) (o : List ℕ) where
@@ -178,7 +177,7 @@ module _ (e w : ℕ) (d : Desk) (o : List ℕ) where
 
 -- ---- settling twice running
 module _ (e w : ℕ) (d : Desk) (o : List ℕ) where
-  abbrev again : Named Outcome → Named Outcome
+  abbrev again : Settling → Settling
   again r = settle_in e w r.answer.desk o
 
   -- whatever the numbers and the octets, the second settling gives what the first gave

@@ -1,6 +1,7 @@
 -- A reference stands as the last word on it says: call by call, a change says what it leaves. A call by unknown
 -- numbers is refused, and says nothing.
 -- Assumes nothing.
+use Rattle.desk.specs.Told.{Settling}
 use Rattle.std.proofs.Common.{ℕ, Result, Ok, Err}
 use Prim.Native.Nat.{ℕ}
 use mathlib.Core.Path.{◌≡◌, sym, subst}
@@ -22,7 +23,6 @@ use Rattle.desk.specs.declared.Change.{Change}
 use Rattle.desk.specs.declared.Change.TheVariants.{Nothing, Adds, Removes}
 use Rattle.desk.specs.declared.Desk.{Desk}
 use Rattle.desk.specs.declared.Outcome.{Outcome}
-use Rattle.rules.specs.declared.Named.{Named}
 use Rattle.desk.specs.References.{places_fit, is_full, places_after}
 use Rattle.desk.specs.Holding.{Open, Fit}
 use Rattle.desk.proofs.Holding.{fit_of}
@@ -107,7 +107,7 @@ module _ (book : Book) where
 
 -- by an edition and a way
 module _ (e w r : ℕ) (d : Desk) (o : List ℕ) where
-  abbrev SaysBy : Named Outcome → Type 0
+  abbrev SaysBy : Settling → Type 0
   SaysBy x = Says (book_of e w) r d o x.answer
 
   says_by : SaysBy (settle_in e w d o)

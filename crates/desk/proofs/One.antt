@@ -27,10 +27,9 @@ use Rattle.message.specs.Judges.{verdict_number}
 use Rattle.message.proofs.One.{judges_one}
 use Rattle.desk.specs.declared.Desk.{Desk}
 use Rattle.desk.specs.declared.Outcome.{Outcome}
-use Rattle.rules.specs.declared.Named.{Named}
 use Rattle.desk.specs.References.{absent, held}
 use Rattle.desk.specs.Holding.{Fit, Lowest, Added, Removed}
-use Rattle.desk.specs.Told.{told, refusal}
+use Rattle.desk.specs.Told.{told, refusal, Settling}
 use Rattle.desk.specs.Settles.{Notices, Settles, SettlesBy}
 use Rattle.desk.proofs.Holding.{closed_of, open_of}
 use Rattle.desk.proofs.Told.{told-done, unfit_iff, refused_iff, full_iff, done_iff, some_number, number_of_lem, noted_at}
@@ -162,7 +161,7 @@ module _ (e w : ℕ) (d : Desk) (o : List ℕ) where
   number (inl f) = 16
   number (inr m) = 17
 
-  none_told : (r : Named Outcome) → SettlesBy e w d o r → (T (known e w) → ⊥) →
+  none_told : (r : Settling) → SettlesBy e w d o r → (T (known e w) → ⊥) →
       (f : Fit d.places ⊎ (Fit d.places → ⊥)) → told r.answer.answer ≡ refusal (number f) 0 0
   none_told r A n (inl f) = (A.sixteen 0 0).1 (refl, refl, f, n)
   none_told r A n (inr m) = (A.seventeen 0 0).1 (refl, refl, m)
@@ -171,7 +170,7 @@ module _ (e w : ℕ) (d : Desk) (o : List ℕ) where
   least (inl f) = omega arith
   least (inr m) = omega arith
 
-  none_one : (r : Named Outcome) → SettlesBy e w d o r → (T (known e w) → ⊥) →
+  none_one : (r : Settling) → SettlesBy e w d o r → (T (known e w) → ⊥) →
       r.answer ≡ record { desk = d; answer = Err (noted (number (fits d)) 0) }
   none_one r A n =
       let t = none_told r A n (fits d) in
@@ -180,7 +179,7 @@ module _ (e w : ℕ) (d : Desk) (o : List ℕ) where
       let k = A.refusal_stays (omega (arith, number_is t, l)) in
       λ i. record { desk = k i; answer = a i }
 
-  module _ (r s : Named Outcome) (A : SettlesBy e w d o r) (B : SettlesBy e w d o s) where
+  module _ (r s : Settling) (A : SettlesBy e w d o r) (B : SettlesBy e w d o s) where
     outcome_one : r.answer ≡ s.answer
     outcome_one = go (decide (known e w))
       where

@@ -1,6 +1,7 @@
 -- What the promises of `new_desk` and `settle` say over the written rules, for whatever outcomes they allow (document
 -- 01, The desk; document 02, Q-5 and Q-6).
 -- Assumes nothing.
+use Rattle.desk.specs.Told.{Settling}
 use Rattle.desk.specs.declared.Outcome.{Outcome}
 use Prim.Native.Nat.{ℕ}
 use mathlib.Core.Path.{◌≡◌, sym, ◌∙◌, ap, subst}
@@ -8,7 +9,6 @@ use mathlib.Core.List.{List, [], ◌∷◌}
 use mathlib.Core.Option.{none}
 use Rattle.rules.specs.Octets.{Octets}
 use Rattle.desk.specs.declared.Desk.{Desk}
-use Rattle.rules.specs.declared.Named.{Named}
 use Rattle.desk.specs.References.{place_count}
 use Rattle.desk.specs.Holding.{Fit}
 use Rattle.desk.proofs.Holding.{fit_free}
@@ -27,7 +27,7 @@ abbrev pub NewDeskGives : Desk → Type 0
 NewDeskGives d = (κs : _) × (a : _) × (s : _) × new_desk_reads.Post κs a d s
 
 -- by the edition e and the way w, of the desk d and the octets o, `settle` answers r
-abbrev pub SettleGives : ℕ → ℕ → Desk → List ℕ → Named Outcome → Type 0
+abbrev pub SettleGives : ℕ → ℕ → Desk → List ℕ → Settling → Type 0
 SettleGives e w d o r =
     (κs : _) × (a : _) × (s : _) × settle.Post κs a r s × (a.0 ≡ e) × (a.1.0 ≡ w) × (a.1.1.0 ≡ d)
     × (a.1.1.1.0.now ≡ o)
@@ -40,7 +40,7 @@ new_is_unknown d h = h.3
 pub new_fits : (d : Desk) → NewDeskGives d → Fit d.places
 new_fits d h = subst (λ (x : Desk). Fit x.places) (sym h.3) (fit_free place_count)
 
-module _ (e w : ℕ) (d : Desk) (o : List ℕ) (r : Named Outcome) (h : SettleGives e w d o r) where
+module _ (e w : ℕ) (d : Desk) (o : List ℕ) (r : Settling) (h : SettleGives e w d o r) where
   pub settle_is : r ≡ settle_in e w d o
   settle_is = h.3 ∙ (λ i. settle_in (h.4 i) (h.5 i) (h.6 i) (h.7 i))
 
@@ -51,11 +51,11 @@ module _ (e w : ℕ) (d : Desk) (o : List ℕ) (r : Named Outcome) (h : SettleGi
 
   -- the same octets settled twice running by the same numbers, known or not: the second call gives the desk, the
   -- answer and the edition that the first gave
-  pub settled_twice : (r' : Named Outcome) → SettleGives e w r.answer.desk o r' → Octets o → r' ≡ r
+  pub settled_twice : (r' : Settling) → SettleGives e w r.answer.desk o r' → Octets o → r' ≡ r
   settled_twice r' k q =
       k.3
       ∙ (λ i. settle_in (k.4 i) (k.5 i) (k.6 i) (k.7 i))
-      ∙ ap (λ (x : Named Outcome). settle_in e w x.answer.desk o) settle_is
+      ∙ ap (λ (x : Settling). settle_in e w x.answer.desk o) settle_is
       ∙ editions.settled_twice e w d o q
       ∙ sym settle_is
 

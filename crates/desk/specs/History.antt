@@ -1,6 +1,7 @@
 -- Which references are open after a history of calls (document 02, Q-6): as the last notice says that was done and
 -- added or removed them.
 -- Assumes nothing.
+use Rattle.desk.specs.Told.{Settling}
 use Rattle.desk.specs.declared.Outcome.{Outcome}
 use Rattle.rules.specs.declared.Fault.{Fault}
 use Rattle.std.specs.Prelude.{ℕ, ◌≡◌, Bool, true, false, ◌↔◌, List, [], ◌∷◌, get_or, T, Result, Ok, Err}
@@ -13,7 +14,6 @@ use Rattle.rules.specs.Message.{octets, LegalMessage}
 use Rattle.rules.specs.Counting.{counted}
 use Rattle.desk.specs.declared.Change.{Change}
 use Rattle.desk.specs.declared.Change.TheVariants.{Nothing, Adds, Removes}
-use Rattle.rules.specs.declared.Named.{Named}
 use Rattle.desk.specs.Holding.{Open}
 use Rattle.desk.specs.Settle.{change_of, counted_in}
 use Rattle.rules.specs.Octets.{reference_of}
@@ -29,7 +29,7 @@ pub record Call : Type 0 where
   pub edition : ℕ
   pub way : ℕ
   pub octets : List ℕ
-  pub settled : Named Outcome
+  pub settled : Settling
 
 -- the rules of a call
 abbrev pub rules_in : Call → Rules

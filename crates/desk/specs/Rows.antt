@@ -19,8 +19,7 @@ use Rattle.desk.specs.declared.Lamp.{Lamp}
 use Rattle.desk.specs.declared.Lamp.TheVariants as lamp
 use Rattle.desk.specs.declared.Desk.{Desk}
 use Rattle.desk.specs.declared.Outcome.{Outcome}
-use Rattle.rules.specs.declared.Named.{Named}
-use Rattle.desk.specs.Told.{told}
+use Rattle.desk.specs.Told.{told, Settling}
 use Rattle.desk.specs.References.{free, held, place_with, absent, may_stand, places_fit}
 use Rattle.desk.specs.References.{change_by, is_full, places_after}
 use Rattle.desk.specs.Settle.{new_desk, waiting_after, lamp_after, change_in, change_of, noticed, counted_in, settled_notice, settled_message, settled_under, refused_with, settle_of, settled_by_none, settle_in}
@@ -43,7 +42,7 @@ done w l = settled (desk w l)
 abbrev refused : ℕ → ℕ → Desk → Outcome
 refused k p d = record { desk = d; answer = Err (noted k p) }
 
-abbrev by : ℕ → Outcome → Named Outcome
+abbrev by : ℕ → Outcome → Settling
 by e x = record { edition = e; answer = x }
 
 -- the references 101H to 110H

@@ -15,8 +15,7 @@ use Rattle.desk.specs.declared.Change.{Change}
 use Rattle.desk.specs.declared.Change.TheVariants.{Nothing}
 use Rattle.desk.specs.declared.Desk.{Desk}
 use Rattle.desk.specs.declared.Outcome.{Outcome}
-use Rattle.rules.specs.declared.Named.{Named}
-use Rattle.desk.specs.Told.{told}
+use Rattle.desk.specs.Told.{told, Settling}
 use Rattle.desk.specs.References.{place_count, free, places_fit, change_by, is_full, places_after}
 
 -- number and lamp unknown, all sixteen places free
@@ -93,7 +92,7 @@ settled_by_none d = pick (places_fit d.places) (refused_with 16 d) (refused_with
 
 -- the outcome by an edition and a way, and the edition that its answer names: by the book of known numbers, and
 -- without one where the edition or the way is unknown
-unfoldable pub settle_in : ℕ → ℕ → Desk → List ℕ → Named Outcome
+unfoldable pub settle_in : ℕ → ℕ → Desk → List ℕ → Settling
 settle_in e w d o =
     pick (known e w)
     (record {

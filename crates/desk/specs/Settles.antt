@@ -15,8 +15,7 @@ use Rattle.rules.specs.declared.Fault.{Fault}
 use Rattle.message.specs.Told as message
 use Rattle.message.specs.Judges.{Judges, verdict_number}
 use Rattle.desk.specs.declared.Outcome.{Outcome}
-use Rattle.rules.specs.declared.Named.{Named}
-use Rattle.desk.specs.Told.{told, success, refusal, Clear}
+use Rattle.desk.specs.Told.{told, success, refusal, Clear, Settling}
 use Rattle.rules.specs.Octets.{reference_of}
 
 -- the notice m makes the desk e of the desk d
@@ -81,7 +80,7 @@ pub record Settles (R : Rules) (d : Desk) (o : List ℕ) (r : Outcome) : Type 0 
   pub as_many : length r.desk.places ≡ length d.places
 
 -- by the edition e and the way w, the desk d and the octets o went in, and r came back
-pub record SettlesBy (e w : ℕ) (d : Desk) (o : List ℕ) (r : Named Outcome) : Type 0 where
+pub record SettlesBy (e w : ℕ) (d : Desk) (o : List ℕ) (r : Settling) : Type 0 where
   -- by known numbers all that is said of their book
   pub by_book : T (known e w) → Settles (rules_of (book_of e w)) d o r.answer
   -- number, place and parameter tell the answer, by unknown numbers too

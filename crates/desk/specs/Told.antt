@@ -1,8 +1,14 @@
 -- What the answer of settling tells (document 01, The forms we expect: a definition provides number and values for
 -- each case).
 -- Assumes nothing.
+use Rattle.desk.specs.declared.Outcome.{Outcome}
+use Rattle.rules.specs.declared.Named.{Named}
 use Rattle.rules.specs.declared.Fault.{Fault}
 use Rattle.std.specs.Prelude.{ℕ, ◌≤◌, Result, Ok, Err}
+
+-- an outcome, beside the edition that its answer names
+abbrev pub Settling : Type 0
+Settling = Named Outcome
 
 -- number, place and parameter of a refusal; 0 where there is none
 pub record Told : Type 0 where
