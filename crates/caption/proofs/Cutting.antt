@@ -1,5 +1,7 @@
 -- How texts are searched octet by octet, and how lines are cut off a directory one after the other.
 -- Assumes nothing.
+use Rattle.rules.proofs.First.{index_most, found}
+use Rattle.rules.specs.First.{index_of}
 use Rattle.std.proofs.Common.{Option, None}
 use Prim.Native.Nat.{ℕ, suc, ◌+◌, ◌-◌, ◌≤◌, ◌<◌}
 use mathlib.Core.Path.{◌≡◌, refl, sym, ◌∙◌, ap, ap₂}
@@ -20,43 +22,12 @@ use Rattle.rules.proofs.Returns.{T_of, holds}
 use Rattle.rules.proofs.Telling.{telling, pick_is, eq_is, same_is}
 use Rattle.rules.proofs.Pairwise.{octets_are}
 use Rattle.caption.specs.declared.CallerText.{CallerText}
-use Rattle.caption.specs.Lines.{on_first, lines_of, index_of, before, behind, names}
+use Rattle.caption.specs.Lines.{on_first, lines_of, before, behind, names}
 use Rattle.caption.specs.Caption.{lookup_from, entry_at}
 
 -- ---- the search for an octet x, from an index on
--- the place that `position` finds
-pub index_is : (x : ℕ) (l : List ℕ) → index_of x l ≡ position_or_len (λ (y : ℕ). eqb y x) l
-unfolding index_of
-index_is x l =
-    is_position_or_len (index_of x) (λ (y : ℕ). eqb y x) refl
-    (λ (y : ℕ) (l : List ℕ). grind (arith, pick_is, eq_is y x)) l
-
--- or the length, where it finds none
-pub placed : {X : Type 0} (p : X → Bool) (l : List X) → unwrap_or (position p l) (length l) ≡ position_or_len p l
-placed p l = grind (arith, prefix_len-le-length (λ x. not (p x)) l)
-
-module _ (x : ℕ) (s : List ℕ) (i : ℕ) (w : i + index_of x (drop i s) ≡ index_of x s) where
-  pub index_here : i < length s → get_or s i 0 ≡ x → i ≡ index_of x s
-  unfolding index_of
-  index_here h e = let z = ap (index_of x) (drop-cons s i 0 h) ∙ pick_yes _ _ _ (of_eq _ _ e) in omega arith
-
-  pub index_on : i < length s → (get_or s i 0 ≡ x → ⊥) → i + 1 + index_of x (drop (i + 1) s) ≡ index_of x s
-  unfolding index_of
-  index_on h n =
-      let z = ap (index_of x) (drop-cons s i 0 h) ∙ pick_not _ _ _ (λ t. n (eq_of _ _ t)) in
-      rw add-one (omega arith)
-
-  pub index_end : length s ≤ i → i ≡ index_of x s
-  unfolding index_of
-  index_end h = let z = ap (index_of x) (drop_of_length-le s h) in omega arith
-
-pub index_most : (x : ℕ) (l : List ℕ) → index_of x l ≤ length l
-unfolding index_of
-index_most x [] = omega arith
-index_most x (y ∷ l) =
-    pick_case (λ (k : ℕ). k ≤ suc (length l)) _ _ _ (λ _. omega arith) (λ _. omega (arith, index_most x l))
-
-pub ruleset line_words = (telling, same_is, index_is, placed, index_most)
+-- what the tests on a line tell
+pub ruleset line_words = (telling, same_is, found, index_most)
 
 -- ---- the first line of a directory ends at its first 0AH, or with it
 pub lines_cut : (d : List ℕ) → 0 < length d →

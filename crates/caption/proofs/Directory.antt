@@ -1,6 +1,8 @@
 -- The lines of a directory and its entries are what the words say, and the search finds the first line for the
 -- caller, where its text stands.
 -- Assumes nothing.
+use Rattle.rules.proofs.First.{index_most}
+use Rattle.rules.specs.First.{index_of}
 use Rattle.std.proofs.Common.{None}
 use Prim.Native.Nat.{ℕ, suc, ◌+◌, ◌<◌}
 use mathlib.Core.Path.{◌≡◌, refl, sym, ◌∙◌, ap, ap₂, subst}
@@ -17,9 +19,9 @@ use Rattle.rules.specs.Tests.{◌=?◌, pick}
 use Rattle.rules.proofs.Tests.{pick_yes, pick_not, both, join, of_eq, eq_of, of_le, le_of, decide, clash}
 use Rattle.rules.specs.Pairwise.{same_octets}
 use Rattle.rules.proofs.Pairwise.{octets_are, octets_self}
-use Rattle.caption.specs.Lines.{lines_of, index_of, before, behind, names}
+use Rattle.caption.specs.Lines.{lines_of, before, behind, names}
 use Rattle.caption.specs.Caption.{lookup_from, lookup, entry_at}
-use Rattle.caption.proofs.Cutting.{index_most, lines_cut}
+use Rattle.caption.proofs.Cutting.{lines_cut}
 use Rattle.caption.specs.Directory.{For, NoneFor, FirstFor, span, text_place}
 
 -- no octet of a text is x

@@ -1,6 +1,7 @@
 -- What is found lies inside the slice that it names: contents inside the message, an entry's text inside the
 -- directory.
 -- Assumes nothing.
+use Rattle.rules.specs.First.{index_of}
 use Rattle.std.proofs.Common.{ℕ, Result, Ok, Err, Option, Some, None}
 use Prim.Native.Nat.{ℕ, suc, ◌+◌, ◌-◌, ◌≤◌, ◌<◌}
 use mathlib.Core.Path.{◌≡◌, refl, sym, ◌∙◌, ap, subst}
@@ -19,7 +20,7 @@ use Rattle.message.proofs.Places.{Within, counted_inside}
 use Rattle.caption.specs.declared.CallerText.{CallerText}
 use Rattle.caption.specs.declared.Shown.{Shown}
 use Rattle.caption.specs.declared.Shown.TheVariants.{InMessage, InDirectory}
-use Rattle.caption.specs.Lines.{on_first, lines_of, index_of, behind, names}
+use Rattle.caption.specs.Lines.{on_first, lines_of, behind, names}
 use Rattle.caption.specs.Directory.{span}
 use Rattle.caption.specs.Told.{told, Finding}
 use Rattle.caption.specs.Caption.{lookup_from, by_entry, by_caller, by_name, find_under, find_of, find_in, slice_of, part_text, caption_in, entry_at}

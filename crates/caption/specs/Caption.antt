@@ -1,6 +1,7 @@
 -- The caption of a message: a part of the message or of the directory (document 01, The caption), by an edition and a
 -- way (document 02, Q-5 and Q-11).
 -- Assumes nothing.
+use Rattle.rules.specs.First.{index_of}
 use Rattle.std.specs.Prelude.{ℕ, suc, ◌+◌, ◌-◌, ◌≤◌, ◌<◌, ◌≡◌, true, List, [], ◌∷◌, length, take, drop, Result, Ok, Err, Option, Some, None}
 use Rattle.rules.specs.Tests.{pick}
 use Rattle.rules.specs.Table.{Rules, rules_of}
@@ -11,7 +12,7 @@ use Rattle.message.specs.declared.Part.{Part}
 use Rattle.message.specs.Verdict.{verdict_of}
 use Rattle.message.specs.Parts.{counted_at}
 use Rattle.caption.specs.Told.{told, Finding}
-use Rattle.caption.specs.Lines.{index_of, behind, names, lines_of}
+use Rattle.caption.specs.Lines.{behind, names, lines_of}
 use Rattle.caption.specs.declared.CallerText.{CallerText}
 use Rattle.caption.specs.declared.Shown.{Shown}
 use Rattle.caption.specs.declared.Shown.TheVariants.{InMessage, InDirectory}

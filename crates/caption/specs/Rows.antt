@@ -1,6 +1,7 @@
 -- Captions computed: document 01's example message with directories of all kinds, a name, names and callers that do
 -- not count, and refusals; then document 02's Q-5: the old edition, and an unknown one.
 -- Assumes nothing.
+use Rattle.rules.specs.First.{index_of}
 use Rattle.caption.specs.Told.{Finding}
 use Rattle.rules.specs.declared.Fault.{Fault}
 use Rattle.std.specs.Prelude.{◌≡◌, refl, List, [], ◌∷◌, ℕ, Result, Err, Ok}
@@ -20,7 +21,7 @@ use Rattle.message.specs.Verdict.{judged, verdict_of}
 use Rattle.message.specs.Parts.{parameter_at, matched, search_from, counted_at}
 use Rattle.caption.specs.declared.Shown.{Shown}
 use Rattle.caption.specs.declared.Shown.TheVariants.{InMessage, InDirectory}
-use Rattle.caption.specs.Lines.{on_first, lines_of, index_of, before, behind, names}
+use Rattle.caption.specs.Lines.{on_first, lines_of, before, behind, names}
 use Rattle.caption.specs.Caption.{lookup_from, by_entry, by_caller, by_name, find_under, find_of, find_in}
 
 -- the caller 40912, from octet 14 on

@@ -5,7 +5,8 @@
 ghost use Rattle.std.specs.Prelude.{ℕ, ◌≡◌, ◌==◌, position, ◌+◌, ◌≤◌, ◌<◌, length, take, drop};
 ghost use Rattle.rules.specs.Table.{rules_of};
 ghost use Rattle.message.specs.Parts.{counted_at};
-ghost use Rattle.caption.specs.Lines.{index_of, names};
+ghost use Rattle.rules.specs.First.{index_of};
+ghost use Rattle.caption.specs.Lines.{names};
 ghost use Rattle.caption.specs.Caption.{lookup, by_entry, by_caller, by_name, find_of, find_in, caption_in, code_of};
 
 use message::Part;
