@@ -1,6 +1,9 @@
 -- The lines of a directory and its entries are what the words say, and the search finds the first line for the
 -- caller, where its text stands.
 -- Assumes nothing.
+use Rattle.rules.proofs.First.{index_most}
+use Rattle.rules.specs.First.{index_of}
+use Rattle.std.proofs.Common.{None}
 use Prim.Native.Nat.{ℕ, suc, ◌+◌, ◌<◌}
 use mathlib.Core.Path.{◌≡◌, refl, sym, ◌∙◌, ap, ap₂, subst}
 use mathlib.Core.Bool.{Bool, true, false}
@@ -16,10 +19,9 @@ use Rattle.rules.specs.Tests.{◌=?◌, pick}
 use Rattle.rules.proofs.Tests.{pick_yes, pick_not, both, join, of_eq, eq_of, of_le, le_of, decide, clash}
 use Rattle.rules.specs.Pairwise.{same_octets}
 use Rattle.rules.proofs.Pairwise.{octets_are, octets_self}
-use Rattle.caption.specs.declared.CallerText.TheVariants.{Text, Missing}
-use Rattle.caption.specs.Lines.{lines_of, index_of, before, behind, names}
-use Rattle.caption.specs.Caption.{lookup_from, lookup}
-use Rattle.caption.proofs.Cutting.{index_most, lines_cut}
+use Rattle.caption.specs.Lines.{lines_of, before, behind, names}
+use Rattle.caption.specs.Caption.{lookup_from, lookup, entry_at}
+use Rattle.caption.proofs.Cutting.{lines_cut}
 use Rattle.caption.specs.Directory.{For, NoneFor, FirstFor, span, text_place}
 
 -- no octet of a text is x
@@ -138,38 +140,38 @@ first_or_none caller d = told (among caller (lines_of d))
 
 -- ---- the search finds exactly that line
 module _ (caller : List ℕ) where
-  entry_none : (at : ℕ) (ls : List (List ℕ)) → NoneFor caller ls → lookup_from caller at ls ≡ Missing
+  entry_none : (at : ℕ) (ls : List (List ℕ)) → NoneFor caller ls → lookup_from caller at ls ≡ None
   unfolding lookup_from
   entry_none at [] n = refl
   entry_none at (l ∷ ls) n = pick_not _ _ _ (λ t. n.0 (is_for_lem caller l t)) ∙ entry_none (at + suc (length l)) ls n.1
 
   entry_first : (w : List ℕ) → Without 0x3D caller → (later : List (List ℕ)) (at : ℕ) (ls : List (List ℕ)) →
       NoneFor caller ls →
-      lookup_from caller at (ls ++ (caller ++ 0x3D ∷ w) ∷ later) ≡ Text (at + (span ls + suc (length caller))) (length w)
+      lookup_from caller at (ls ++ (caller ++ 0x3D ∷ w) ∷ later) ≡ entry_at (at + (span ls + suc (length caller))) (length w)
   unfolding lookup_from span behind
   entry_first w p later at [] n =
       let k = index_at 0x3D caller w p in
       let z : at + suc (length caller) ≡ at + (0 + suc (length caller)) = omega arith in
       pick_yes _ _ _ (names_for caller w p)
-      ∙ ap₂ (λ (i : ℕ) (r : List ℕ). Text (at + suc i) (length r)) k
+      ∙ ap₂ (λ (i : ℕ) (r : List ℕ). entry_at (at + suc i) (length r)) k
       (ap (λ (i : ℕ). drop (suc i) (caller ++ 0x3D ∷ w)) k ∙ behind_at 0x3D caller w)
-      ∙ ap (λ (i : ℕ). Text i (length w)) z
+      ∙ ap (λ (i : ℕ). entry_at i (length w)) z
   entry_first w p later at (l ∷ ls) n =
       let z : at + suc (length l) + (span ls + suc (length caller)) ≡ at + (suc (length l) + span ls + suc
       (length caller)) = omega arith in
       pick_not _ _ _ (λ t. n.0 (is_for_lem caller l t))
       ∙ entry_first w p later (at + suc (length l)) ls n.1
-      ∙ ap (λ (i : ℕ). Text i (length w)) z
+      ∙ ap (λ (i : ℕ). entry_at i (length w)) z
 
-  pub none_found : (d : List ℕ) → NoneFor caller (lines_of d) → lookup caller d ≡ Missing
+  pub none_found : (d : List ℕ) → NoneFor caller (lines_of d) → lookup caller d ≡ None
   none_found d n = entry_none 0 (lines_of d) n
 
   pub first_found : (d : List ℕ) → Without 0x3D caller → (e : FirstFor caller d) →
-      lookup caller d ≡ Text (text_place e) (length e.text)
+      lookup caller d ≡ entry_at (text_place e) (length e.text)
   first_found d p e =
       ap (lookup_from caller 0) e.is
       ∙ entry_first e.text p e.later 0 e.earlier e.none
-      ∙ ap (λ (i : ℕ). Text i (length e.text)) (zero-add (text_place e))
+      ∙ ap (λ (i : ℕ). entry_at i (length e.text)) (zero-add (text_place e))
 
 -- ---- and the text stands there
 lines_some : (d l : List ℕ) (ls : List (List ℕ)) → lines_of d ≡ l ∷ ls → 0 < length d

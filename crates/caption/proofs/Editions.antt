@@ -1,6 +1,8 @@
 -- The caption finder by an edition and a way gives what is promised: by known numbers it is that by their book, and by
 -- unknown ones 16 with the empty part at the message's start.
 -- Assumes nothing.
+use Rattle.rules.specs.declared.Fault.{Fault}
+use Rattle.std.proofs.Common.{Result, Err}
 use Prim.Native.Nat.{ℕ}
 use mathlib.Core.Path.{◌≡◌, refl, sym, subst}
 use mathlib.Core.Logic.{◌⊎◌, inl, inr}
@@ -17,20 +19,18 @@ use Rattle.rules.proofs.Grammar.{spoken_of}
 use Rattle.message.specs.Judges.{verdict_number}
 use Rattle.message.proofs.Judges.{told_small}
 use Rattle.caption.specs.declared.Shown.{Shown}
-use Rattle.caption.specs.declared.Shown.TheVariants.{Refused}
-use Rattle.caption.specs.declared.Finding.{Finding}
-use Rattle.caption.specs.Told.{told, refusal}
+use Rattle.caption.specs.Told.{told, refusal, Finding}
 use Rattle.caption.specs.Caption.{find_of, find_in, slice_of}
 use Rattle.caption.specs.Finds.{Finds, FindsBy}
 use Rattle.caption.proofs.Told.{number_is, place_is, parameter_is}
 use Rattle.caption.proofs.Finds as finds
 
 -- what is shown by the edition e, and what by unknown numbers
-abbrev by : ℕ → Shown → Finding
-by e x = record { edition = e; shown = x }
+abbrev by : ℕ → Result Shown Fault → Finding
+by e x = record { edition = e; answer = x }
 
 abbrev by_none : Finding
-by_none = by 0 (Refused (noted 16 0))
+by_none = by 0 (Err (noted 16 0))
 
 module _ (e w : ℕ) (o d : List ℕ) where
   pub known_is : T (known e w) → find_in e w o d ≡ by e (find_of (rules_of (book_of e w)) o d)
@@ -42,7 +42,7 @@ module _ (e w : ℕ) (o d : List ℕ) where
   unknown_is n = pick_not _ _ _ n
 
   -- by known numbers
-  module _ (t : T (known e w)) (x : Shown) (F : Finds (rules_of (book_of e w)) o d x) where
+  module _ (t : T (known e w)) (x : Result Shown Fault) (F : Finds (rules_of (book_of e w)) o d x) where
     pub not_sixteen : (told x).number ≡ 16 → ⊥
     not_sixteen k = go F.numbers
       where

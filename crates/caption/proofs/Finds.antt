@@ -30,12 +30,11 @@ use Rattle.message.proofs.Told.{told-declined, accepted_iff, some_number, number
 use Rattle.message.specs.Parts.{counted_at, part_of}
 use Rattle.message.proofs.Searching.{counted_part}
 use Rattle.caption.specs.declared.CallerText.{CallerText}
-use Rattle.caption.specs.declared.CallerText.TheVariants.{Text, Missing}
 use Rattle.caption.specs.declared.Shown.{Shown}
-use Rattle.caption.specs.declared.Shown.TheVariants.{InMessage, InDirectory, Refused}
+use Rattle.caption.specs.declared.Shown.TheVariants.{InMessage, InDirectory}
 use Rattle.caption.specs.Told.{told}
 use Rattle.caption.proofs.Told.{told-refused, clear_of}
-use Rattle.caption.specs.Caption.{lookup, by_entry, by_caller, by_name, find_under, find_of, slice_of, part_text}
+use Rattle.caption.specs.Caption.{lookup, by_entry, by_caller, by_name, find_under, find_of, slice_of, part_text, entry_at}
 use Rattle.caption.proofs.Inside.{part_inside}
 use Rattle.caption.specs.Directory.{text_place}
 use Rattle.caption.proofs.Directory.{none_found, first_found, text_stands}
@@ -46,12 +45,12 @@ use Rattle.caption.specs.Finds.{Shows, Captions, Finds}
 
 -- ---- a part and its text
 module _ (o d : List ℕ) (start : ℕ) (v : List ℕ) where
-  message_shows : take (length v) (drop start o) ≡ v → Shows o d (InMessage start (length v)) 0 start v
+  message_shows : take (length v) (drop start o) ≡ v → Shows o d (Ok (InMessage start (length v))) 0 start v
   unfolding told slice_of part_text
   message_shows e =
       record { number = refl; place = refl; parameter = refl; side = refl; start = refl; size = refl; text = e }
 
-  directory_shows : take (length v) (drop start d) ≡ v → Shows o d (InDirectory start (length v)) 1 start v
+  directory_shows : take (length v) (drop start d) ≡ v → Shows o d (Ok (InDirectory start (length v))) 1 start v
   unfolding told slice_of part_text
   directory_shows e =
       record { number = refl; place = refl; parameter = refl; side = refl; start = refl; size = refl; text = e }
@@ -74,76 +73,55 @@ module _ (book : Book) where
         ∙ (counted_iff (rules_of book) m t v).1 c in
         cc
 
-    found : Shown
-    found = by_name (rules_of book) (counted_at (rules_of book) o 0x07) o d
+    found : Result Shown Fault
+    found = Ok (by_name (rules_of book) (counted_at (rules_of book) o 0x07) o d)
 
-    by_name_lem : (v : List ℕ) (c : Counts (rules_of book) m 0x07 v) → found ≡ InMessage (contents_at c.first) (length v)
+    by_name_lem : (v : List ℕ) (c : Counts (rules_of book) m 0x07 v) → found ≡ Ok (InMessage (contents_at c.first) (length v))
     unfolding found by_name
-    by_name_lem v c = ap (λ (p : Option Part). by_name (rules_of book) p o d) (counted_at_lem (rules_of book) m 0x07 v c)
+    by_name_lem v c = ap (λ (p : Option Part). Ok (by_name (rules_of book) p o d)) (counted_at_lem (rules_of book) m 0x07 v c)
 
     by_caller_lem : counted (rules_of book) m 0x07 ≡ none →
-        (v : List ℕ) (c : Counts (rules_of book) m 0x02 v) (e : CallerText) → lookup v d ≡ e →
-        found ≡ by_entry e (contents_at c.first) (length v)
+        (v : List ℕ) (c : Counts (rules_of book) m 0x02 v) (e : Option CallerText) → lookup v d ≡ e →
+        found ≡ Ok (by_entry e (contents_at c.first) (length v))
     unfolding found by_name by_caller
     by_caller_lem n v c e f =
-        ap (λ (p : Option Part). by_name (rules_of book) p o d) (nowhere 0x07 n)
-        ∙ ap (λ (p : Option Part). by_caller p o d) (counted_at_lem (rules_of book) m 0x02 v c)
-        ∙ ap (λ (x : CallerText). by_entry x (contents_at c.first) (length v))
+        ap (λ (p : Option Part). Ok (by_name (rules_of book) p o d)) (nowhere 0x07 n)
+        ∙ ap (λ (p : Option Part). Ok (by_caller p o d)) (counted_at_lem (rules_of book) m 0x02 v c)
+        ∙ ap (λ (x : Option CallerText). Ok (by_entry x (contents_at c.first) (length v)))
         (ap (λ (w : List ℕ). lookup w d) (holds 0x02 v c) ∙ f)
 
-    empty : counted (rules_of book) m 0x07 ≡ none → counted (rules_of book) m 0x02 ≡ none → found ≡ InMessage 0 0
+    empty : counted (rules_of book) m 0x07 ≡ none → counted (rules_of book) m 0x02 ≡ none → found ≡ Ok (InMessage 0 0)
     unfolding found by_name by_caller
     empty n k =
-        ap (λ (p : Option Part). by_name (rules_of book) p o d) (nowhere 0x07 n)
-        ∙ ap (λ (p : Option Part). by_caller p o d) (nowhere 0x02 k)
+        ap (λ (p : Option Part). Ok (by_name (rules_of book) p o d)) (nowhere 0x07 n)
+        ∙ ap (λ (p : Option Part). Ok (by_caller p o d)) (nowhere 0x02 k)
 
     captions : LegalMessage (rules_of book) m → Captions (rules_of book) m d found
-    unfolding by_entry
+    unfolding found by_entry
     captions l = record {
       name =
-          λ v c. subst (λ (r : Shown). Shows o d r 0 (contents_at c.first) v) (sym (by_name_lem v c))
+          λ v c. subst (λ (r : Result Shown Fault). Shows o d r 0 (contents_at c.first) v) (sym (by_name_lem v c))
           (message_shows o d _ v (holds 0x07 v c));
       entry =
-          λ n v c e. subst (λ (r : Shown). Shows o d r 1 (text_place e) e.text)
+          λ n v c e. subst (λ (r : Result Shown Fault). Shows o d r 1 (text_place e) e.text)
           (sym (by_caller_lem n v c _ (first_found v d (caller_plain book m l v c) e)))
           (directory_shows o d _ e.text (text_stands v d e));
       caller =
-          λ n v c k. subst (λ (r : Shown). Shows o d r 0 (contents_at c.first) v)
+          λ n v c k. subst (λ (r : Result Shown Fault). Shows o d r 0 (contents_at c.first) v)
           (sym (by_caller_lem n v c _ (none_found v d k))) (message_shows o d _ v (holds 0x02 v c));
-      nothing = λ n k. subst (λ (r : Shown). Shows o d r 0 0 []) (sym (empty n k)) (message_shows o d 0 [] refl);
+      nothing = λ n k. subst (λ (r : Result Shown Fault). Shows o d r 0 0 []) (sym (empty n k)) (message_shows o d 0 [] refl);
     }
 
   -- ---- the answer and the verdict
   module _ (o d : List ℕ) where
     -- a part is no refusal
-    abbrev Unrefused : Shown → Type 0
-    Unrefused r = ((told r).number ≡ 0) × ((f : Fault) → r ≡ Refused f → ⊥)
-
-    in_message : (start n : ℕ) → Unrefused (InMessage start n)
+    part_number : (r : Shown) → (told (Ok r)).number ≡ 0
     unfolding told
-    in_message start n = (refl, λ f e. clash cc)
-
-    in_directory : (start n : ℕ) → Unrefused (InDirectory start n)
-    unfolding told
-    in_directory start n = (refl, λ f e. clash cc)
-
-    by_entry_part : (e : CallerText) (start n : ℕ) → Unrefused (by_entry e start n)
-    unfolding by_entry
-    by_entry_part (Text at k) start n = in_directory at k
-    by_entry_part Missing start n = in_message start n
-
-    by_caller-part : (p : Option Part) → Unrefused (by_caller p o d)
-    unfolding by_caller
-    by_caller-part (Some w) = by_entry_part _ w.start w.length
-    by_caller-part None = in_message 0 0
-
-    by_name-part : (p : Option Part) → Unrefused (by_name (rules_of book) p o d)
-    unfolding by_name
-    by_name-part (Some w) = in_message w.start w.length
-    by_name-part None = by_caller-part (counted_at (rules_of book) o 0x02)
+    part_number (InMessage start n) = refl
+    part_number (InDirectory start n) = refl
 
     accepted_is : (v : Result ℕ Fault) (n : ℕ) → v ≡ Ok n →
-        find_under (rules_of book) v o d ≡ by_name (rules_of book) (counted_at (rules_of book) o 0x07) o d
+        find_under (rules_of book) v o d ≡ Ok (by_name (rules_of book) (counted_at (rules_of book) o 0x07) o d)
     unfolding find_under
     accepted_is v n e = rw e
 
@@ -153,16 +131,16 @@ module _ (book : Book) where
     accepted_of (Ok n) h e = (n, refl)
     accepted_of (Err f) h e = absurd (omega (arith, h f refl))
 
-    refused_of : (v : Result ℕ Fault) (f : Fault) → (find_under (rules_of book) v o d ≡ Refused f) ↔ (v ≡ Err f)
+    refused_of : (v : Result ℕ Fault) (f : Fault) → (find_under (rules_of book) v o d ≡ Err f) ↔ (v ≡ Err f)
     unfolding find_under
-    refused_of (Ok n) f = (λ e. absurd ((by_name-part (counted_at (rules_of book) o 0x07)).1 f e), λ e. clash cc)
+    refused_of (Ok n) f = (λ e. clash cc, λ e. clash cc)
     refused_of (Err g) f = (λ e. cc, λ e. cc)
 
     numbers_of_lem : (v : Result ℕ Fault) → ((f : Fault) → v ≡ Err f → T (verdict_number (language_of book) f.number)) →
         ((told (find_under (rules_of book) v o d)).number ≡ 0) ⊎ T
         (verdict_number (language_of book) (told (find_under (rules_of book) v o d)).number)
     unfolding find_under told
-    numbers_of_lem (Ok n) h = inl (by_name-part (counted_at (rules_of book) o 0x07)).0
+    numbers_of_lem (Ok n) h = inl (part_number _)
     numbers_of_lem (Err f) h = inr (h f refl)
 
   module _ (o d : List ℕ) (q : Octets o) where
@@ -173,7 +151,7 @@ module _ (book : Book) where
     J = judges_of book o q
 
     accepted : Accepts (rules_of book) o →
-        find_of (rules_of book) o d ≡ by_name (rules_of book) (counted_at (rules_of book) o 0x07) o d
+        find_of (rules_of book) o d ≡ Ok (by_name (rules_of book) (counted_at (rules_of book) o 0x07) o d)
     unfolding find_of
     accepted a = accepted_is o d v (length o) ((accepted_iff J (length o)).1 (refl, a))
 
@@ -182,7 +160,7 @@ module _ (book : Book) where
     unfolding found
     captions_of m l e =
         subst (Captions (rules_of book) m d)
-        (sym (accepted (m, l, e) ∙ ap (λ (x : List ℕ). by_name (rules_of book) (counted_at (rules_of book) x 0x07) x d)
+        (sym (accepted (m, l, e) ∙ ap (λ (x : List ℕ). Ok (by_name (rules_of book) (counted_at (rules_of book) x 0x07) x d))
         (sym e))) (captions m d l)
 
     pub finds : Finds (rules_of book) o d (find_of (rules_of book) o d)
@@ -193,7 +171,7 @@ module _ (book : Book) where
         λ e. let a =
             accepted_of o d v (λ f k. (told_small (spoken_of book) _ (number_of_lem J f k)).0) e in
             ((accepted_iff J a.0).0 a.1).1,
-        λ a. ap (λ (x : Shown). (told x).number) (accepted a) ∙ (by_name-part o d (counted_at (rules_of book) o 0x07)).0,
+        λ a. ap (λ (x : Result Shown Fault). (told x).number) (accepted a) ∙ part_number o d _,
       );
       verdict = v;
       judged = J;

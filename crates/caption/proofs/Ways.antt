@@ -16,7 +16,6 @@ use Rattle.rules.specs.declared.Fault.{Fault}
 use Rattle.message.specs.declared.Part.{Part}
 use Rattle.message.specs.Verdict.{verdict_of}
 use Rattle.message.proofs.Ways.{same_verdict, same_part}
-use Rattle.caption.specs.declared.Shown.TheVariants.{Refused}
 use Rattle.caption.specs.Caption.{by_caller, by_name, find_under, find_of, find_in}
 
 module _ (e : ℕ) (k : T (edition e)) (o : List ℕ) (a : Accepts (strict_of e) o) (d : List ℕ) where
@@ -27,7 +26,7 @@ module _ (e : ℕ) (k : T (edition e)) (o : List ℕ) (a : Accepts (strict_of e)
 
   under : (v : Result ℕ Fault) → find_under (strict_of e) v o d ≡ find_under (lenient_of e) v o d
   unfolding find_under
-  under (Ok n) = ap (λ (p : Option Part). by_name (strict_of e) p o d) (same_part e k o 0x07) ∙ names_by _
+  under (Ok n) = ap Ok (ap (λ (p : Option Part). by_name (strict_of e) p o d) (same_part e k o 0x07) ∙ names_by _)
   under (Err f) = refl
 
   same_found : find_of (strict_of e) o d ≡ find_of (lenient_of e) o d
@@ -40,4 +39,4 @@ module _ (e : ℕ) (k : T (edition e)) (o : List ℕ) (a : Accepts (strict_of e)
   same_finding =
       let x = ways_known e in
       let y = same_found in
-      λ i. pick (x i) (record { edition = e; shown = y i }) (record { edition = 0; shown = Refused (noted 16 0) })
+      λ i. pick (x i) (record { edition = e; answer = y i }) (record { edition = 0; answer = Err (noted 16 0) })

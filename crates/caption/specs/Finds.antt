@@ -12,16 +12,15 @@ use Rattle.rules.specs.declared.Fault.{Fault}
 use Rattle.message.specs.Told as message
 use Rattle.message.specs.Judges.{Judges, verdict_number}
 use Rattle.caption.specs.declared.Shown.{Shown}
-use Rattle.caption.specs.declared.Finding.{Finding}
 use Rattle.caption.specs.Lines.{lines_of}
-use Rattle.caption.specs.Told.{told, refusal, Clear}
+use Rattle.caption.specs.Told.{told, refusal, Clear, Finding}
 use Rattle.caption.specs.Caption.{slice_of, part_text}
 use Rattle.caption.specs.Directory.{NoneFor, FirstFor, text_place}
 use Rattle.message.specs.Places.{contents_at}
 
 -- nothing is declined, and the part holds the text v; it starts at a place of the message (side 0) or of the
 -- directory (side 1)
-pub record Shows (o d : List ℕ) (r : Shown) (which at : ℕ) (v : List ℕ) : Type 0 where
+pub record Shows (o d : List ℕ) (r : Result Shown Fault) (which at : ℕ) (v : List ℕ) : Type 0 where
   pub number : (told r).number ≡ 0
   pub place : (told r).place ≡ 0
   pub parameter : (told r).parameter ≡ 0
@@ -31,7 +30,7 @@ pub record Shows (o d : List ℕ) (r : Shown) (which at : ℕ) (v : List ℕ) : 
   pub text : part_text r o d ≡ v
 
 -- of the legal message m and the directory d, the caption is r
-pub record Captions (R : Rules) (m : Message) (d : List ℕ) (r : Shown) : Type 0 where
+pub record Captions (R : Rules) (m : Message) (d : List ℕ) (r : Result Shown Fault) : Type 0 where
   -- the name that counts
   pub name : (v : List ℕ) (c : Counts R m 0x07 v) → Shows (octets m) d r 0 (contents_at c.first) v
   -- else, if a caller counts, the text after the = of the first line for it
@@ -44,7 +43,7 @@ pub record Captions (R : Rules) (m : Message) (d : List ℕ) (r : Shown) : Type 
   pub nothing : counted R m 0x07 ≡ none → counted R m 0x02 ≡ none → Shows (octets m) d r 0 0 []
 
 -- the message's octets o and the directory d went in, and r came back
-pub record Finds (R : Rules) (o d : List ℕ) (r : Shown) : Type 0 where
+pub record Finds (R : Rules) (o d : List ℕ) (r : Result Shown Fault) : Type 0 where
   -- number, place, parameter and part tell it
   pub clear : Clear r
   -- number 0 exactly when the octets are a message
@@ -63,15 +62,15 @@ pub record Finds (R : Rules) (o d : List ℕ) (r : Shown) : Type 0 where
 -- by the edition e and the way w, the message's octets o and the directory d went in, and r came back
 pub record FindsBy (e w : ℕ) (o d : List ℕ) (r : Finding) : Type 0 where
   -- by known numbers all that is said of their book
-  pub by_book : T (known e w) → Finds (rules_of (book_of e w)) o d r.shown
+  pub by_book : T (known e w) → Finds (rules_of (book_of e w)) o d r.answer
   -- number, place, parameter and part tell it, by unknown numbers too
-  pub clear : Clear r.shown
+  pub clear : Clear r.answer
   -- 16, with the empty part at the message's start, exactly where the edition or the way is unknown
-  pub sixteen : (p b : ℕ) → (told r.shown ≡ refusal 16 p b) ↔ ((p ≡ 0) × (b ≡ 0) × (T (known e w) → ⊥))
+  pub sixteen : (p b : ℕ) → (told r.answer ≡ refusal 16 p b) ↔ ((p ≡ 0) × (b ≡ 0) × (T (known e w) → ⊥))
   -- by unknown numbers nothing else
-  pub unknown : (T (known e w) → ⊥) → (told r.shown).number ≡ 16
+  pub unknown : (T (known e w) → ⊥) → (told r.answer).number ≡ 16
   -- the part lies inside the slice that it names, by unknown numbers too
-  pub inside : (told r.shown).start + (told r.shown).size ≤ length (slice_of r.shown o d)
+  pub inside : (told r.answer).start + (told r.answer).size ≤ length (slice_of r.answer o d)
   -- every answer names its edition, but with 16 none
-  pub names : ((told r.shown).number ≡ 16 → ⊥) → r.edition ≡ e
-  pub names_none : (told r.shown).number ≡ 16 → r.edition ≡ 0
+  pub names : ((told r.answer).number ≡ 16 → ⊥) → r.edition ≡ e
+  pub names_none : (told r.answer).number ≡ 16 → r.edition ≡ 0

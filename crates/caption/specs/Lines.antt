@@ -1,5 +1,6 @@
 -- The lines of a directory, and the two texts of a line (document 01, The caption).
 -- Assumes nothing.
+use Rattle.rules.specs.First.{index_of}
 use Rattle.std.specs.Prelude.{ℕ, suc, Bool, List, [], ◌∷◌, length, take, drop}
 use Rattle.rules.specs.Tests.{◌≤?◌, ◌=?◌, ◌and◌, pick}
 use Rattle.rules.specs.Pairwise.{same_octets}
@@ -13,11 +14,6 @@ on_first x (l ∷ ls) = (x ∷ l) ∷ ls
 unfoldable pub lines_of : List ℕ → List (List ℕ)
 lines_of [] = []
 lines_of (x ∷ d) = pick (x =? 0x0A) ([] ∷ lines_of d) (on_first x (lines_of d))
-
--- the index of the first octet x, or the length where there is none
-unfoldable pub index_of : ℕ → List ℕ → ℕ
-index_of x [] = 0
-index_of x (y ∷ l) = pick (y =? x) 0 (suc (index_of x l))
 
 -- the text before the first = of a line
 unfoldable pub before : List ℕ → List ℕ

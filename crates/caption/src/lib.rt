@@ -5,90 +5,73 @@
 ghost use Rattle.std.specs.Prelude.{ℕ, ◌≡◌, ◌==◌, position, ◌+◌, ◌≤◌, ◌<◌, length, take, drop};
 ghost use Rattle.rules.specs.Table.{rules_of};
 ghost use Rattle.message.specs.Parts.{counted_at};
-ghost use Rattle.caption.specs.Lines.{index_of, names};
-ghost use Rattle.caption.specs.Caption.{lookup, Cuts, by_entry, by_caller, by_name, find_of, find_in, caption_in, code_of};
+ghost use Rattle.rules.specs.First.{index_of};
+ghost use Rattle.caption.specs.Lines.{names};
+ghost use Rattle.caption.specs.Caption.{lookup, by_entry, by_caller, by_name, find_of, find_in, caption_in, code_of};
 
 use message::Part;
 use rules::{Book, Fault};
 
-// Where the caption stands, or a refusal.
-#[derive(Clone, Copy)]
+// Where the caption stands.
+#[derive(Clone, Copy, PartialEq, Eq)]
 pub enum Shown {
     InMessage { start: usize, length: usize },
     InDirectory { start: usize, length: usize },
-    Refused(Fault),
 }
 
-// What is shown, and the edition that the answer names: 0 with 16 (document 02, Q-5).
-#[derive(Clone, Copy)]
-pub struct Finding {
-    pub edition: u8,
-    pub shown: Shown,
-}
-
-// How long a line is, and whether it is for the caller.
-#[derive(Clone, Copy)]
-struct CutLine {
-    size: usize,
-    named: bool,
-}
+// What is shown, or a refusal, and the edition that the answer names: 0 with 16 (document 02, Q-5).
+pub type Finding = rules::Named<Result<Shown, Fault>>;
 
 // Where the text for a caller stands in the directory.
 #[derive(Clone, Copy)]
-enum CallerText {
-    Text { start: usize, length: usize },
-    Missing,
+struct CallerText {
+    start: usize,
+    length: usize,
 }
 
-// The index of the first octet `x`, or the length where there is none.
 fn place_of(x: u8, s: &[u8]) -> Option<usize>
     ensures { result ≡ position (λ (y : ℕ). y == x) s.now }
 {
     s.iter().position(|&y| y == x)
 }
 
-#[tactic(auto, using(crate::proofs::Cutting::found))]
-fn index_of(x: u8, s: &[u8]) -> usize
-    ensures { result ≡ index_of x s.now }
-{
-    place_of(x, s).unwrap_or(s.len())
-}
-
 // A line with `=` whose text before the first one is the caller.
+#[tactic(auto, using(crate::proofs::Cutting::line_words), unfolding(crate::specs::Lines::before, crate::specs::Lines::names))]
 fn is_for(caller: &[u8], line: &[u8]) -> bool
     ensures { result ≡ names caller.now line.now }
 {
-    let equals = index_of(b'=', line);
-    equals < line.len() && &line[..equals] == caller
+    match place_of(b'=', line) {
+        Some(equals) => &line[..equals] == caller,
+        None => false,
+    }
 }
 
-// The line that begins at a place; it ends at 0AH, the last perhaps without.
-fn line_at(caller: &[u8], directory: &[u8], at: usize) -> CutLine
-    requires { at < length directory.now }
-    ensures { Cuts caller.now directory.now at result }
+// The first line of a text, up to its 0AH; the last perhaps has none.
+#[tactic(auto, using(crate::proofs::Cutting::line_words))]
+fn line_of(text: &[u8]) -> &[u8]
+    ensures { result.now ≡ take (index_of 0x0A text.now) text.now }
 {
-    let rest = &directory[at..];
-    let size = index_of(0x0A, rest);
-    let named = is_for(caller, &rest[..size]);
-    CutLine { size, named }
+    let end = place_of(0x0A, text).unwrap_or(text.len());
+    &text[..end]
 }
 
-// The text after the first `=` on the first line for the caller.
-fn entry_for(caller: &[u8], directory: &[u8]) -> CallerText
+// The text after the first `=` on the first line for the caller. The place goes on by what a line takes, so no `for`
+// counts it.
+fn entry_for(caller: &[u8], directory: &[u8]) -> Option<CallerText>
     ensures { result ≡ lookup caller.now directory.now }
 {
     let mut at: usize = 0;
     while at < directory.len() {
-        let line = line_at(caller, directory, at);
-        let size = line.size;
-        if line.named {
-            let start = at + caller.len() + 1;
-            let length = size - caller.len() - 1;
-            return CallerText::Text { start, length };
+        let line = line_of(&directory[at..]);
+        if is_for(caller, line) {
+            return Some(CallerText {
+                start: at + caller.len() + 1,
+                length: line.len() - caller.len() - 1,
+            });
         }
-        at = at + size + 1;
+        at += line.len() + 1;
     }
-    CallerText::Missing
+    None
 }
 
 // For a caller that counts: the directory's text, else the caller.
@@ -100,8 +83,8 @@ fn by_entry(message: &[u8], directory: &[u8], start: usize, n: u8) -> Shown
     let caller = &message[start..start + size];
     let entry = entry_for(caller, directory);
     match entry {
-        CallerText::Text { start: at, length } => Shown::InDirectory { start: at, length },
-        CallerText::Missing => Shown::InMessage {
+        Some(CallerText { start, length }) => Shown::InDirectory { start, length },
+        None => Shown::InMessage {
             start,
             length: size,
         },
@@ -137,14 +120,11 @@ fn by_name(book: Book, message: &[u8], directory: &[u8]) -> Shown
 }
 
 // By a book: which slice, where and how long; octets that the whole read declines with 1 to 8 or 10 get that number.
-fn find_by(book: Book, message: &[u8], directory: &[u8]) -> Shown
+fn find_by(book: Book, message: &[u8], directory: &[u8]) -> Result<Shown, Fault>
     ensures { result ≡ find_of (rules_of book) message.now directory.now }
 {
-    let verdict = message::judge(book, message);
-    match verdict {
-        Ok(size) => by_name(book, message, directory),
-        Err(fault) => Shown::Refused(fault),
-    }
+    message::judge(book, message)?;
+    Ok(by_name(book, message, directory))
 }
 
 // What is shown, by an edition and a way: 16 where one of them is unknown.
@@ -155,11 +135,11 @@ pub fn find(edition: u8, way: u8, message: &[u8], directory: &[u8]) -> Finding
     match rules::known_book(edition, way) {
         Some(book) => Finding {
             edition,
-            shown: find_by(book, message, directory),
+            answer: find_by(book, message, directory),
         },
         None => Finding {
             edition: 0,
-            shown: Shown::Refused(rules::noted(16, 0)),
+            answer: Err(rules::noted(16, 0)),
         },
     }
 }
@@ -174,11 +154,13 @@ pub fn caption<'a>(
     side: &mut u8,
 ) -> &'a [u8]
     ensures part { result.now ≡ caption_in edition way message.now directory.now }
-    ensures side { side.new ≡ code_of (find_in edition way message.now directory.now).shown side.old }
+    ensures side { side.new ≡ code_of (find_in edition way message.now directory.now).answer side.old }
 {
     let finding = find(edition, way, message, directory);
-    let found = finding.shown;
-    match found {
+    let Ok(shown) = finding.answer else {
+        return &message[..0];
+    };
+    match shown {
         Shown::InMessage { start, length } => {
             *side = 0;
             &message[start..start + length]
@@ -187,6 +169,5 @@ pub fn caption<'a>(
             *side = 1;
             &directory[start..start + length]
         }
-        Shown::Refused(fault) => &message[..0],
     }
 }

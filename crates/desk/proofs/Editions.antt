@@ -7,6 +7,7 @@ use mathlib.Core.Logic.{◌⊎◌, inl, inr}
 use mathlib.Core.List.{List}
 use native.Mathlib.Omega.{arith}
 use lib.Dec.{T}
+use Rattle.rules.specs.Tests.{pick}
 use Rattle.rules.proofs.Tests.{pick_yes, pick_not, decide}
 use Rattle.rules.specs.Octets.{Octets}
 use Rattle.rules.specs.Table.{rules_of}
@@ -19,10 +20,9 @@ use Rattle.message.specs.Judges.{verdict_number}
 use Rattle.message.proofs.Judges.{told_small}
 use Rattle.desk.specs.declared.Desk.{Desk}
 use Rattle.desk.specs.declared.Outcome.{Outcome}
-use Rattle.desk.specs.declared.Settling.{Settling}
 use Rattle.desk.specs.References.{places_fit}
 use Rattle.desk.specs.Holding.{Fit}
-use Rattle.desk.specs.Told.{told, refusal}
+use Rattle.desk.specs.Told.{told, refusal, Settling}
 use Rattle.desk.specs.Settle.{refused, refused_with, settle_of, settled_by_none, settle_in}
 use Rattle.desk.specs.Settles.{Settles, SettlesBy}
 use Rattle.desk.proofs.Holding.{fit_of, of_fit}
@@ -31,10 +31,10 @@ use Rattle.desk.proofs.Settles as settles
 
 -- an outcome by the edition e, and one by none
 abbrev pub named : ℕ → Outcome → Settling
-named e x = record { edition = named_by (told x.answer).number e; outcome = x }
+named e x = record { edition = named_by (told x.answer).number e; answer = x }
 
 abbrev pub unnamed : Outcome → Settling
-unnamed x = record { edition = 0; outcome = x }
+unnamed x = record { edition = 0; answer = x }
 
 module _ (e w : ℕ) (d : Desk) (o : List ℕ) where
   pub known_is : T (known e w) → settle_in e w d o ≡ named e (settle_of (rules_of (book_of e w)) d o)
@@ -69,6 +69,25 @@ module _ (d : Desk) where
       go : Fit d.places ⊎ (Fit d.places → ⊥) → (k : ℕ) × (settled_by_none d ≡ refused (noted k 0) d)
       go (inl f) = (16, fit_none f)
       go (inr m) = (17, unfit_none m)
+
+-- the number of the answer says which edition is named, by unknown numbers too
+module _ (e w : ℕ) (d : Desk) (o : List ℕ) where
+  pub named_is : (x : Outcome) →
+      x ≡ pick (known e w) (settle_of (rules_of (book_of e w)) d o) (settled_by_none d) →
+      named e x ≡ settle_in e w d o
+  unfolding told
+  named_is x q = go (decide (known e w))
+    where
+      by : (y : Outcome) (k : ℕ) → y ≡ refused (noted k 0) d → (k ≡ 16) ⊎ (k ≡ 17) → named e y ≡ unnamed y
+      by y k z f = ap (named e) z ∙ ap (λ (i : ℕ). record { edition = i; answer = refused (noted k 0) d }) (editions.names_none k e f) ∙ ap unnamed (sym z)
+
+      none : Fit d.places ⊎ (Fit d.places → ⊥) → named e (settled_by_none d) ≡ unnamed (settled_by_none d)
+      none (inl f) = by _ 16 (fit_none d f) (inl refl)
+      none (inr m) = by _ 17 (unfit_none d m) (inr refl)
+
+      go : T (known e w) ⊎ (T (known e w) → ⊥) → named e x ≡ settle_in e w d o
+      go (inl t) = ap (named e) (q ∙ pick_yes _ _ _ t) ∙ sym (known_is e w d o t)
+      go (inr n) = ap (named e) (q ∙ pick_not _ _ _ n) ∙ none (fits d) ∙ sym (unknown_is e w d o n)
 
 -- ---- the sentences
 module _ (e w : ℕ) (d : Desk) (o : List ℕ) where
@@ -159,7 +178,7 @@ module _ (e w : ℕ) (d : Desk) (o : List ℕ) where
 -- ---- settling twice running
 module _ (e w : ℕ) (d : Desk) (o : List ℕ) where
   abbrev again : Settling → Settling
-  again r = settle_in e w r.outcome.desk o
+  again r = settle_in e w r.answer.desk o
 
   -- whatever the numbers and the octets, the second settling gives what the first gave
   pub settled_twice : Octets o → again (settle_in e w d o) ≡ settle_in e w d o

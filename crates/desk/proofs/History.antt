@@ -1,6 +1,7 @@
 -- A reference stands as the last word on it says: call by call, a change says what it leaves. A call by unknown
 -- numbers is refused, and says nothing.
 -- Assumes nothing.
+use Rattle.desk.specs.Told.{Settling}
 use Rattle.std.proofs.Common.{ℕ, Result, Ok, Err}
 use Prim.Native.Nat.{ℕ}
 use mathlib.Core.Path.{◌≡◌, sym, subst}
@@ -22,7 +23,6 @@ use Rattle.desk.specs.declared.Change.{Change}
 use Rattle.desk.specs.declared.Change.TheVariants.{Nothing, Adds, Removes}
 use Rattle.desk.specs.declared.Desk.{Desk}
 use Rattle.desk.specs.declared.Outcome.{Outcome}
-use Rattle.desk.specs.declared.Settling.{Settling}
 use Rattle.desk.specs.References.{places_fit, is_full, places_after}
 use Rattle.desk.specs.Holding.{Open, Fit}
 use Rattle.desk.proofs.Holding.{fit_of}
@@ -36,7 +36,7 @@ use Rattle.desk.specs.History.{said_by, Call, said_under, said, later, last_said
 abbrev pub History : Desk → List Call → Desk → Type 0
 History d [] e = d ≡ e
 History d (c ∷ cs) e =
-    (c.settled ≡ settle_in c.edition c.way d c.octets) × History c.settled.outcome.desk cs e
+    (c.settled ≡ settle_in c.edition c.way d c.octets) × History c.settled.answer.desk cs e
 
 -- ---- one change
 stands_changed : (r : ℕ) (k : Change) (ps : List ℕ) → Fit ps → (T (is_full k ps) → ⊥) →
@@ -108,7 +108,7 @@ module _ (book : Book) where
 -- by an edition and a way
 module _ (e w r : ℕ) (d : Desk) (o : List ℕ) where
   abbrev SaysBy : Settling → Type 0
-  SaysBy x = Says (book_of e w) r d o x.outcome
+  SaysBy x = Says (book_of e w) r d o x.answer
 
   says_by : SaysBy (settle_in e w d o)
   unfolding said_under
@@ -135,8 +135,8 @@ goes_on : (r : ℕ) (ps : List ℕ) (d : Desk) (cs : List Call) (e : Desk) (b : 
 unfolding last_said said
 goes_on r ps d [] e b x h = subst (λ (y : Desk). OpenBy r ps b y.places) h x
 goes_on r ps d (c ∷ cs) e b x h =
-    goes_on r ps c.settled.outcome.desk cs e _
-    (stands_later r ps d.places c.settled.outcome.desk.places (said r c) b x
+    goes_on r ps c.settled.answer.desk cs e _
+    (stands_later r ps d.places c.settled.answer.desk.places (said r c) b x
     (subst (SaysBy c.edition c.way r d c.octets) (sym h.0)
     (says_by c.edition c.way r d c.octets)))
     h.1

@@ -1,18 +1,22 @@
 -- What the places of a desk say: the first that is one sought, whether they fit, and from place to place in a loop
 -- over them.
 -- Assumes nothing.
-use Prim.Native.Nat.{ℕ, zero, suc, ◌+◌, ◌≤◌, ◌<◌}
+use Prim.Native.Nat.{ℕ, zero, suc, ◌+◌, ◌-◌, ◌≤◌, ◌<◌}
 use mathlib.Core.Path.{◌≡◌, refl, sym, ◌∙◌, ap, subst}
-use mathlib.Core.Bool.{Bool, true, false}
+use mathlib.Core.Bool.{Bool, true, false, not}
 use mathlib.Core.Logic.{◌⊎◌, inl, inr}
 use mathlib.Core.List.{List, [], ◌∷◌}
 use native.Mathlib.Numerals.{add-one}
 use native.Mathlib.Omega.{arith}
-use lib.ListN.{length, length-drop, drop, drop_of_length-le, get_or, replicate}
+use lib.ListN.{length, take, drop, drop_of_length-le, get_or, replicate}
 use lib.Seq.{drop-cons}
 use lib.Dec.{T, eqb}
 use Rattle.rules.specs.Tests.{◌≤?◌, ◌=?◌, ◌and◌, pick}
 use Rattle.rules.proofs.Tests.{pick_yes, pick_not, pick_case, both, join, decide, le_of, of_le, not_le, eq_of, of_eq}
+use Rattle.std.specs.List.{list_any, position_or_len}
+use Rattle.std.proofs.lemmas.List.Recursion.{is_position_or_len}
+use Rattle.rules.proofs.Laying.{rest_whole}
+use Rattle.rules.proofs.Telling.{telling, pick_is, eq_is}
 use Rattle.rules.proofs.Returns.{and_t, and_f, yes_eq, no_eq, is_eq}
 use Rattle.desk.specs.References.{free, held, place_with, absent, may_stand, places_fit}
 use Rattle.desk.specs.Holding.{Fit, Open}
@@ -45,6 +49,19 @@ first_before p (q ∷ ps) (suc j) h e = go (q =? p) (λ k. first_before p ps j k
     go : (b : Bool) → (j < place_with p ps → ⊥) → suc j < pick b 0 (suc (place_with p ps)) → ⊥
     go true g h = omega arith
     go false g h = g (omega arith)
+
+-- none is p exactly where no test finds it
+pub absent_is : (p : ℕ) (ps : List ℕ) → absent p ps ≡ not (list_any (λ (q : ℕ). eqb q p) ps)
+unfolding absent place_with
+absent_is p [] = grind (arith, telling)
+absent_is p (q ∷ ps) = grind (arith, telling, absent_is p ps)
+
+-- the place that `position` finds
+pub place_is : (p : ℕ) (ps : List ℕ) → place_with p ps ≡ position_or_len (λ (q : ℕ). eqb q p) ps
+unfolding place_with
+place_is p ps =
+    is_position_or_len (place_with p) (λ (q : ℕ). eqb q p) refl
+    (λ (q : ℕ) (ps : List ℕ). grind (arith, pick_is, eq_is q p)) ps
 
 past : (ps : List ℕ) (i : ℕ) → length ps ≤ i → get_or ps i 0 ≡ 0
 past [] i h = refl
@@ -133,48 +150,13 @@ of_fit (p ∷ ps) w =
         (absent_of r ps (λ o. w.once 0 (suc o.0) r (omega arith) e o.1))
 
 -- ---- from place to place
-module _ (p : ℕ) (ps : List ℕ) (i : ℕ) where
-  pub first_here : i < length ps → get_or ps i 0 ≡ p → i + place_with p (drop i ps) ≡ i
-  unfolding place_with
-  first_here h e =
-      let z = ap (place_with p) (drop-cons ps i 0 h) ∙ pick_yes (get_or ps i 0 =? p) 0 _ (of_eq _ _ e) in
-      omega (arith, z)
-
-  pub first_next : i < length ps → (get_or ps i 0 ≡ p → ⊥) →
-      i + place_with p (drop i ps) ≡ i + 1 + place_with p (drop (i + 1) ps)
-  unfolding place_with
-  first_next h n =
-      let z = ap (place_with p) (drop-cons ps i 0 h)
-      ∙ pick_not (get_or ps i 0 =? p) 0 (suc (place_with p (drop (suc i) ps))) (λ t. n (eq_of _ _ t)) in
-      omega (arith, z, ap (λ (k : ℕ). place_with p (drop k ps)) (add-one i))
-
-  pub first_end : length ps ≤ i → i + place_with p (drop i ps) ≡ i
-  unfolding place_with
-  first_end h = let z = ap (place_with p) (drop_of_length-le ps h) in omega (arith, z)
-
-  -- none from i on is p
-  pub absent_from : i ≤ length ps → eqb (i + place_with p (drop i ps)) (length ps) ≡ absent p (drop i ps)
-  unfolding absent
-  absent_from h = go (decide (place_with p (drop i ps) =? length (drop i ps)))
-    where
-      go : T (place_with p (drop i ps) =? length (drop i ps))
-          ⊎ (T (place_with p (drop i ps) =? length (drop i ps)) → ⊥) →
-          eqb (i + place_with p (drop i ps)) (length ps) ≡ (place_with p (drop i ps) =? length (drop i ps))
-      go (inl t) =
-          let e = eq_of _ _ t in
-          let z : i + place_with p (drop i ps) ≡ length ps = omega (arith, e, length-drop i ps) in
-          is_eq _ _ ∙ yes_eq _ _ z ∙ sym (yes_eq _ _ e)
-      go (inr n) =
-          let z : i + place_with p (drop i ps) ≡ length ps → ⊥ =
-          λ e. n (of_eq _ _ (omega (arith, e, length-drop i ps))) in
-          is_eq _ _ ∙ no_eq _ _ z ∙ sym (no_eq _ _ (λ e. n (of_eq _ _ e)))
+-- the places behind one, of n
+pub places_behind : (ps : List ℕ) (i n : ℕ) → length ps ≡ n → take (n - (i + 1)) (drop (i + 1) ps) ≡ drop (suc i) ps
+places_behind ps i n e =
+    subst (λ (k : ℕ). take (k - (i + 1)) (drop (i + 1) ps) ≡ drop (suc i) ps) e
+    (rest_whole (i + 1) ps ∙ ap (λ (k : ℕ). drop k ps) (add-one i))
 
 module _ (ps : List ℕ) (i : ℕ) where
-  -- none behind i is p
-  pub absent_behind : (p : ℕ) → i < length ps →
-      eqb (i + 1 + place_with p (drop (i + 1) ps)) (length ps) ≡ absent p (drop (suc i) ps)
-  absent_behind p h = absent_from p ps (i + 1) (omega arith) ∙ ap (λ (k : ℕ). absent p (drop k ps)) (add-one i)
-
   fit_at : i < length ps →
       places_fit (drop i ps) ≡ (may_stand (get_or ps i 0) (drop (suc i) ps) and places_fit (drop (suc i) ps))
   unfolding places_fit

@@ -3,6 +3,8 @@
 -- after it. By an edition and a way the book of known numbers leaves one outcome; by unknown ones the desk's places
 -- tell the number; and the number tells which edition is named.
 -- Assumes nothing.
+use Rattle.rules.specs.declared.Fault.{Fault}
+use Rattle.std.proofs.Common.{Result, Ok, Err}
 use Prim.Native.Nat.{ℕ, ◌≤◌, ◌<◌}
 use mathlib.Core.Path.{◌≡◌, refl, sym, ◌∙◌, ap, subst}
 use mathlib.Core.Logic.{◌⊎◌, inl, inr}
@@ -24,13 +26,10 @@ use Rattle.rules.specs.declared.Book.{Book}
 use Rattle.message.specs.Judges.{verdict_number}
 use Rattle.message.proofs.One.{judges_one}
 use Rattle.desk.specs.declared.Desk.{Desk}
-use Rattle.desk.specs.declared.Answer.{Answer}
-use Rattle.desk.specs.declared.Answer.TheVariants.{Done, Refused}
 use Rattle.desk.specs.declared.Outcome.{Outcome}
-use Rattle.desk.specs.declared.Settling.{Settling}
 use Rattle.desk.specs.References.{absent, held}
 use Rattle.desk.specs.Holding.{Fit, Lowest, Added, Removed}
-use Rattle.desk.specs.Told.{told, refusal}
+use Rattle.desk.specs.Told.{told, refusal, Settling}
 use Rattle.desk.specs.Settles.{Notices, Settles, SettlesBy}
 use Rattle.desk.proofs.Holding.{closed_of, open_of}
 use Rattle.desk.proofs.Told.{told-done, unfit_iff, refused_iff, full_iff, done_iff, some_number, number_of_lem, noted_at}
@@ -106,17 +105,18 @@ module _ (b : Book) (m : Message) (l : LegalMessage (rules_of b) m) (d e f : Des
 
 -- ---- the answer
 module _ (R : Rules) (d : Desk) (o : List ℕ) (r s : Outcome) (A : Settles R d o r) (B : Settles R d o s) where
-  answer_too : (a : Answer) → r.answer ≡ a → s.answer ≡ a
-  answer_too Done e = (done_iff B).1 ((done_iff A).0 e)
-  answer_too (Refused f) e = go (number_of_lem A f e)
+  answer_too : (a : Result (Unit {0}) Fault) → r.answer ≡ a → s.answer ≡ a
+  answer_too (Ok u) e = (done_iff B).1 ((done_iff A).0 e)
+  answer_too (Err f) e = go (number_of_lem A f e)
     where
       l : 1 ≤ f.number
       l = some_number A f e
 
-      at : (k : ℕ) → f.number ≡ k → (k ≡ 17) ⊎ (k ≡ 21) → Refused f ≡ Refused (noted k f.place)
-      at k z w = ap Refused (noted_at A f e k z w)
+      at : (k : ℕ) → f.number ≡ k → (k ≡ 17) ⊎ (k ≡ 21) →
+          ◌≡◌ {A = Result (Unit {0}) Fault} (Err f) (Err (noted k f.place))
+      at k z w = ap Err (noted_at A f e k z w)
 
-      go : T (verdict_number (calls R) f.number) ⊎ ((f.number ≡ 17) ⊎ (f.number ≡ 21)) → s.answer ≡ Refused f
+      go : T (verdict_number (calls R) f.number) ⊎ ((f.number ≡ 17) ⊎ (f.number ≡ 21)) → s.answer ≡ Err f
       go (inl t) =
           let x = (refused_iff A f l t).0 e in
           (refused_iff B f l t).1 (x.0, sym (judges_one (calls R) o _ _ A.judged B.judged) ∙ x.1)
@@ -140,19 +140,19 @@ pub settles_one : (b : Book) (d : Desk) (o : List ℕ) (r s : Outcome) →
     Settles (rules_of b) d o r → Settles (rules_of b) d o s → r ≡ s
 settles_one b d o r s A B = λ i. record { desk = desk r.answer refl i; answer = sym (answer r.answer refl) i }
   where
-    answer : (a : Answer) → r.answer ≡ a → s.answer ≡ a
+    answer : (a : Result (Unit {0}) Fault) → r.answer ≡ a → s.answer ≡ a
     answer = answer_too (rules_of b) d o r s A B
 
-    by_kind : (m : Message) → LegalMessage (rules_of b) m → octets m ≡ o → r.answer ≡ Done →
+    by_kind : (m : Message) → LegalMessage (rules_of b) m → octets m ≡ o → r.answer ≡ (Ok tt) →
         (m.kind ≡ 0x80) ⊎ (m.kind ≡ 0x82) → r.desk ≡ s.desk
     by_kind m l q e (inl k) = A.call_stays m l q k ∙ sym (B.call_stays m l q k)
     by_kind m l q e (inr k) =
         notices_one b m l d _ _ (A.notice m l q k ((told-done _ A.clear).1 e))
-        (B.notice m l q k ((told-done _ B.clear).1 (answer Done e)))
+        (B.notice m l q k ((told-done _ B.clear).1 (answer (Ok tt) e)))
 
-    desk : (a : Answer) → r.answer ≡ a → r.desk ≡ s.desk
-    desk (Refused f) e = refusal_leaves A f e ∙ sym (refusal_leaves B f (answer (Refused f) e))
-    desk Done e = let x = ((done_iff A).0 e).1 in by_kind x.0 x.1 x.2 e (kinds _ x.1.kind)
+    desk : (a : Result (Unit {0}) Fault) → r.answer ≡ a → r.desk ≡ s.desk
+    desk (Err f) e = refusal_leaves A f e ∙ sym (refusal_leaves B f (answer (Err f) e))
+    desk (Ok u) e = let x = ((done_iff A).0 e).1 in by_kind x.0 x.1 x.2 e (kinds _ x.1.kind)
 
 -- ---- by an edition and a way
 module _ (e w : ℕ) (d : Desk) (o : List ℕ) where
@@ -162,7 +162,7 @@ module _ (e w : ℕ) (d : Desk) (o : List ℕ) where
   number (inr m) = 17
 
   none_told : (r : Settling) → SettlesBy e w d o r → (T (known e w) → ⊥) →
-      (f : Fit d.places ⊎ (Fit d.places → ⊥)) → told r.outcome.answer ≡ refusal (number f) 0 0
+      (f : Fit d.places ⊎ (Fit d.places → ⊥)) → told r.answer.answer ≡ refusal (number f) 0 0
   none_told r A n (inl f) = (A.sixteen 0 0).1 (refl, refl, f, n)
   none_told r A n (inr m) = (A.seventeen 0 0).1 (refl, refl, m)
 
@@ -171,7 +171,7 @@ module _ (e w : ℕ) (d : Desk) (o : List ℕ) where
   least (inr m) = omega arith
 
   none_one : (r : Settling) → SettlesBy e w d o r → (T (known e w) → ⊥) →
-      r.outcome ≡ record { desk = d; answer = Refused (noted (number (fits d)) 0) }
+      r.answer ≡ record { desk = d; answer = Err (noted (number (fits d)) 0) }
   none_one r A n =
       let t = none_told r A n (fits d) in
       let l = least (fits d) in
@@ -180,17 +180,17 @@ module _ (e w : ℕ) (d : Desk) (o : List ℕ) where
       λ i. record { desk = k i; answer = a i }
 
   module _ (r s : Settling) (A : SettlesBy e w d o r) (B : SettlesBy e w d o s) where
-    outcome_one : r.outcome ≡ s.outcome
+    outcome_one : r.answer ≡ s.answer
     outcome_one = go (decide (known e w))
       where
-        go : T (known e w) ⊎ (T (known e w) → ⊥) → r.outcome ≡ s.outcome
+        go : T (known e w) ⊎ (T (known e w) → ⊥) → r.answer ≡ s.answer
         go (inl t) = settles_one (book_of e w) d o _ _ (A.by_book t) (B.by_book t)
         go (inr n) = none_one r A n ∙ sym (none_one s B n)
 
     abbrev k : ℕ
-    k = (told r.outcome.answer).number
+    k = (told r.answer.answer).number
 
-    number_one : k ≡ (told s.outcome.answer).number
+    number_one : k ≡ (told s.answer.answer).number
     number_one = ap (λ (x : Outcome). (told x.answer).number) outcome_one
 
     edition_one : r.edition ≡ s.edition
@@ -210,4 +210,4 @@ module _ (e w : ℕ) (d : Desk) (o : List ℕ) where
 
     -- by any numbers, any octets settled on any desk have one outcome, and name one edition
     pub settles_by_one : r ≡ s
-    settles_by_one = λ i. record { edition = edition_one i; outcome = outcome_one i }
+    settles_by_one = λ i. record { edition = edition_one i; answer = outcome_one i }

@@ -1,13 +1,14 @@
 -- What the promises of `new_desk` and `settle` say over the written rules, for whatever outcomes they allow (document
 -- 01, The desk; document 02, Q-5 and Q-6).
 -- Assumes nothing.
+use Rattle.desk.specs.Told.{Settling}
+use Rattle.desk.specs.declared.Outcome.{Outcome}
 use Prim.Native.Nat.{ℕ}
 use mathlib.Core.Path.{◌≡◌, sym, ◌∙◌, ap, subst}
 use mathlib.Core.List.{List, [], ◌∷◌}
 use mathlib.Core.Option.{none}
 use Rattle.rules.specs.Octets.{Octets}
 use Rattle.desk.specs.declared.Desk.{Desk}
-use Rattle.desk.specs.declared.Settling.{Settling}
 use Rattle.desk.specs.References.{place_count}
 use Rattle.desk.specs.Holding.{Fit}
 use Rattle.desk.proofs.Holding.{fit_free}
@@ -50,11 +51,11 @@ module _ (e w : ℕ) (d : Desk) (o : List ℕ) (r : Settling) (h : SettleGives e
 
   -- the same octets settled twice running by the same numbers, known or not: the second call gives the desk, the
   -- answer and the edition that the first gave
-  pub settled_twice : (r' : Settling) → SettleGives e w r.outcome.desk o r' → Octets o → r' ≡ r
+  pub settled_twice : (r' : Settling) → SettleGives e w r.answer.desk o r' → Octets o → r' ≡ r
   settled_twice r' k q =
       k.3
       ∙ (λ i. settle_in (k.4 i) (k.5 i) (k.6 i) (k.7 i))
-      ∙ ap (λ (x : Settling). settle_in e w x.outcome.desk o) settle_is
+      ∙ ap (λ (x : Settling). settle_in e w x.answer.desk o) settle_is
       ∙ editions.settled_twice e w d o q
       ∙ sym settle_is
 
@@ -64,7 +65,7 @@ CallGives d c = SettleGives c.edition c.way d c.octets c.settled
 
 abbrev pub Calls : Desk → List Call → Desk → Type 0
 Calls d [] e = d ≡ e
-Calls d (c ∷ cs) e = CallGives d c × Calls c.settled.outcome.desk cs e
+Calls d (c ∷ cs) e = CallGives d c × Calls c.settled.answer.desk cs e
 
 -- a reference is open after them exactly as the last notice says that was done and added or removed it; without one,
 -- as it was before them
@@ -76,7 +77,7 @@ open_by_last r d cs e h = history.open_by_last r d cs e (calls d cs h)
     calls d [] h = h
     calls d (c ∷ cs) h = (
       settle_is c.edition c.way d c.octets c.settled h.0,
-      calls c.settled.outcome.desk cs h.1,
+      calls c.settled.answer.desk cs h.1,
     )
 
 -- and what each of them says is the state and the reference of the 0DH that counts in its message, over the written

@@ -1,7 +1,7 @@
 -- Settling does what is promised: by the places of the desk, then by the verdict, then by the three ways of a
 -- message; and a second settling goes the same way and changes nothing.
 -- Assumes nothing.
-use Rattle.std.proofs.Common.{ℕ, Result, Ok, Err}
+use Rattle.std.proofs.Common.{ℕ, Result, Ok, Err, Option as Maybe}
 use Prim.Native.Nat.{ℕ, ◌≤◌}
 use mathlib.Core.Path.{◌≡◌, refl, sym, ◌∙◌, ap, subst}
 use mathlib.Core.Logic.{◌⊎◌, inl, inr}
@@ -25,10 +25,8 @@ use Rattle.message.specs.Told as message
 use Rattle.message.specs.Judges.{Judges, verdict_number}
 use Rattle.message.proofs.Judges.{judges_of, told_small}
 use Rattle.message.proofs.Told.{told-declined, accepted_iff, number_of_lem}
-use Rattle.desk.specs.declared.Waiting.{Waiting}
 use Rattle.desk.specs.declared.Lamp.{Lamp}
 use Rattle.desk.specs.declared.Desk.{Desk}
-use Rattle.desk.specs.declared.Answer.TheVariants.{Done}
 use Rattle.desk.specs.declared.Outcome.{Outcome}
 use Rattle.desk.specs.References.{places_fit, is_full}
 use Rattle.desk.specs.Holding.{Fit}
@@ -49,7 +47,7 @@ told-refusal : (f : Fault) (d : Desk) (r : Outcome) → r ≡ settle.refused f d
 unfolding told
 told-refusal f d r e = ap (λ (x : Outcome). told x.answer) e
 
-told-success : (r : Outcome) → r.answer ≡ Done → told r.answer ≡ success
+told-success : (r : Outcome) → r.answer ≡ (Ok tt) → told r.answer ≡ success
 unfolding told
 told-success r e = ap told e
 
@@ -247,7 +245,7 @@ module _ (book : Book) where
             }
 
         -- done: which desk, that no reference wanted a place, and what that desk is
-        done_settles : (r : Outcome) → r.answer ≡ Done → (Fills (rules_of book) d.places o → ⊥) →
+        done_settles : (r : Outcome) → r.answer ≡ (Ok tt) → (Fills (rules_of book) d.places o → ⊥) →
             (get_or o 0 0 ≡ 0x80 → r.desk ≡ d) →
             ((m : Message) → LegalMessage (rules_of book) m → octets m ≡ o → m.kind ≡ 0x82 →
             Notices (rules_of book) m d r.desk) → Fit r.desk.places →
@@ -306,7 +304,7 @@ module _ (book : Book) where
             unfit_settles m (settle_of (rules_of book) d o) (unfit m)
 
   -- ---- settling twice running
-  waiting_twice : (c : Option (List ℕ)) (w : Waiting) → waiting_after c (waiting_after c w) ≡ waiting_after c w
+  waiting_twice : (c : Option (List ℕ)) (w : Maybe ℕ) → waiting_after c (waiting_after c w) ≡ waiting_after c w
   unfolding waiting_after
   waiting_twice none w = refl
   waiting_twice (some v) w = refl

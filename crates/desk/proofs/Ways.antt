@@ -42,5 +42,5 @@ module _ (e : ℕ) (k : T (edition e)) (o : List ℕ) (a : Accepts (strict_of e)
   same_settling =
       let x = ways_known e in
       let y = same_outcome in
-      λ i. pick (x i) (record { edition = named_by (told (y i).answer).number e; outcome = y i })
-      (record { edition = 0; outcome = settled_by_none d })
+      λ i. pick (x i) (record { edition = named_by (told (y i).answer).number e; answer = y i })
+      (record { edition = 0; answer = settled_by_none d })

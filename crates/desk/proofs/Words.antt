@@ -1,6 +1,8 @@
 -- What a call says of a reference is what the written rules say of its message: the state and the reference of the
 -- 0DH that counts, where the call was done.
 -- Assumes nothing.
+use Rattle.rules.specs.declared.Fault.{Fault}
+use Rattle.std.proofs.Common.{Result, Ok, Err}
 use Prim.Native.Nat.{ℕ}
 use mathlib.Core.Path.{◌≡◌, refl, sym, ◌∙◌, ap, subst}
 use mathlib.Core.Bool.{Bool, true, false}
@@ -20,8 +22,6 @@ use Rattle.rules.specs.Message.{octets, LegalMessage}
 use Rattle.rules.specs.Counting.{counted}
 use Rattle.desk.specs.declared.Change.TheVariants.{Nothing, Adds, Removes}
 use Rattle.desk.specs.declared.Desk.{Desk}
-use Rattle.desk.specs.declared.Answer.{Answer}
-use Rattle.desk.specs.declared.Answer.TheVariants.{Done, Refused}
 use Rattle.desk.specs.Told.{told}
 use Rattle.desk.specs.Settle.{change_of, settle_in}
 use Rattle.desk.specs.Settles.{SettlesBy}
@@ -70,7 +70,7 @@ module _ (r : ℕ) (c : Call) where
   knows = known c.edition c.way
 
   -- of a notice that is done, by what counts in it
-  word_of : (m : message.Message) → octets m ≡ c.octets → m.kind ≡ 0x82 → c.settled.outcome.answer ≡ Done →
+  word_of : (m : message.Message) → octets m ≡ c.octets → m.kind ≡ 0x82 → c.settled.answer.answer ≡ (Ok tt) →
       (b : Option (List ℕ)) → counted (rules_of book) m 0x0D ≡ b → said r c ≡ said_by r (change_of b)
   unfolding said said_under
   word_of m e k d b x =
@@ -85,19 +85,19 @@ module _ (r : ℕ) (c : Call) where
   -- a word comes from a notice that is done
   module _ (d : Desk) (p : c.settled ≡ settle_in c.edition c.way d c.octets) (q : Octets c.octets)
       (b : Bool) (e : said r c ≡ some b) where
-    is_done : (a : Answer) → c.settled.outcome.answer ≡ a → (a ≡ Done) × (get_or c.octets 0 0 ≡ 0x82)
+    is_done : (a : Result (Unit {0}) Fault) → c.settled.answer.answer ≡ a → (a ≡ (Ok tt)) × (get_or c.octets 0 0 ≡ 0x82)
     unfolding said said_under
-    is_done Done x =
-        let z : said_under (rules_of book) r c.octets Done ≡ some b =
+    is_done (Ok u) x =
+        let z : said_under (rules_of book) r c.octets (Ok tt) ≡ some b =
         ap (said_under (rules_of book) r c.octets) (sym x) ∙ e in
         (refl, picked_by (get_or c.octets 0 0 ≡ 0x82) _ _ _ _ z (λ t _. eq_of _ _ t) (λ _ k. clash cc))
-    is_done (Refused f) x =
-        let z : said_under (rules_of book) r c.octets (Refused f) ≡ some b =
+    is_done (Err f) x =
+        let z : said_under (rules_of book) r c.octets (Err f) ≡ some b =
         ap (said_under (rules_of book) r c.octets) (sym x) ∙ e in
         clash cc
 
     module _ (m : message.Message) (l : LegalMessage (rules_of book) m) (is : octets m ≡ c.octets)
-        (k : m.kind ≡ 0x82) (g : c.settled.outcome.answer ≡ Done) (t : T knows) where
+        (k : m.kind ≡ 0x82) (g : c.settled.answer.answer ≡ (Ok tt)) (t : T knows) where
       three : (v : List ℕ) → counted (rules_of book) m 0x0D ≡ some v → (h b' : ℕ) →
           (v ≡ 0x00 ∷ h ∷ b' ∷ []) ⊎ ((v ≡ 0x55 ∷ h ∷ b' ∷ []) ⊎ (v ≡ 0xFF ∷ h ∷ b' ∷ [])) → Names c (state b) r
       three v x h b' (inl z) =
@@ -143,15 +143,15 @@ module _ (r : ℕ) (c : Call) where
     settles = subst (SettlesBy c.edition c.way d c.octets) (sym p) (settles_by _ _ d c.octets q)
 
     -- by unknown numbers none is done
-    by_known : c.settled.outcome.answer ≡ Done → T knows
+    by_known : c.settled.answer.answer ≡ (Ok tt) → T knows
     unfolding told
     by_known g = go (decide knows)
       where
-        k : (told c.settled.outcome.answer).number ≡ 0
-        k = ap (λ (a : Answer). (told a).number) g
+        k : (told c.settled.answer.answer).number ≡ 0
+        k = ap (λ (a : Result (Unit {0}) Fault). (told a).number) g
 
-        refused : ((told c.settled.outcome.answer).number ≡ 16) ⊎
-            ((told c.settled.outcome.answer).number ≡ 17) → T knows
+        refused : ((told c.settled.answer.answer).number ≡ 16) ⊎
+            ((told c.settled.answer.answer).number ≡ 17) → T knows
         refused (inl x) = absurd (omega (arith, k, x))
         refused (inr x) = absurd (omega (arith, k, x))
 
@@ -161,7 +161,7 @@ module _ (r : ℕ) (c : Call) where
 
     names : Names c (state b) r
     names =
-        let g = is_done c.settled.outcome.answer refl in
+        let g = is_done c.settled.answer.answer refl in
         let t = by_known g.0 in
         let a = ((done_iff (settles.by_book t)).0 g.0).1 in
         by_counted a.0 a.1 a.2 (sym (kind_of_lem a.0) ∙ ap (λ (v : List ℕ). get_or v 0 0) a.2 ∙ g.1)

@@ -1,7 +1,10 @@
 -- Which references are open after a history of calls (document 02, Q-6): as the last notice says that was done and
 -- added or removed them.
 -- Assumes nothing.
-use Rattle.std.specs.Prelude.{ℕ, ◌≡◌, Bool, true, false, ◌↔◌, List, [], ◌∷◌, get_or, T}
+use Rattle.desk.specs.Told.{Settling}
+use Rattle.desk.specs.declared.Outcome.{Outcome}
+use Rattle.rules.specs.declared.Fault.{Fault}
+use Rattle.std.specs.Prelude.{ℕ, ◌≡◌, Bool, true, false, ◌↔◌, List, [], ◌∷◌, get_or, T, Result, Ok, Err}
 use Rattle.std.proofs.Math.Option.{Option, none, some}
 use Rattle.rules.specs.Tests.{◌=?◌, pick}
 use Rattle.rules.specs.Table.{Rules, rules_of}
@@ -11,9 +14,6 @@ use Rattle.rules.specs.Message.{octets, LegalMessage}
 use Rattle.rules.specs.Counting.{counted}
 use Rattle.desk.specs.declared.Change.{Change}
 use Rattle.desk.specs.declared.Change.TheVariants.{Nothing, Adds, Removes}
-use Rattle.desk.specs.declared.Answer.{Answer}
-use Rattle.desk.specs.declared.Answer.TheVariants.{Done, Refused}
-use Rattle.desk.specs.declared.Settling.{Settling}
 use Rattle.desk.specs.Holding.{Open}
 use Rattle.desk.specs.Settle.{change_of, counted_in}
 use Rattle.rules.specs.Octets.{reference_of}
@@ -37,12 +37,12 @@ rules_in c = rules_of (book_of c.edition c.way)
 
 -- what a call says of r: a notice that is done, what its 0DH says; a refusal (by unknown numbers there is no other
 -- answer) and a call message, nothing
-unfoldable pub said_under : Rules → ℕ → List ℕ → Answer → Option Bool
-said_under R r o Done = pick (get_or o 0 0 =? 0x82) (said_by r (change_of (counted_in R o 0x0D))) none
-said_under R r o (Refused f) = none
+unfoldable pub said_under : Rules → ℕ → List ℕ → Result (Unit {0}) Fault → Option Bool
+said_under R r o (Ok u) = pick (get_or o 0 0 =? 0x82) (said_by r (change_of (counted_in R o 0x0D))) none
+said_under R r o (Err f) = none
 
 unfoldable pub said : ℕ → Call → Option Bool
-said r c = said_under (rules_in c) r c.octets c.settled.outcome.answer
+said r c = said_under (rules_in c) r c.octets c.settled.answer.answer
 
 -- the later word, or the one before it
 unfoldable pub later : Option Bool → Option Bool → Option Bool
@@ -68,7 +68,7 @@ pub record Names (c : Call) (s r : ℕ) : Type 0 where
   pub legal : LegalMessage (rules_in c) m
   pub is : octets m ≡ c.octets
   pub notice : m.kind ≡ 0x82
-  pub done : c.settled.outcome.answer ≡ Done
+  pub done : c.settled.answer.answer ≡ Ok tt
   pub high : ℕ
   pub low : ℕ
   pub counts : counted (rules_in c) m 0x0D ≡ some (s ∷ high ∷ low ∷ [])

@@ -1,7 +1,7 @@
 -- Document 01's rows on a desk, computed: settled notices, a call message, and refusals; then document 02's Q-6:
 -- references added, removed and refused; and Q-5: the old edition, and an unknown one.
 -- Assumes nothing.
-use Rattle.std.specs.Prelude.{ℕ, ◌≡◌, refl, List, [], ◌∷◌, replicate}
+use Rattle.std.specs.Prelude.{ℕ, ◌≡◌, refl, List, [], ◌∷◌, replicate, Option as Maybe, Ok, Err, Some, None}
 use Rattle.rules.specs.Tests.{◌≤?◌, ◌=?◌, ◌and◌, ◌or◌, pick}
 use Rattle.rules.specs.Octets.{checksum}
 use Rattle.rules.specs.Contents.{within, in_set, digit, some_length, short_month, days}
@@ -15,39 +15,35 @@ use Rattle.rules.specs.Judge.{room_fits, range_possible, some_possible, possible
 use Rattle.rules.specs.Refusals.{noted, noted_in}
 use Rattle.message.specs.Verdict.{judged, verdict_of}
 use Rattle.message.specs.Parts.{parameter_at, matched, search_from, counted_at, part_of}
-use Rattle.desk.specs.declared.Waiting.{Waiting}
-use Rattle.desk.specs.declared.Waiting.TheVariants as waiting
 use Rattle.desk.specs.declared.Lamp.{Lamp}
 use Rattle.desk.specs.declared.Lamp.TheVariants as lamp
 use Rattle.desk.specs.declared.Desk.{Desk}
-use Rattle.desk.specs.declared.Answer.TheVariants.{Done, Refused}
 use Rattle.desk.specs.declared.Outcome.{Outcome}
-use Rattle.desk.specs.declared.Settling.{Settling}
-use Rattle.desk.specs.Told.{told}
+use Rattle.desk.specs.Told.{told, Settling}
 use Rattle.desk.specs.References.{free, held, place_with, absent, may_stand, places_fit}
 use Rattle.desk.specs.References.{change_by, is_full, places_after}
 use Rattle.desk.specs.Settle.{new_desk, waiting_after, lamp_after, change_in, change_of, noticed, counted_in, settled_notice, settled_message, settled_under, refused_with, settle_of, settled_by_none, settle_in}
 
-abbrev with_places : Waiting → Lamp → List ℕ → Desk
+abbrev with_places : Maybe ℕ → Lamp → List ℕ → Desk
 with_places w l ps = record { waiting = w; lamp = l; places = ps }
 
-abbrev desk : Waiting → Lamp → Desk
+abbrev desk : Maybe ℕ → Lamp → Desk
 desk w l = with_places w l (replicate 16 free)
 
 abbrev holding : List ℕ → Desk
-holding ps = with_places waiting.Unknown lamp.Unknown ps
+holding ps = with_places None lamp.Unknown ps
 
 abbrev settled : Desk → Outcome
-settled d = record { desk = d; answer = Done }
+settled d = record { desk = d; answer = Ok tt }
 
-abbrev done : Waiting → Lamp → Outcome
+abbrev done : Maybe ℕ → Lamp → Outcome
 done w l = settled (desk w l)
 
 abbrev refused : ℕ → ℕ → Desk → Outcome
-refused k p d = record { desk = d; answer = Refused (noted k p) }
+refused k p d = record { desk = d; answer = Err (noted k p) }
 
 abbrev by : ℕ → Outcome → Settling
-by e x = record { edition = e; outcome = x }
+by e x = record { edition = e; answer = x }
 
 -- the references 101H to 110H
 abbrev sixteen : List ℕ
@@ -57,15 +53,15 @@ sixteen =
 
 pub record Claim : Type 0 where
   pub lamp_on : settle_of (rules_of PresentLenient) new_desk (0x82 ∷ 0x03 ∷ 0x0B ∷ 0x01 ∷ 0xFF ∷ 0x70 ∷ []) ≡
-      done waiting.Unknown lamp.On
-  pub lamp_off : settle_of (rules_of PresentLenient) (desk (waiting.Number 7) lamp.On)
-      (0x82 ∷ 0x03 ∷ 0x0B ∷ 0x01 ∷ 0x00 ∷ 0x6F ∷ []) ≡ done (waiting.Number 7) lamp.Off
-  pub waiting_two : settle_of (rules_of PresentLenient) (desk (waiting.Number 7) lamp.On)
-      (0x82 ∷ 0x03 ∷ 0x13 ∷ 0x01 ∷ 0x02 ∷ 0x65 ∷ []) ≡ done (waiting.Number 2) lamp.On
+      done None lamp.On
+  pub lamp_off : settle_of (rules_of PresentLenient) (desk (Some 7) lamp.On)
+      (0x82 ∷ 0x03 ∷ 0x0B ∷ 0x01 ∷ 0x00 ∷ 0x6F ∷ []) ≡ done (Some 7) lamp.Off
+  pub waiting_two : settle_of (rules_of PresentLenient) (desk (Some 7) lamp.On)
+      (0x82 ∷ 0x03 ∷ 0x13 ∷ 0x01 ∷ 0x02 ∷ 0x65 ∷ []) ≡ done (Some 2) lamp.On
   pub first_counts : settle_of (rules_of PresentLenient) new_desk
-      (0x82 ∷ 0x06 ∷ 0x13 ∷ 0x01 ∷ 0x02 ∷ 0x13 ∷ 0x01 ∷ 0x05 ∷ 0x49 ∷ []) ≡ done (waiting.Number 2) lamp.Unknown
+      (0x82 ∷ 0x06 ∷ 0x13 ∷ 0x01 ∷ 0x02 ∷ 0x13 ∷ 0x01 ∷ 0x05 ∷ 0x49 ∷ []) ≡ done (Some 2) lamp.Unknown
   pub call : settle_of (rules_of PresentLenient) new_desk (0x80 ∷ 0x03 ∷ 0x13 ∷ 0x01 ∷ 0x02 ∷ 0x67 ∷ []) ≡
-      done waiting.Unknown lamp.Unknown
+      done None lamp.Unknown
   pub nothing : settle_of (rules_of PresentLenient) new_desk [] ≡ refused 8 0 new_desk
   pub wrong_kind : settle_of (rules_of PresentLenient) new_desk (0x81 ∷ []) ≡ refused 1 0 new_desk
   pub wrong_sum : settle_of (rules_of PresentLenient) new_desk (0x82 ∷ 0x03 ∷ 0x0B ∷ 0x01 ∷ 0xFF ∷ 0x71 ∷ []) ≡
@@ -75,7 +71,7 @@ pub record Claim : Type 0 where
   -- a wrong code in the second parameter, behind a carried one (document 02, Q-3)
   pub second_wrong : settle_of (rules_of PresentLenient) new_desk
       (0x82 ∷ 0x06 ∷ 0x05 ∷ 0x01 ∷ 0x00 ∷ 0x0B ∷ 0x01 ∷ 0x41 ∷ []) ≡
-      record { desk = new_desk; answer = Refused (noted_in 5 7 2) }
+      record { desk = new_desk; answer = Err (noted_in 5 7 2) }
   pub reference_added : settle_of (rules_of PresentLenient) new_desk
       (0x82 ∷ 0x05 ∷ 0x0D ∷ 0x03 ∷ 0xFF ∷ 0x01 ∷ 0x02 ∷ 0x67 ∷ []) ≡ settled (holding (held 0x102 ∷ replicate 15 free))
   pub reference_there : settle_of (rules_of PresentLenient) (holding (held 0x102 ∷ replicate 15 free))
@@ -96,7 +92,7 @@ pub record Claim : Type 0 where
       (0x82 ∷ 0x08 ∷ 0x0B ∷ 0x01 ∷ 0xFF ∷ 0x0D ∷ 0x03 ∷ 0xFF ∷ 0x02 ∷ 0x00 ∷ 0x5A ∷ []) ≡ refused 21 0 (holding sixteen)
   pub full_and_there : settle_of (rules_of PresentLenient) (holding sixteen)
       (0x82 ∷ 0x08 ∷ 0x0B ∷ 0x01 ∷ 0xFF ∷ 0x0D ∷ 0x03 ∷ 0xFF ∷ 0x01 ∷ 0x10 ∷ 0x4B ∷ []) ≡
-      settled (with_places waiting.Unknown lamp.On sixteen)
+      settled (with_places None lamp.On sixteen)
   pub held_twice : settle_of (rules_of PresentLenient) (holding (held 7 ∷ free ∷ held 7 ∷ replicate 13 free)) [] ≡
       refused 17 0 (holding (held 7 ∷ free ∷ held 7 ∷ replicate 13 free))
   pub out_of_range : settle_of (rules_of PresentLenient) (holding (65537 ∷ replicate 15 free)) [] ≡
@@ -104,15 +100,15 @@ pub record Claim : Type 0 where
   pub last_reference : settle_of (rules_of PresentLenient) (holding (65536 ∷ replicate 15 free))
       (0x82 ∷ 0x05 ∷ 0x0D ∷ 0x03 ∷ 0x00 ∷ 0xFF ∷ 0xFF ∷ 0x6B ∷ []) ≡ settled new_desk
   -- by the old edition 13H is carried, and the number stays; the lamp is set
-  pub old_number : settle_in 1 1 (desk (waiting.Number 7) lamp.Off)
-      (0x82 ∷ 0x03 ∷ 0x13 ∷ 0x01 ∷ 0x02 ∷ 0x65 ∷ []) ≡ by 1 (done (waiting.Number 7) lamp.Off)
-  pub old_lamp : settle_in 1 1 (desk (waiting.Number 7) lamp.Off)
-      (0x82 ∷ 0x03 ∷ 0x0B ∷ 0x01 ∷ 0xFF ∷ 0x70 ∷ []) ≡ by 1 (done (waiting.Number 7) lamp.On)
+  pub old_number : settle_in 1 1 (desk (Some 7) lamp.Off)
+      (0x82 ∷ 0x03 ∷ 0x13 ∷ 0x01 ∷ 0x02 ∷ 0x65 ∷ []) ≡ by 1 (done (Some 7) lamp.Off)
+  pub old_lamp : settle_in 1 1 (desk (Some 7) lamp.Off)
+      (0x82 ∷ 0x03 ∷ 0x0B ∷ 0x01 ∷ 0xFF ∷ 0x70 ∷ []) ≡ by 1 (done (Some 7) lamp.On)
   -- the same notice by the present edition, and by the old one where types without a row are refused
-  pub present_number : settle_in 0 1 (desk (waiting.Number 7) lamp.Off)
-      (0x82 ∷ 0x03 ∷ 0x13 ∷ 0x01 ∷ 0x02 ∷ 0x65 ∷ []) ≡ by 0 (done (waiting.Number 2) lamp.Off)
+  pub present_number : settle_in 0 1 (desk (Some 7) lamp.Off)
+      (0x82 ∷ 0x03 ∷ 0x13 ∷ 0x01 ∷ 0x02 ∷ 0x65 ∷ []) ≡ by 0 (done (Some 2) lamp.Off)
   pub old_strict : settle_in 1 0 new_desk (0x82 ∷ 0x03 ∷ 0x13 ∷ 0x01 ∷ 0x02 ∷ 0x65 ∷ []) ≡
-      by 1 (record { desk = new_desk; answer = Refused (noted_in 10 2 1) })
+      by 1 (record { desk = new_desk; answer = Err (noted_in 10 2 1) })
   -- an unknown edition and an unknown way, behind 17
   pub unknown_edition : settle_in 2 1 new_desk (0x82 ∷ 0x03 ∷ 0x0B ∷ 0x01 ∷ 0xFF ∷ 0x70 ∷ []) ≡
       by 0 (refused 16 0 new_desk)

@@ -1,6 +1,6 @@
 -- What settling does to a desk (document 01, The desk; document 02, Q-6), by an edition and a way (Q-5).
 -- Assumes nothing.
-use Rattle.std.specs.Prelude.{ℕ, List, get_or, replicate, Result, Ok, Err}
+use Rattle.std.specs.Prelude.{ℕ, List, get_or, replicate, Result, Ok, Err, Option as Maybe, Some, None}
 use Rattle.std.proofs.Math.Option.{Option, none, some}
 use Rattle.rules.specs.Tests.{◌=?◌, pick}
 use Rattle.rules.specs.Table.{Rules, rules_of}
@@ -9,27 +9,23 @@ use Rattle.rules.specs.declared.Fault.{Fault}
 use Rattle.rules.specs.Refusals.{noted}
 use Rattle.message.specs.Parts.{counted_at, part_of}
 use Rattle.message.specs.Verdict.{verdict_of}
-use Rattle.desk.specs.declared.Waiting.{Waiting}
-use Rattle.desk.specs.declared.Waiting.TheVariants as waiting
 use Rattle.desk.specs.declared.Lamp.{Lamp}
 use Rattle.desk.specs.declared.Lamp.TheVariants as lamp
 use Rattle.desk.specs.declared.Change.{Change}
 use Rattle.desk.specs.declared.Change.TheVariants.{Nothing}
 use Rattle.desk.specs.declared.Desk.{Desk}
-use Rattle.desk.specs.declared.Answer.TheVariants.{Done, Refused}
 use Rattle.desk.specs.declared.Outcome.{Outcome}
-use Rattle.desk.specs.declared.Settling.{Settling}
-use Rattle.desk.specs.Told.{told}
+use Rattle.desk.specs.Told.{told, Settling}
 use Rattle.desk.specs.References.{place_count, free, places_fit, change_by, is_full, places_after}
 
 -- number and lamp unknown, all sixteen places free
 abbrev pub new_desk : Desk
-new_desk = record { waiting = waiting.Unknown; lamp = lamp.Unknown; places = replicate place_count free }
+new_desk = record { waiting = None; lamp = lamp.Unknown; places = replicate place_count free }
 
 -- the waiting number, given the contents of 13H that count: set to their octet, else as it was
-unfoldable pub waiting_after : Option (List ℕ) → Waiting → Waiting
+unfoldable pub waiting_after : Option (List ℕ) → Maybe ℕ → Maybe ℕ
 waiting_after none w = w
-waiting_after (some v) w = waiting.Number (get_or v 0 0)
+waiting_after (some v) w = Some (get_or v 0 0)
 
 -- the lamp, given the contents of 0BH that count: 00H is off, FFH is on, else as it was
 unfoldable pub lamp_after : Option (List ℕ) → Lamp → Lamp
@@ -46,10 +42,15 @@ change_of (some v) = change_in v
 
 -- the work is done, and the desk is d; or a refusal, and the desk stays
 abbrev pub done : Desk → Outcome
-done d = record { desk = d; answer = Done }
+done d = record { desk = d; answer = Ok tt }
 
 abbrev pub refused : Fault → Desk → Outcome
-refused f d = record { desk = d; answer = Refused f }
+refused f d = record { desk = d; answer = Err f }
+
+-- the outcome of settling the desk d: another desk or a refusal
+abbrev pub outcome : Desk → Result Desk Fault → Outcome
+outcome d (Ok e) = done e
+outcome d (Err f) = refused f d
 
 -- a refusal that is no octet's stands at 0
 unfoldable pub refused_with : ℕ → Desk → Outcome
@@ -96,6 +97,6 @@ settle_in e w d o =
     pick (known e w)
     (record {
       edition = named_by (told (settle_of (rules_of (book_of e w)) d o).answer).number e;
-      outcome = settle_of (rules_of (book_of e w)) d o;
+      answer = settle_of (rules_of (book_of e w)) d o;
     })
-    (record { edition = 0; outcome = settled_by_none d })
+    (record { edition = 0; answer = settled_by_none d })

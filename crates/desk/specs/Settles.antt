@@ -1,13 +1,12 @@
 -- What settling means over the written rules (document 01, The desk; document 02, Q-6): which answer, and what a
 -- notice, a call message and a refusal do to the desk; by a book, and by an edition and a way (Q-5).
 -- Assumes nothing.
-use Rattle.std.specs.Prelude.{ℕ, ◌≤◌, ◌≡◌, ◌⊎◌, ◌↔◌, List, [], ◌∷◌, length, T, Result}
+use Rattle.std.specs.Prelude.{ℕ, ◌≤◌, ◌≡◌, ◌⊎◌, ◌↔◌, List, [], ◌∷◌, length, T, Result, Some}
 use Rattle.std.proofs.Math.Option.{none, some}
 use Rattle.rules.specs.Table.{Rules, rules_of}
 use Rattle.rules.specs.Editions.{known, book_of}
 use Rattle.rules.specs.Message.{Message, octets, LegalMessage, Accepts}
 use Rattle.rules.specs.Counting.{counted}
-use Rattle.desk.specs.declared.Waiting.TheVariants.{Number}
 use Rattle.desk.specs.declared.Lamp.TheVariants.{Off, On}
 use Rattle.desk.specs.declared.Desk.{Desk}
 use Rattle.desk.specs.Holding.{Fit, Full, Added, Removed}
@@ -16,14 +15,13 @@ use Rattle.rules.specs.declared.Fault.{Fault}
 use Rattle.message.specs.Told as message
 use Rattle.message.specs.Judges.{Judges, verdict_number}
 use Rattle.desk.specs.declared.Outcome.{Outcome}
-use Rattle.desk.specs.declared.Settling.{Settling}
-use Rattle.desk.specs.Told.{told, success, refusal, Clear}
+use Rattle.desk.specs.Told.{told, success, refusal, Clear, Settling}
 use Rattle.rules.specs.Octets.{reference_of}
 
 -- the notice m makes the desk e of the desk d
 pub record Notices (R : Rules) (m : Message) (d e : Desk) : Type 0 where
   -- the number is set where 13H counts, whatever stood there, and stays where it does not
-  pub number : (k : ℕ) → counted R m 0x13 ≡ some (k ∷ []) → e.waiting ≡ Number k
+  pub number : (k : ℕ) → counted R m 0x13 ≡ some (k ∷ []) → e.waiting ≡ Some k
   pub number_stays : counted R m 0x13 ≡ none → e.waiting ≡ d.waiting
   -- the lamp is set where 0BH counts, and stays where it does not
   pub lamp_off : counted R m 0x0B ≡ some (0x00 ∷ []) → e.lamp ≡ Off
@@ -84,25 +82,25 @@ pub record Settles (R : Rules) (d : Desk) (o : List ℕ) (r : Outcome) : Type 0 
 -- by the edition e and the way w, the desk d and the octets o went in, and r came back
 pub record SettlesBy (e w : ℕ) (d : Desk) (o : List ℕ) (r : Settling) : Type 0 where
   -- by known numbers all that is said of their book
-  pub by_book : T (known e w) → Settles (rules_of (book_of e w)) d o r.outcome
+  pub by_book : T (known e w) → Settles (rules_of (book_of e w)) d o r.answer
   -- number, place and parameter tell the answer, by unknown numbers too
-  pub clear : Clear r.outcome.answer
+  pub clear : Clear r.answer.answer
   -- 17 exactly for a desk with a place out of range or a reference twice, whatever the numbers
   pub seventeen : (p b : ℕ) →
-      (told r.outcome.answer ≡ refusal 17 p b) ↔ ((p ≡ 0) × (b ≡ 0) × (Fit d.places → ⊥))
+      (told r.answer.answer ≡ refusal 17 p b) ↔ ((p ≡ 0) × (b ≡ 0) × (Fit d.places → ⊥))
   -- else 16 exactly where the edition or the way is unknown
   pub sixteen : (p b : ℕ) →
-      (told r.outcome.answer ≡ refusal 16 p b) ↔ ((p ≡ 0) × (b ≡ 0) × Fit d.places × (T (known e w) → ⊥))
+      (told r.answer.answer ≡ refusal 16 p b) ↔ ((p ≡ 0) × (b ≡ 0) × Fit d.places × (T (known e w) → ⊥))
   -- by unknown numbers nothing else
   pub unknown :
-      let k = (told r.outcome.answer).number in
+      let k = (told r.answer.answer).number in
       (T (known e w) → ⊥) → (k ≡ 16) ⊎ (k ≡ 17)
   -- a refusal leaves the desk as it was, by unknown numbers too
-  pub refusal_stays : 1 ≤ (told r.outcome.answer).number → r.outcome.desk ≡ d
+  pub refusal_stays : 1 ≤ (told r.answer.answer).number → r.answer.desk ≡ d
   -- every answer names its edition, but with 16 and 17 none
   pub names :
-      let k = (told r.outcome.answer).number in
+      let k = (told r.answer.answer).number in
       (k ≡ 16 → ⊥) → (k ≡ 17 → ⊥) → r.edition ≡ e
   pub names_none :
-      let k = (told r.outcome.answer).number in
+      let k = (told r.answer.answer).number in
       (k ≡ 16) ⊎ (k ≡ 17) → r.edition ≡ 0

@@ -1,9 +1,14 @@
 -- What the answer of settling tells (document 01, The forms we expect: a definition provides number and values for
 -- each case).
 -- Assumes nothing.
-use Rattle.std.specs.Prelude.{ℕ, ◌≤◌}
-use Rattle.desk.specs.declared.Answer.{Answer}
-use Rattle.desk.specs.declared.Answer.TheVariants.{Done, Refused}
+use Rattle.desk.specs.declared.Outcome.{Outcome}
+use Rattle.rules.specs.declared.Named.{Named}
+use Rattle.rules.specs.declared.Fault.{Fault}
+use Rattle.std.specs.Prelude.{ℕ, ◌≤◌, Result, Ok, Err}
+
+-- an outcome, beside the edition that its answer names
+abbrev pub Settling : Type 0
+Settling = Named Outcome
 
 -- number, place and parameter of a refusal; 0 where there is none
 pub record Told : Type 0 where
@@ -11,9 +16,9 @@ pub record Told : Type 0 where
   pub place : ℕ
   pub parameter : ℕ
 
-unfoldable pub told : Answer → Told
-told Done = record { number = 0; place = 0; parameter = 0 }
-told (Refused f) = record { number = f.number; place = f.place; parameter = f.parameter }
+unfoldable pub told : Result (Unit {0}) Fault → Told
+told (Ok u) = record { number = 0; place = 0; parameter = 0 }
+told (Err f) = record { number = f.number; place = f.place; parameter = f.parameter }
 
 -- the work is done
 abbrev pub success : Told
@@ -24,6 +29,6 @@ abbrev pub refusal : ℕ → ℕ → ℕ → Told
 refusal k p b = record { number = k; place = p; parameter = b }
 
 -- a refusal has a number: so what is told tells the answer
-abbrev pub Clear : Answer → Type 0
-Clear Done = Unit {0}
-Clear (Refused f) = 1 ≤ f.number
+abbrev pub Clear : Result (Unit {0}) Fault → Type 0
+Clear (Ok u) = Unit {0}
+Clear (Err f) = 1 ≤ f.number

@@ -2,14 +2,15 @@
 // by value.
 #![tactic(auto)]
 
-ghost use Rattle.std.specs.Prelude.{◌≡◌, suc, ◌+◌, ◌≤◌, ◌<◌};
+ghost use Rattle.std.specs.Prelude.{ℕ, ◌≡◌, ◌==◌, suc, ◌<◌, position};
 ghost use Rattle.std.proofs.Math.ListN as list;
+ghost use Rattle.rules.specs.Tests.{pick};
 ghost use Rattle.rules.specs.Table.{rules_of};
+ghost use Rattle.rules.specs.Editions.{known, book_of};
 ghost use Rattle.rules.specs.Message.{Accepts};
 ghost use Rattle.desk.specs.References as places_of;
 ghost use Rattle.desk.specs.References.{place_count, place_with, absent, may_stand, places_fit, change_by, is_full, places_after};
-ghost use Rattle.desk.specs.Settle.{new_desk, counted_in, waiting_after, lamp_after, change_in, change_of, settled_notice, settled_message, refused_with, settle_of, settled_by_none, settle_in};
-ghost use Rattle.desk.specs.Told.{told};
+ghost use Rattle.desk.specs.Settle.{new_desk, outcome, counted_in, waiting_after, lamp_after, change_in, change_of, settled_notice, settle_of, settled_by_none, settle_in};
 
 use message::Part;
 use rules::{Book, Fault};
@@ -21,48 +22,35 @@ const FREE: u32 = 0;
 
 const LAST: u32 = 65536;
 
-#[derive(Clone, Copy)]
-pub enum Waiting {
-    Unknown,
-    Number(u8),
-}
-
-#[derive(Clone, Copy)]
+// Three words of the rules, and no Option of a bool: a lamp that is off is not `Some(false)` to a reader.
+#[derive(Clone, Copy, PartialEq, Eq)]
 pub enum Lamp {
     Unknown,
     Off,
     On,
 }
 
-// In a place 0 is free; else it is one more than the reference that it holds.
+// In a place 0 is free; else it is one more than the reference that it holds. The places are numbers, and no Options of
+// a reference, since a desk with a place out of range comes in too and is 17: `Settles.seventeen` and the row
+// `out_of_range` speak of it. The number that waits is none until a notice sets it.
 #[derive(Clone, Copy)]
 pub struct Desk {
-    pub waiting: Waiting,
+    pub waiting: Option<u8>,
     pub lamp: Lamp,
     pub places: [u32; PLACES],
-}
-
-#[derive(Clone, Copy)]
-pub enum Answer {
-    Done,
-    Refused(Fault),
 }
 
 // The desk as it then stands, and the answer.
 #[derive(Clone, Copy)]
 pub struct Outcome {
     pub desk: Desk,
-    pub answer: Answer,
+    pub answer: Result<(), Fault>,
 }
 
 // An outcome, and the edition that its answer names: 0 with 16 and 17 (document 02, Q-5).
-#[derive(Clone, Copy)]
-pub struct Settling {
-    pub edition: u8,
-    pub outcome: Outcome,
-}
+pub type Settling = rules::Named<Outcome>;
 
-// What a notice does to a reference.
+// What a notice does to a reference: one of three, since 55H is said to do nothing (`change_by`), so no Option.
 #[derive(Clone, Copy)]
 enum Change {
     Nothing,
@@ -75,44 +63,34 @@ pub fn new_desk() -> Desk
 {
     let places = [FREE; PLACES];
     Desk {
-        waiting: Waiting::Unknown,
+        waiting: None,
         lamp: Lamp::Unknown,
         places,
     }
 }
 
-// The first place from one on that is the one sought; their number where there is none.
-fn first_from(places: [u32; PLACES], from: usize, sought: u32) -> usize
-    requires { from ≤ place_count }
-    ensures { result ≡ from + place_with sought (list.drop from places) }
+// The first place that is the one sought.
+fn place_of(sought: u32, places: &[u32]) -> Option<usize>
+    ensures { result ≡ position (λ (y : ℕ). y == sought) places.now }
 {
-    for i in from..PLACES {
-        if places[i] == sought {
-            return i;
-        }
-    }
-    PLACES
+    places.iter().position(|&place| place == sought)
 }
 
-fn is_absent(places: [u32; PLACES], sought: u32) -> bool
-    ensures { result ≡ absent sought places }
+#[tactic(auto, using(crate::proofs::Holding::absent_is))]
+fn is_absent(sought: u32, places: &[u32]) -> bool
+    ensures { result ≡ absent sought places.now }
 {
-    first_from(places, 0, sought) == PLACES
+    !places.contains(&sought)
 }
 
 // Is a place free, or does it hold a reference that no later one holds?
+#[tactic(auto, using(rules::proofs::Telling::telling), unfolding(crate::specs::References::may_stand))]
 fn may_stand(places: [u32; PLACES], at: usize) -> bool
     requires { at < place_count }
     ensures { result ≡ may_stand (list.get_or places at 0) (list.drop (suc at) places) }
 {
     let place = places[at];
-    if place == FREE {
-        true
-    } else if place <= LAST {
-        first_from(places, at + 1, place) == PLACES
-    } else {
-        false
-    }
+    place == FREE || place <= LAST && is_absent(place, &places[at + 1..])
 }
 
 fn places_fit(places: [u32; PLACES]) -> bool
@@ -133,70 +111,61 @@ fn held(reference: u16) -> u32
 }
 
 // Is a reference to be added where all places hold others?
+#[tactic(auto, using(rules::proofs::Telling::telling), unfolding(crate::specs::References::is_full))]
 fn is_full(places: [u32; PLACES], change: Change) -> bool
     ensures { result ≡ is_full change places }
 {
     match change {
-        Change::Nothing => false,
         Change::Adds(reference) => {
-            let place = held(reference);
-            if is_absent(places, place) {
-                is_absent(places, FREE)
-            } else {
-                false
-            }
+            is_absent(held(reference), &places) && is_absent(FREE, &places)
         }
-        Change::Removes(_) => false,
+        Change::Nothing | Change::Removes(_) => false,
     }
 }
 
-fn put(places: [u32; PLACES], at: usize, place: u32) -> [u32; PLACES]
-    ensures { result ≡ list.set places at place }
+// The first place that is the one sought becomes another; where there is none, all stay.
+fn put(places: [u32; PLACES], sought: u32, place: u32) -> [u32; PLACES]
+    ensures { result ≡ list.set places (place_with sought places) place }
 {
     let mut after = places;
-    if at < PLACES {
+    if let Some(at) = place_of(sought, &places) {
         after[at] = place;
     }
     after
 }
 
 // A reference that is new takes the lowest free place; the place of one that is taken out is free again.
+#[tactic(auto, using(rules::proofs::Telling::telling), unfolding(crate::specs::References::places_after))]
 fn places_after(places: [u32; PLACES], change: Change) -> [u32; PLACES]
     ensures { result ≡ places_after change places }
 {
     match change {
-        Change::Nothing => places,
         Change::Adds(reference) => {
             let place = held(reference);
-            if is_absent(places, place) {
-                let at = first_from(places, 0, FREE);
-                put(places, at, place)
+            if is_absent(place, &places) {
+                put(places, FREE, place)
             } else {
                 places
             }
         }
-        Change::Removes(reference) => {
-            let place = held(reference);
-            let at = first_from(places, 0, place);
-            put(places, at, FREE)
-        }
+        Change::Removes(reference) => put(places, held(reference), FREE),
+        Change::Nothing => places,
     }
 }
 
 // FFH adds the reference, 00H takes it out, 55H does nothing.
+#[tactic(auto, using(rules::proofs::Telling::telling), unfolding(crate::specs::References::change_by))]
 fn change_by(state: u8, high: u8, low: u8) -> Change
     ensures { result ≡ change_by state high low }
 {
-    let reference = rules::reference_of(high, low);
-    if state == 0xFF {
-        Change::Adds(reference)
-    } else if state == 0x00 {
-        Change::Removes(reference)
-    } else {
-        Change::Nothing
+    match state {
+        0xFF => Change::Adds(rules::reference_of(high, low)),
+        0x00 => Change::Removes(rules::reference_of(high, low)),
+        _ => Change::Nothing,
     }
 }
 
+#[tactic(auto, unfolding(crate::specs::Settle::change_in))]
 fn change_in(contents: &[u8]) -> Change
     ensures { result ≡ change_in contents.now }
 {
@@ -222,7 +191,7 @@ fn change_of(book: Book, octets: &[u8]) -> Change
 }
 
 // The waiting number after a message: set where 13H counts.
-fn waiting_after(book: Book, old: Waiting, octets: &[u8]) -> Waiting
+fn waiting_after(book: Book, old: Option<u8>, octets: &[u8]) -> Option<u8>
     requires { Accepts (rules_of book) octets.now }
     ensures { result ≡ waiting_after (counted_in (rules_of book) octets.now 0x13) old }
 {
@@ -230,7 +199,7 @@ fn waiting_after(book: Book, old: Waiting, octets: &[u8]) -> Waiting
     match part {
         Some(Part { start, length }) => {
             let number = octets[start];
-            Waiting::Number(number)
+            Some(number)
         }
         None => old,
     }
@@ -254,113 +223,66 @@ fn lamp_after(book: Book, old: Lamp, octets: &[u8]) -> Lamp
     }
 }
 
-fn refused_with(number: u8, desk: Desk) -> Outcome
-    ensures { result ≡ refused_with number desk }
-{
-    Outcome {
-        desk,
-        answer: Answer::Refused(rules::noted(number, 0)),
-    }
-}
-
 // A notice sets what counts; nothing of it where the reference that it adds has no place.
-fn settle_notice(book: Book, desk: Desk, octets: &[u8]) -> Outcome
+#[tactic(auto, using(rules::proofs::Telling::telling), unfolding(crate::specs::Settle::settled_notice, crate::specs::Settle::noticed, crate::specs::Settle::refused_with))]
+fn settle_notice(book: Book, desk: Desk, octets: &[u8]) -> Result<Desk, Fault>
     requires { Accepts (rules_of book) octets.now }
-    ensures { result ≡ settled_notice (counted_in (rules_of book) octets.now) desk }
+    ensures { outcome desk result ≡ settled_notice (counted_in (rules_of book) octets.now) desk }
 {
-    let old = desk.places;
     let change = change_of(book, octets);
-    if is_full(old, change) {
-        refused_with(21, desk)
-    } else {
-        let number = desk.waiting;
-        let light = desk.lamp;
-        let waiting = waiting_after(book, number, octets);
-        let lamp = lamp_after(book, light, octets);
-        let places = places_after(old, change);
-        Outcome {
-            desk: Desk {
-                waiting,
-                lamp,
-                places,
-            },
-            answer: Answer::Done,
-        }
+    if is_full(desk.places, change) {
+        return Err(rules::noted(21, 0));
     }
+    let waiting = waiting_after(book, desk.waiting, octets);
+    let lamp = lamp_after(book, desk.lamp, octets);
+    let places = places_after(desk.places, change);
+    Ok(Desk {
+        waiting,
+        lamp,
+        places,
+    })
 }
 
-// A call message changes nothing.
-fn settle_message(book: Book, desk: Desk, octets: &[u8]) -> Outcome
-    requires { Accepts (rules_of book) octets.now }
-    ensures { result ≡ settled_message (rules_of book) octets.now desk }
+// The desk after a message. One with a place out of range or a reference twice is 17, whatever the octets; then an
+// unknown edition or way is 16; octets that the whole read declines with 1 to 8 or 10 get that number; 21 where a
+// reference has no place. A call message changes nothing.
+#[tactic(auto, using(rules::proofs::Telling::telling), unfolding(crate::specs::Settle::settle_of, crate::specs::Settle::settled_under, crate::specs::Settle::settled_by_none, crate::specs::Settle::refused_with, crate::specs::Settle::settled_message))]
+fn desk_after(edition: u8, way: u8, desk: Desk, octets: &[u8]) -> Result<Desk, Fault>
+    ensures { outcome desk result ≡ pick (known edition way) (settle_of (rules_of (book_of edition way)) desk octets.now) (settled_by_none desk) }
 {
+    if !places_fit(desk.places) {
+        return Err(rules::noted(17, 0));
+    }
+    let Some(book) = rules::known_book(edition, way) else {
+        return Err(rules::noted(16, 0));
+    };
+    message::judge(book, octets)?;
     if octets[0] == 0x82 {
         settle_notice(book, desk, octets)
     } else {
-        Outcome {
-            desk,
-            answer: Answer::Done,
-        }
+        Ok(desk)
     }
 }
 
-// A desk with a place out of range or a reference twice is 17; octets that the whole read declines with 1 to 8 or 10
-// get that number; 21 where a reference has no place. With each the desk comes back as it was.
-fn settle_by(book: Book, desk: Desk, octets: &[u8]) -> Outcome
-    ensures { result ≡ settle_of (rules_of book) desk octets.now }
-{
-    let places = desk.places;
-    if places_fit(places) {
-        let verdict = message::judge(book, octets);
-        match verdict {
-            Ok(size) => settle_message(book, desk, octets),
-            Err(fault) => Outcome {
-                desk,
-                answer: Answer::Refused(fault),
-            },
-        }
-    } else {
-        refused_with(17, desk)
-    }
-}
-
-// Without a book: 17 comes before 16.
-fn settle_by_none(desk: Desk) -> Outcome
-    ensures { result ≡ settled_by_none desk }
-{
-    let places = desk.places;
-    if places_fit(places) {
-        refused_with(16, desk)
-    } else {
-        refused_with(17, desk)
-    }
-}
-
-fn number_of(a: Answer) -> u8
-    ensures { result ≡ (told a).number }
-{
-    match a {
-        Answer::Done => 0,
-        Answer::Refused(f) => f.number,
-    }
-}
-
-// Settles a whole message by an edition and a way: 16 where one of them is unknown, behind 17.
-#[tactic(auto, using(rules::proofs::Telling::telling), unfolding(crate::specs::Settle::settle_in))]
+// Settles a whole message by an edition and a way: the desk as it then stands, as it was with a refusal.
+#[tactic(auto, using(rules::proofs::Telling::telling), unfolding(crate::specs::Settle::settle_in, crate::specs::Told::told, rules::specs::Editions::named_by))]
 pub fn settle(edition: u8, way: u8, desk: Desk, octets: &[u8]) -> Settling
     ensures { result ≡ settle_in edition way desk octets.now }
 {
-    match rules::known_book(edition, way) {
-        Some(book) => {
-            let outcome = settle_by(book, desk, octets);
-            Settling {
-                edition: rules::named_by(number_of(outcome.answer), edition),
-                outcome,
-            }
-        }
-        None => Settling {
-            edition: 0,
-            outcome: settle_by_none(desk),
+    match desk_after(edition, way, desk, octets) {
+        Ok(after) => Settling {
+            edition,
+            answer: Outcome {
+                desk: after,
+                answer: Ok(()),
+            },
+        },
+        Err(fault) => Settling {
+            edition: rules::named_by(fault.number, edition),
+            answer: Outcome {
+                desk,
+                answer: Err(fault),
+            },
         },
     }
 }

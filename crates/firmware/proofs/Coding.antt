@@ -1,6 +1,7 @@
 -- A record and what it stands for are each other's inverse: decode (encode l) is l, and encode (decode r) is r where
 -- r decodes.
 -- Assumes nothing.
+use Rattle.std.proofs.Common.{Some, None}
 use mathlib.Core.Path.{◌≡◌, refl, sym, ◌∙◌, ap, subst}
 use mathlib.Core.Bool.{Bool, false}
 use mathlib.Core.Logic.{◌⊎◌, inl, inr}
@@ -22,15 +23,14 @@ use Rattle.rules.specs.declared.State.TheVariants.{Waiting, Message, Refused}
 use Rattle.listener.specs.declared.Listener.{Listener}
 use Rattle.firmware.proofs.Classes.{Coded}
 use Rattle.firmware.specs.declared.Fields.{Fields}
-use Rattle.firmware.specs.declared.Decoded.TheVariants.{Known, Unknown}
 use Rattle.firmware.specs.Record.{fields_of, fields_waiting, fields_at, fields_ended, fields_for, laid_fields, record_of, known, spot_of, opening_of, parameter_state, ended_of, state_of, decode_of}
 use Rattle.firmware.specs.Sizes.{listener_size}
 
-unknown_not : (l : Listener) → Unknown ≡ Known l → ⊥
+unknown_not : (l : Listener) → None ≡ Some l → ⊥
 unknown_not l e = clash cc
 
 -- ---- a record that decodes has 16 octets
-pub known_size : (c : List ℕ) (l : Listener) → decode_of c ≡ Known l → length c ≡ listener_size
+pub known_size : (c : List ℕ) (l : Listener) → decode_of c ≡ Some l → length c ≡ listener_size
 unfolding decode_of
 known_size c l e = picked_by (length c ≡ listener_size) _ _ _ _ e (λ t _. eq_of _ _ t) (λ _ e. absurd (unknown_not l e))
 
@@ -38,17 +38,17 @@ known_size c l e = picked_by (length c ≡ listener_size) _ _ _ _ e (λ t _. eq_
 abbrev made : ℕ → ℕ → State → Listener
 made e y s = record { edition = e; way = y; state = s }
 
-state_fields : (e y : ℕ) (s : State) → Coded e y s → state_of e y (fields_for s) ≡ Known (made e y s)
+state_fields : (e y : ℕ) (s : State) → Coded e y s → state_of e y (fields_for s) ≡ Some (made e y s)
 unfolding state_of fields_for fields_at fields_waiting fields_ended opening_of parameter_state ended_of pick ◌≤?◌ ◌=?◌ known
 state_fields e y (Waiting Kind q) h = refl
 state_fields e y (Waiting Size q) h = refl
 state_fields e y (Waiting (Header r) q) h = refl
 state_fields e y (Waiting (Length c r) q) h =
-    pick_yes (code_in e y (class_code c)) (Known (made e y (Waiting (Length (class_coded (class_code c)) r) q))) Unknown h
-    ∙ ap (λ (d : Class). Known (made e y (Waiting (Length d r) q))) (coded_code c)
+    pick_yes (code_in e y (class_code c)) (Some (made e y (Waiting (Length (class_coded (class_code c)) r) q))) None h
+    ∙ ap (λ (d : Class). Some (made e y (Waiting (Length d r) q))) (coded_code c)
 state_fields e y (Waiting (Content c n i m r) q) h =
-    pick_yes (code_in e y (class_code c)) (Known (made e y (Waiting (Content (class_coded (class_code c)) n i m r) q)))
-    Unknown h ∙ ap (λ (d : Class). Known (made e y (Waiting (Content d n i m r) q))) (coded_code c)
+    pick_yes (code_in e y (class_code c)) (Some (made e y (Waiting (Content (class_coded (class_code c)) n i m r) q)))
+    None h ∙ ap (λ (d : Class). Some (made e y (Waiting (Content d n i m r) q))) (coded_code c)
 state_fields e y (Message n) h = refl
 state_fields e y (Refused f) h = refl
 
@@ -94,7 +94,7 @@ unfolding record_of
 record_numbers l = laid_numbers l.edition l.way (fields_for l.state)
 
 -- of a listener in a class of its book
-pub decode_encode : (l : Listener) → Coded l.edition l.way l.state → decode_of (record_of l) ≡ Known l
+pub decode_encode : (l : Listener) → Coded l.edition l.way l.state → decode_of (record_of l) ≡ Some l
 unfolding decode_of record_of
 decode_encode l h =
     let g = fields_for l.state in
@@ -112,7 +112,7 @@ pub record Good (e y : ℕ) (l : Listener) : Type 0 where
   pub way : l.way ≡ y
   pub coded : Coded e y l.state
 
-known_good : (e y : ℕ) (ok : Bool) (s : State) (l : Listener) → Coded e y s → known e y ok s ≡ Known l → Good e y l
+known_good : (e y : ℕ) (ok : Bool) (s : State) (l : Listener) → Coded e y s → known e y ok s ≡ Some l → Good e y l
 unfolding known
 known_good e y ok s l h z =
     picked_by (Good e y l) _ _ _ _ z
@@ -153,7 +153,7 @@ code_small e y k t =
     (λ _ z. picked_by (k ≤ 21) (e =? 1) _ _ (code_in e y k) z
     (λ _ u. set_small k (subst T (sym u) t)) (λ _ u. le_of _ _ (subst T (sym u) t))))
 
-state_good : (e y : ℕ) (f : Fields) (l : Listener) → state_of e y f ≡ Known l → Good e y l
+state_good : (e y : ℕ) (f : Fields) (l : Listener) → state_of e y f ≡ Some l → Good e y l
 unfolding state_of opening_of parameter_state ended_of
 state_good v y f l e =
     picked_by (Good v y l) _ _ _ _ e
@@ -171,7 +171,7 @@ state_good v y f l e =
     (λ _ e. picked_by (Good v y l) _ _ _ _ e (λ _ e. known_good v y _ _ l tt e)
     (λ _ e. picked_by (Good v y l) _ _ _ _ e (λ _ e. known_good v y _ _ l tt e) (λ _ e. absurd (unknown_not l e)))))
 
-pub decoded_good : (c : List ℕ) (l : Listener) → decode_of c ≡ Known l → Good (get_or c 11 0) (get_or c 12 0) l
+pub decoded_good : (c : List ℕ) (l : Listener) → decode_of c ≡ Some l → Good (get_or c 11 0) (get_or c 12 0) l
 unfolding decode_of
 decoded_good c l e =
     picked_by (Good (get_or c 11 0) (get_or c 12 0) l) _ _ _ _ e
@@ -179,7 +179,7 @@ decoded_good c l e =
     (λ _ e. absurd (unknown_not l e))
 
 -- ---- encode (decode c) is c, where c decodes
-known_is : (e y n : ℕ) (s : State) (l : Listener) → known e y (n =? 0) s ≡ Known l → (n ≡ 0) × (l.state ≡ s)
+known_is : (e y n : ℕ) (s : State) (l : Listener) → known e y (n =? 0) s ≡ Some l → (n ≡ 0) × (l.state ≡ s)
 unfolding known
 known_is e y n s l z =
     picked_by _ _ _ _ _ z
@@ -217,7 +217,7 @@ module _ (v y : ℕ) (f : Fields) (l : Listener) where
 
   opening_back : f.stage ≤ 2 →
       opening_of v y f.stage (spot_of f) f.room
-      (f.class + f.length + f.index + f.memory + f.number + f.spare) ≡ Known l → Back
+      (f.class + f.length + f.index + f.memory + f.number + f.spare) ≡ Some l → Back
   unfolding opening_of fields_for fields_at fields_waiting
   opening_back h e =
       picked_by Back _ _ _ _ e
@@ -237,7 +237,7 @@ module _ (v y : ℕ) (f : Fields) (l : Listener) where
 
   parameter_back : f.stage ≤ 4 → (f.stage ≤ 2 → ⊥) →
       parameter_state v y f.stage (spot_of f) f.class f.length f.index f.memory f.room
-      (f.number + f.spare) ≡ Known l → Back
+      (f.number + f.spare) ≡ Some l → Back
   unfolding parameter_state fields_for fields_at fields_waiting
   parameter_back h g e =
       picked_by Back _ _ _ _ e
@@ -254,7 +254,7 @@ module _ (v y : ℕ) (f : Fields) (l : Listener) where
       (λ _ e. absurd (unknown_not l e))
 
   ended_back : ended_of v y f.stage f.place f.number f.parameter
-      (f.class + f.length + f.index + f.memory + f.sum + f.room + f.spare) ≡ Known l → Back
+      (f.class + f.length + f.index + f.memory + f.sum + f.room + f.spare) ≡ Some l → Back
   unfolding ended_of fields_for fields_ended
   ended_back e =
       picked_by Back _ _ _ _ e
@@ -268,7 +268,7 @@ module _ (v y : ℕ) (f : Fields) (l : Listener) where
       (omega arith) (omega arith) refl refl (omega arith)))
       (λ _ e. absurd (unknown_not l e)))
 
-  fields_state : state_of v y f ≡ Known l → Back
+  fields_state : state_of v y f ≡ Some l → Back
   unfolding state_of
   fields_state e =
       picked_by Back _ _ _ _ e
@@ -306,7 +306,7 @@ laid_fields_lem (a0 ∷ a1 ∷ a2 ∷ a3 ∷ a4 ∷ a5 ∷ a6 ∷ a7 ∷ a8 ∷ 
     let z15 : 0 ≡ a15 = omega arith in
     λ i. a0 ∷ a1 ∷ p i ∷ q i ∷ a4 ∷ a5 ∷ a6 ∷ a7 ∷ a8 ∷ a9 ∷ a10 ∷ a11 ∷ a12 ∷ z13 i ∷ z14 i ∷ z15 i ∷ []
 
-pub encode_decode : (c : List ℕ) (l : Listener) → Octets c → decode_of c ≡ Known l → record_of l ≡ c
+pub encode_decode : (c : List ℕ) (l : Listener) → Octets c → decode_of c ≡ Some l → record_of l ≡ c
 unfolding record_of decode_of
 encode_decode c l o e =
     picked_by (laid_fields l.edition l.way (fields_for l.state) ≡ c) _ _ _ _ e

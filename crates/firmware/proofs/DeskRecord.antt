@@ -1,5 +1,6 @@
 -- A desk's record and its desk are each other's inverse: the codes by cases, the places octet by octet.
 -- Assumes nothing.
+use Rattle.std.proofs.Common.{Option, Some, None}
 use Prim.Native.Nat.{ℕ, zero, suc, ◌+◌, ◌*◌, ◌/◌, ◌%◌, ◌≤◌, ◌<◌}
 use mathlib.Core.Path.{◌≡◌, refl, sym, ◌∙◌, ap}
 use mathlib.Core.Bool.{Bool, true, false}
@@ -11,8 +12,6 @@ use Rattle.rules.specs.Tests.{◌≤?◌, ◌=?◌, ◌and◌, pick}
 use Rattle.rules.proofs.Tests.{both, join, le_of, eq_of, of_eq}
 use Rattle.rules.specs.Octets.{Octets}
 use Rattle.rules.proofs.Octets.{octets-drop, octet_at}
-use Rattle.desk.specs.declared.Waiting.{Waiting}
-use Rattle.desk.specs.declared.Waiting.TheVariants as waiting
 use Rattle.desk.specs.declared.Lamp.{Lamp}
 use Rattle.desk.specs.declared.Lamp.TheVariants as lamp
 use Rattle.desk.specs.declared.Desk.{Desk}
@@ -79,19 +78,19 @@ small_in c q =
       below = places_small place_count (drop 4 c) (octets-drop 4 c q);
     }
 
-codes_fit : (w : Waiting) (l : Lamp) → T (is_desk (waiting_code w) (waiting_number w) (lamp_code l) 0)
+codes_fit : (w : Option ℕ) (l : Lamp) → T (is_desk (waiting_code w) (waiting_number w) (lamp_code l) 0)
 unfolding is_desk is_waiting waiting_code waiting_number lamp_code pick ◌=?◌ ◌≤?◌ ◌and◌
-codes_fit waiting.Unknown lamp.Unknown = tt
-codes_fit waiting.Unknown lamp.Off = tt
-codes_fit waiting.Unknown lamp.On = tt
-codes_fit (waiting.Number n) lamp.Unknown = tt
-codes_fit (waiting.Number n) lamp.Off = tt
-codes_fit (waiting.Number n) lamp.On = tt
+codes_fit None lamp.Unknown = tt
+codes_fit None lamp.Off = tt
+codes_fit None lamp.On = tt
+codes_fit (Some n) lamp.Unknown = tt
+codes_fit (Some n) lamp.Off = tt
+codes_fit (Some n) lamp.On = tt
 
-waiting_decoded : (w : Waiting) → waiting_of (waiting_code w) (waiting_number w) ≡ w
+waiting_decoded : (w : Option ℕ) → waiting_of (waiting_code w) (waiting_number w) ≡ w
 unfolding waiting_of waiting_code waiting_number pick ◌=?◌
-waiting_decoded waiting.Unknown = refl
-waiting_decoded (waiting.Number n) = refl
+waiting_decoded None = refl
+waiting_decoded (Some n) = refl
 
 lamp_decoded : (l : Lamp) → lamp_of (lamp_code l) ≡ l
 unfolding lamp_of lamp_code pick ◌=?◌
@@ -117,8 +116,8 @@ unfolding is_waiting waiting_of waiting_code waiting_number pick
 waiting_back w n t = go (w =? 0) (λ x. eq_of _ _ x) t
   where
     go : (b : Bool) → (T b → w ≡ 0) → T (pick b (n =? 0) (w =? 1)) →
-        (waiting_code (pick b waiting.Unknown (waiting.Number n)) ≡ w)
-        × (waiting_number (pick b waiting.Unknown (waiting.Number n)) ≡ n)
+        (waiting_code (pick b None (Some n)) ≡ w)
+        × (waiting_number (pick b None (Some n)) ≡ n)
     go true f t = (sym (f tt), sym (eq_of _ _ t))
     go false f t = (sym (eq_of _ _ t), refl)
 

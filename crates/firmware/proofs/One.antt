@@ -1,6 +1,8 @@
 -- The sentences on the exports leave one word, and one content of each record: what is told of the octets is one
 -- (hears-one and its like), and the word and the records are told by it.
 -- Assumes nothing.
+use Rattle.caption.specs.Told.{Finding}
+use Rattle.desk.specs.Told.{Settling}
 use Rattle.std.proofs.Common.{ℕ, Result, Ok, Err}
 use Prim.Native.Nat.{ℕ, ◌≤◌}
 use mathlib.Core.Path.{◌≡◌, refl, sym, ◌∙◌, ap, subst}
@@ -25,10 +27,8 @@ use Rattle.reader.specs.declared.Reading.{Reading}
 use Rattle.reader.specs.Told as reader
 use Rattle.reader.proofs.One.{reads_one}
 use Rattle.desk.specs.declared.Desk.{Desk}
-use Rattle.desk.specs.declared.Settling.{Settling}
 use Rattle.desk.specs.Told as desk
 use Rattle.desk.proofs.One.{settles_by_one}
-use Rattle.caption.specs.declared.Finding.{Finding}
 use Rattle.caption.specs.Told as caption
 use Rattle.caption.proofs.One.{finds_by_one}
 use Rattle.firmware.specs.Word.{packed, word_number, word_place, word_parameter, word_size, word_taken, Unpacked, Plain}
@@ -127,10 +127,10 @@ pub record_settles_one : (k y : ℕ) (d : Desk) (o : List ℕ) (w : ℕ) (c : Li
     RecordSettles k y d o w c → RecordSettles k y d o v e → (w ≡ v) × (c ≡ e)
 record_settles_one k y d o w c v e A B =
     let x = settles_by_one k y d o A.settling B.settling A.settles B.settles in (
-      A.word.whole ∙ (λ i. packed (x i).edition (desk.told (x i).outcome.answer).number
-          (desk.told (x i).outcome.answer).place (desk.told (x i).outcome.answer).parameter 0 0)
+      A.word.whole ∙ (λ i. packed (x i).edition (desk.told (x i).answer.answer).number
+          (desk.told (x i).answer.answer).place (desk.told (x i).answer.answer).parameter 0 0)
           ∙ sym B.word.whole,
-      A.cells ∙ ap (λ (r : Settling). desk_record r.outcome.desk) x ∙ sym B.cells,
+      A.cells ∙ ap (λ (r : Settling). desk_record r.answer.desk) x ∙ sym B.cells,
     )
 
 -- what counts
@@ -160,25 +160,25 @@ record_counts_one b y o t w v A B = go A.verdict refl
 pub record_finds_one : (k y : ℕ) (o d c : List ℕ) (w : ℕ) (c' : List ℕ) (v : ℕ) (e : List ℕ) →
     RecordFinds k y o d c w c' → RecordFinds k y o d c v e → (w ≡ v) × (c' ≡ e)
 record_finds_one k y o d c w c' v e A B = (
-  A.word.whole ∙ (λ i. packed (x i).edition (caption.told (x i).shown).number (caption.told (x i).shown).place
-      (caption.told (x i).shown).parameter 0 0)
+  A.word.whole ∙ (λ i. packed (x i).edition (caption.told (x i).answer).number (caption.told (x i).answer).place
+      (caption.told (x i).answer).parameter 0 0)
       ∙ sym B.word.whole,
-  cells (decide ((caption.told A.finding.shown).number =? 0)),
+  cells (decide ((caption.told A.finding.answer).number =? 0)),
 )
   where
     x : A.finding ≡ B.finding
     x = finds_by_one k y o d A.finding B.finding A.finds B.finds
 
-    shown : (caption.told A.finding.shown).number ≡ 0 → c' ≡ e
+    shown : (caption.told A.finding.answer).number ≡ 0 → c' ≡ e
     shown z =
         A.part z
-        ∙ ap (λ (r : Finding). part_record (caption.told r.shown).side (caption.told r.shown).start
-        (caption.told r.shown).size) x
-        ∙ sym (B.part (sym (ap (λ (x : Finding). (caption.told x.shown).number) x) ∙ z))
+        ∙ ap (λ (r : Finding). part_record (caption.told r.answer).side (caption.told r.answer).start
+        (caption.told r.answer).size) x
+        ∙ sym (B.part (sym (ap (λ (x : Finding). (caption.told x.answer).number) x) ∙ z))
 
-    cells : T ((caption.told A.finding.shown).number =? 0) ⊎ (T ((caption.told A.finding.shown).number =? 0) → ⊥) →
+    cells : T ((caption.told A.finding.answer).number =? 0) ⊎ (T ((caption.told A.finding.answer).number =? 0) → ⊥) →
         c' ≡ e
     cells (inl t) = shown (eq_of _ _ t)
     cells (inr n) =
         let l = positive _ n in
-        A.refused l ∙ sym (B.refused (subst (λ (r : Finding). 1 ≤ (caption.told r.shown).number) x l))
+        A.refused l ∙ sym (B.refused (subst (λ (r : Finding). 1 ≤ (caption.told r.answer).number) x l))

@@ -1,6 +1,7 @@
 -- A call on a listener's record is a call on the listener that it stands for, and its word is read back field by
 -- field; a record that stands for none is 17, one that stands for a listener of an unknown edition or way 16.
 -- Assumes nothing.
+use Rattle.std.proofs.Common.{Option, Some, None}
 use Prim.Native.Nat.{ℕ, suc, ◌+◌, ◌≤◌, ◌<◌}
 use mathlib.Core.Path.{◌≡◌, refl, sym, ◌∙◌, ap, subst}
 use mathlib.Core.Logic.Iff
@@ -34,8 +35,6 @@ use Rattle.listener.proofs.Hears as listening
 use Rattle.listener.proofs.Told.{told_waits, fields_waiting_lem, fields_message, fields_refusal}
 use Rattle.listener.proofs.Hears.{B, LedBy, led_in_range, led_on, new_led, hears, Ranged, ranged, taken_small}
 use Rattle.listener.proofs.Hears.{in_range_heard, unknown_heard, out_of_range_heard, numbers_kept}
-use Rattle.firmware.specs.declared.Decoded.{Decoded}
-use Rattle.firmware.specs.declared.Decoded.TheVariants.{Known, Unknown}
 use Rattle.firmware.specs.Record.{decode_of, record_of}
 use Rattle.firmware.specs.Word.{packed, word_edition, word_number, word_place, word_parameter, word_size, word_taken, Unpacked, unpacked, Plain, Sixteen, sixteen, Seventeen, seventeen}
 use Rattle.firmware.specs.Exports.{bad_record, no_book, reset_answer, reset_record, word_of, answered, recorded, listen_answer, listen_record}
@@ -98,15 +97,15 @@ none_or_small b n (inr t) = ((spoken_of b).numbers n t).1
 pub stands_or_not : (c : List ℕ) → Stands c ⊎ (Stands c → ⊥)
 stands_or_not c = go (decode_of c) refl
   where
-    in_or_out : (l : Listener) → decode_of c ≡ Known l → InRange l ⊎ (InRange l → ⊥) → Stands c ⊎ (Stands c → ⊥)
+    in_or_out : (l : Listener) → decode_of c ≡ Some l → InRange l ⊎ (InRange l → ⊥) → Stands c ⊎ (Stands c → ⊥)
     in_or_out l k (inl t) = inl (record { listener = l; known = k; is_in_range = t })
     in_or_out l k (inr n) =
-        inr (λ s. let e : Known s.listener ≡ Known l = sym s.known ∙ k in let z : s.listener ≡ l = cc in
+        inr (λ s. let e : Some s.listener ≡ Some l = sym s.known ∙ k in let z : s.listener ≡ l = cc in
         n (subst (λ (x : Listener). InRange x) z s.is_in_range))
 
-    go : (y : Decoded) → decode_of c ≡ y → Stands c ⊎ (Stands c → ⊥)
-    go (Known l) k = in_or_out l k (decide (in_range (rules_of (B l)) l.state))
-    go Unknown k = inr (λ s. clash (cc (s.known, k)))
+    go : (y : Option Listener) → decode_of c ≡ y → Stands c ⊎ (Stands c → ⊥)
+    go (Some l) k = in_or_out l k (decide (in_range (rules_of (B l)) l.state))
+    go None k = inr (λ s. clash (cc (s.known, k)))
 
 -- a record that stands for none is 17, whatever the octets
 unsound : (c : List ℕ) → Octets c → (Stands c → ⊥) → (o : List ℕ) →
@@ -114,9 +113,9 @@ unsound : (c : List ℕ) → Octets c → (Stands c → ⊥) → (o : List ℕ) 
 unfolding listen_answer listen_record answered recorded word_of told
 unsound c q n o = go (decode_of c) refl
   where
-    go : (y : Decoded) → decode_of c ≡ y → (answered (decode_of c) o ≡ bad_record) × (recorded (decode_of c) c o ≡ c)
-    go Unknown k = (rw k, rw k)
-    go (Known l) k =
+    go : (y : Option Listener) → decode_of c ≡ y → (answered (decode_of c) o ≡ bad_record) × (recorded (decode_of c) c o ≡ c)
+    go None k = (rw k, rw k)
+    go (Some l) k =
         let x = out_of_range_heard l o (λ t. n (record { listener = l; known = k; is_in_range = t })) in
         (rw (k, x), rw (k, x) (encode_decode c l q k))
 
@@ -176,11 +175,11 @@ module _ (c : List ℕ) (s : Sound c) (o : List ℕ) where
 
   sound_word : listen_answer c o ≡ word_of (heard_of l o)
   unfolding listen_answer answered
-  sound_word = ap (λ (y : Decoded). answered y o) s.stands.known
+  sound_word = ap (λ (y : Option Listener). answered y o) s.stands.known
 
   pub sound_record : listen_record c o ≡ record_of (heard_of l o).listener
   unfolding listen_record recorded
-  sound_record = ap (λ (y : Decoded). recorded y c o) s.stands.known
+  sound_record = ap (λ (y : Option Listener). recorded y c o) s.stands.known
 
   pub heard_is : heard_of l o ≡ stepped (language_of (B l)) l o
   heard_is = in_range_heard l o s.stands.is_in_range numbers
@@ -359,7 +358,7 @@ module _ (c a b : List ℕ) (w w₁ w₂ : ℕ) (d d₁ d₂ : List ℕ) (e : w 
 -- a record stands for a listener of these numbers that the octets h lead to
 pub record RecordLedBy (v y : ℕ) (c h : List ℕ) : Type 0 where
   pub listener : Listener
-  pub known : decode_of c ≡ Known listener
+  pub known : decode_of c ≡ Some listener
   pub led : LedBy listener h
   pub edition : listener.edition ≡ v
   pub way : listener.way ≡ y

@@ -30,9 +30,8 @@ use Rattle.message.proofs.Searching.{counted_part}
 use Rattle.message.specs.Places.{contents_at}
 use Rattle.message.proofs.Places.{counted_at_lem, counted_inside}
 use Rattle.caption.specs.declared.Shown.{Shown}
-use Rattle.caption.specs.declared.Finding.{Finding}
 use Rattle.caption.specs.declared.Shown.TheVariants as found
-use Rattle.caption.specs.Told.{Told, told, Clear}
+use Rattle.caption.specs.Told.{Told, told, Clear, Finding}
 use Rattle.caption.specs.Caption.{find_in, slice_of}
 use Rattle.caption.specs.Finds.{Finds, FindsBy}
 use Rattle.caption.proofs.Editions.{finds_by}
@@ -138,19 +137,19 @@ module _ (e y : ℕ) (o d c : List ℕ) (w : ℕ) (c' : List ℕ) (a : w ≡ cap
     abbrev found_by : Finding
     found_by = find_in e y o d
 
-    abbrev r : Shown
-    r = found_by.shown
+    abbrev r : Result Shown Fault
+    r = found_by.answer
 
     said : FindsBy e y o d found_by
     said = finds_by e y o d q
 
     -- by a book, number, place and parameter fit their octets
-    found_small : (v : Book) (x : Shown) → Finds (rules_of v) o d x → (y : Shown) → x ≡ y →
+    found_small : (v : Book) (x : Result Shown Fault) → Finds (rules_of v) o d x → (y : Result Shown Fault) → x ≡ y →
         ((told y).number < 256) × ((told y).place ≤ 258) × ((told y).parameter ≤ 85)
     unfolding told
-    found_small v x F (found.InMessage start k) z = (omega arith, omega arith, omega arith)
-    found_small v x F (found.InDirectory start k) z = (omega arith, omega arith, omega arith)
-    found_small v x F (found.Refused f) z =
+    found_small v x F (Ok (found.InMessage start k)) z = (omega arith, omega arith, omega arith)
+    found_small v x F (Ok (found.InDirectory start k)) z = (omega arith, omega arith, omega arith)
+    found_small v x F (Err f) z =
         let y = declined_so F f z in (
           omega (arith, (told_small (spoken_of v) _ (number_of_lem F.judged f y)).1),
           near_declined F.judged f y,
@@ -193,25 +192,25 @@ module _ (e y : ℕ) (o d c : List ℕ) (w : ℕ) (c' : List ℕ) (a : w ≡ cap
     unfolding caption_record
     cells_are = b ∙ pick_yes (length c =? part_size) _ c (of_eq _ _ n)
 
-    kept : (x : Shown) → 1 ≤ (told x).number → part_from c x ≡ c
+    kept : (x : Result Shown Fault) → 1 ≤ (told x).number → part_from c x ≡ c
     unfolding part_from told
-    kept (found.InMessage start k) l = absurd (omega arith)
-    kept (found.InDirectory start k) l = absurd (omega arith)
-    kept (found.Refused f) l = refl
+    kept (Ok (found.InMessage start k)) l = absurd (omega arith)
+    kept (Ok (found.InDirectory start k)) l = absurd (omega arith)
+    kept (Err f) l = refl
 
-    part_from_lem : (x : Shown) → ((f : Fault) → x ≡ found.Refused f → 1 ≤ f.number) → (told x).number ≡ 0 →
+    part_from_lem : (x : Result Shown Fault) → ((f : Fault) → x ≡ Err f → 1 ≤ f.number) → (told x).number ≡ 0 →
         part_from c x ≡ part_record (told x).side (told x).start (told x).size
     unfolding part_from told
-    part_from_lem (found.InMessage start k) h e = refl
-    part_from_lem (found.InDirectory start k) h e = refl
-    part_from_lem (found.Refused f) h e = absurd (omega (arith, h f refl))
+    part_from_lem (Ok (found.InMessage start k)) h e = refl
+    part_from_lem (Ok (found.InDirectory start k)) h e = refl
+    part_from_lem (Err f) h e = absurd (omega (arith, h f refl))
 
     -- the slices are shorter than what eight octets say
-    slices_small : length d < 256 ^ 8 → length o ≤ 258 → (x : Shown) → length (slice_of x o d) < 256 ^ 8
+    slices_small : length d < 256 ^ 8 → length o ≤ 258 → (x : Result Shown Fault) → length (slice_of x o d) < 256 ^ 8
     unfolding slice_of
-    slices_small a b (found.InMessage start k) = omega (arith, b)
-    slices_small a b (found.InDirectory start k) = a
-    slices_small a b (found.Refused f) = omega (arith, b)
+    slices_small a b (Ok (found.InMessage start k)) = omega (arith, b)
+    slices_small a b (Ok (found.InDirectory start k)) = a
+    slices_small a b (Err f) = omega (arith, b)
 
     part_is_found : (told r).number ≡ 0 → c' ≡ part_record (told r).side (told r).start (told r).size
     part_is_found e = cells_are ∙ part_from_lem r (λ f z. subst Clear z said.clear) e

@@ -1,5 +1,6 @@
 -- What reading and laying down the places of a desk's record, and settling on it, want.
 -- Assumes nothing.
+use Rattle.desk.specs.Told.{Settling}
 use Prim.Native.Nat.{ℕ, zero, suc, ◌+◌, ◌*◌, ◌-◌, ◌≤◌, ◌<◌}
 use mathlib.Core.Path.{◌≡◌, refl, sym, ◌∙◌, ap, ap₂}
 use mathlib.Core.Bool.{Bool, true, false}
@@ -10,7 +11,6 @@ use lib.ListN.{length, length-set, take, drop, set, get_or}
 use lib.Seq.{take_all, take-suc, take-suc-set, drop-drop}
 use Rattle.rules.proofs.Returns.{pick_t, pick_f, via}
 use Rattle.desk.specs.declared.Desk.{Desk}
-use Rattle.desk.specs.declared.Settling.{Settling}
 use Rattle.desk.specs.Settle.{settle_in}
 use Rattle.rules.specs.Laying.{laid_at}
 use Rattle.rules.proofs.Laying.{laid_front, laid_length, rest_whole}
@@ -124,13 +124,13 @@ first_four (p ∷ q ∷ r ∷ s ∷ cells) h a b x y = refl
 -- ---- settling
 module _ (v y : ℕ) (c o : List ℕ) (b : Bool) (p : b ≡ is_record c) where
   pub settles_known : b ≡ true → (d : Desk) (x : Settling) (w : ℕ) (last : List ℕ) → d ≡ desk_in c →
-      x ≡ settle_in v y d o → w ≡ desk_word x.edition x.outcome.answer →
-      last ≡ desk_record x.outcome.desk → (w ≡ settle_answer v y c o) × (last ≡ settle_record v y c o)
+      x ≡ settle_in v y d o → w ≡ desk_word x.edition x.answer.answer →
+      last ≡ desk_record x.answer.desk → (w ≡ settle_answer v y c o) × (last ≡ settle_record v y c o)
   unfolding settle_answer settle_record
   settles_known t d x w last q k f g =
       let e : x ≡ settle_in v y (desk_in c) o = k ∙ ap (λ (u : Desk). settle_in v y u o) q in (
-        pick_t _ _ _ _ (via _ _ _ p t) (f ∙ ap (λ (y : Settling). desk_word y.edition y.outcome.answer) e),
-        pick_t _ _ _ _ (via _ _ _ p t) (g ∙ ap (λ (y : Settling). desk_record y.outcome.desk) e),
+        pick_t _ _ _ _ (via _ _ _ p t) (f ∙ ap (λ (y : Settling). desk_word y.edition y.answer.answer) e),
+        pick_t _ _ _ _ (via _ _ _ p t) (g ∙ ap (λ (y : Settling). desk_record y.answer.desk) e),
       )
 
   pub settles_unknown : b ≡ false → (w : ℕ) → w ≡ bad_record → (w ≡ settle_answer v y c o) × (c ≡ settle_record v y c o)

@@ -1,6 +1,7 @@
 -- A desk's record is settled on as promised: the desk that it holds is settled, and the record of what that leaves is
 -- written.
 -- Assumes nothing.
+use Rattle.std.proofs.Common.{Result, Ok, Err}
 use Prim.Native.Nat.{ℕ, ◌≤◌, ◌<◌}
 use mathlib.Core.Path.{◌≡◌, refl, sym, ◌∙◌, ap, subst}
 use mathlib.Core.Logic.Iff
@@ -23,12 +24,9 @@ use Rattle.rules.specs.declared.Fault.{Fault}
 use Rattle.rules.specs.Language.{language_of}
 use Rattle.rules.proofs.Grammar.{spoken_of}
 use Rattle.desk.specs.declared.Desk.{Desk}
-use Rattle.desk.specs.declared.Answer.{Answer}
-use Rattle.desk.specs.declared.Answer.TheVariants.{Done, Refused}
 use Rattle.desk.specs.declared.Outcome.{Outcome}
-use Rattle.desk.specs.declared.Settling.{Settling}
 use Rattle.desk.proofs.Holding.{all_free}
-use Rattle.desk.specs.Told.{Told, told, refusal, Clear}
+use Rattle.desk.specs.Told.{Told, told, refusal, Clear, Settling}
 use Rattle.desk.specs.Settle.{new_desk, settle_in}
 use Rattle.desk.specs.History.{said_under, said, later, last_said, Call, OpenBy, Names}
 use Rattle.desk.proofs.Words as words
@@ -48,30 +46,30 @@ use Rattle.firmware.specs.Sizes.{desk_size}
 
 -- ---- by a book, numbers, places and parameters are small: a word has room for them
 module _ (v : Book) (d : Desk) (o : List ℕ) (x : Outcome) (s : Settles (rules_of v) d o x) where
-  number_small : (a : Answer) → x.answer ≡ a → (told a).number ≤ 21
+  number_small : (a : Result (Unit {0}) Fault) → x.answer ≡ a → (told a).number ≤ 21
   unfolding told
-  number_small Done e = omega arith
-  number_small (Refused f) e = go (number_of_lem s f e)
+  number_small (Ok u) e = omega arith
+  number_small (Err f) e = go (number_of_lem s f e)
     where
       go : T (verdict_number (language_of v) f.number) ⊎ ((f.number ≡ 17) ⊎ (f.number ≡ 21)) → f.number ≤ 21
       go (inl h) = omega (arith, (told_small (spoken_of v) _ h).1)
       go (inr (inl h)) = omega (arith, h)
       go (inr (inr h)) = omega (arith, h)
 
-  near : (a : Answer) → x.answer ≡ a → (told a).place ≤ 258
+  near : (a : Result (Unit {0}) Fault) → x.answer ≡ a → (told a).place ≤ 258
   unfolding told
-  near Done e = omega arith
-  near (Refused f) e = go (number_of_lem s f e)
+  near (Ok u) e = omega arith
+  near (Err f) e = go (number_of_lem s f e)
     where
       go : T (verdict_number (language_of v) f.number) ⊎ ((f.number ≡ 17) ⊎ (f.number ≡ 21)) → f.place ≤ 258
       go (inl h) = near_declined s.judged f ((refused_iff s f (some_number s f e) h).0 e).1
-      go (inr (inl h)) = omega (arith, ((unfit_iff s f.place).0 (e ∙ ap Refused (noted_at s f e 17 h (inl refl)))).0)
-      go (inr (inr h)) = omega (arith, ((full_iff s f.place).0 (e ∙ ap Refused (noted_at s f e 21 h (inr refl)))).0)
+      go (inr (inl h)) = omega (arith, ((unfit_iff s f.place).0 (e ∙ ap Err (noted_at s f e 17 h (inl refl)))).0)
+      go (inr (inr h)) = omega (arith, ((full_iff s f.place).0 (e ∙ ap Err (noted_at s f e 21 h (inr refl)))).0)
 
-  few : (a : Answer) → x.answer ≡ a → (told a).parameter ≤ 85
+  few : (a : Result (Unit {0}) Fault) → x.answer ≡ a → (told a).parameter ≤ 85
   unfolding told
-  few Done e = omega arith
-  few (Refused f) e = go (number_of_lem s f e)
+  few (Ok u) e = omega arith
+  few (Err f) e = go (number_of_lem s f e)
     where
       go : T (verdict_number (language_of v) f.number) ⊎ ((f.number ≡ 17) ⊎ (f.number ≡ 21)) → f.parameter ≤ 85
       go (inl h) = few_declined s.judged f ((refused_iff s f (some_number s f e) h).0 e).1
@@ -81,7 +79,7 @@ module _ (v : Book) (d : Desk) (o : List ℕ) (x : Outcome) (s : Settles (rules_
 -- ---- by any numbers
 module _ (v y : ℕ) (d : Desk) (o : List ℕ) (x : Settling) (s : SettlesBy v y d o x) where
   abbrev tells : Told
-  tells = told x.outcome.answer
+  tells = told x.answer.answer
 
   -- what is told, with its number as it is
   as_refusal : (k : ℕ) → tells.number ≡ k → tells ≡ refusal k tells.place tells.parameter
@@ -105,9 +103,9 @@ module _ (v y : ℕ) (d : Desk) (o : List ℕ) (x : Settling) (s : SettlesBy v y
           (tells.number ≤ 21) × (tells.place ≤ 258) × (tells.parameter ≤ 85)
       go (inl t) =
           let b = s.by_book t in (
-            number_small (book_of v y) d o x.outcome b _ refl,
-            near (book_of v y) d o x.outcome b _ refl,
-            few (book_of v y) d o x.outcome b _ refl,
+            number_small (book_of v y) d o x.answer b _ refl,
+            near (book_of v y) d o x.answer b _ refl,
+            few (book_of v y) d o x.answer b _ refl,
           )
       go (inr n) = by_none (s.unknown n)
 
@@ -132,21 +130,21 @@ module _ (v y : ℕ) (d : Desk) (o : List ℕ) (x : Settling) (s : SettlesBy v y
           neither (inr e) = b (of_eq _ _ e)
 
   -- the desk that settling leaves has places that a record holds
-  small_after : Small d.places → Small x.outcome.desk.places
+  small_after : Small d.places → Small x.answer.desk.places
   small_after w = go (decide (known v y))
     where
       one_of : (tells.number ≡ 16) ⊎ (tells.number ≡ 17) → 1 ≤ tells.number
       one_of (inl e) = omega arith
       one_of (inr e) = omega arith
 
-      by_answer : Settles (rules_of (book_of v y)) d o x.outcome → (a : Answer) → x.outcome.answer ≡ a →
-          Small x.outcome.desk.places
-      by_answer b Done e =
+      by_answer : Settles (rules_of (book_of v y)) d o x.answer → (a : Result (Unit {0}) Fault) → x.answer.answer ≡ a →
+          Small x.answer.desk.places
+      by_answer b (Ok u) e =
           let f = b.fits ((done_iff b).0 e).0 in
           record { long = b.as_many ∙ w.long; below = λ i. omega (arith, f.range i) }
-      by_answer b (Refused f) e = subst (λ (y : Desk). Small y.places) (sym (refusal_leaves b f e)) w
+      by_answer b (Err f) e = subst (λ (y : Desk). Small y.places) (sym (refusal_leaves b f e)) w
 
-      go : T (known v y) ⊎ (T (known v y) → ⊥) → Small x.outcome.desk.places
+      go : T (known v y) ⊎ (T (known v y) → ⊥) → Small x.answer.desk.places
       go (inl t) = by_answer (s.by_book t) _ refl
       go (inr n) =
           subst (λ (y : Desk). Small y.places) (sym (s.refusal_stays (one_of (s.unknown n)))) w
@@ -161,12 +159,12 @@ module _ (v y : ℕ) (c o : List ℕ) (w : ℕ) (c' : List ℕ) (a : w ≡ settl
   result = settle_in v y (desk_in c) o
 
   settled_word : Octets o → T (is_record c) →
-      let k = told result.outcome.answer in
+      let k = told result.answer.answer in
       Unpacked result.edition k.number k.place k.parameter 0 0 w
   unfolding settle_answer desk_word
   settled_word q t =
       let s = settles.settles_by v y (desk_in c) o q in
-      let k = told result.outcome.answer in
+      let k = told result.answer.answer in
       let z = fields_small v y (desk_in c) o result s in
       subst (Unpacked result.edition k.number k.place k.parameter 0 0) (sym (a ∙ pick_yes _ _ _ t))
       (unpacked result.edition k.number k.place k.parameter 0 0
@@ -233,11 +231,11 @@ module _ (v y : ℕ) (c o : List ℕ) (w : ℕ) (c' : List ℕ) (a : w ≡ settl
         of_fault n f e k (inr (inl h)) = inr (inr (inr (inl (e ∙ h))))
         of_fault n f e k (inr (inr h)) = inr (inr (inr (inr (e ∙ h))))
 
-        desk : (t : T (is_record c)) (x : RecordSettles v y (desk_in c) o w c') → T (known v y) → (k : Answer) →
-            x.settling.outcome.answer ≡ k → Numbers (word_number w)
-        desk t x l Done e = inl (x.word.number ∙ ap (λ (a : Answer). (told a).number) e)
-        desk t x l (Refused f) e =
-            of_fault (word_number w) f (x.word.number ∙ ap (λ (a : Answer). (told a).number) e) l
+        desk : (t : T (is_record c)) (x : RecordSettles v y (desk_in c) o w c') → T (known v y) → (k : Result (Unit {0}) Fault) →
+            x.settling.answer.answer ≡ k → Numbers (word_number w)
+        desk t x l (Ok u) e = inl (x.word.number ∙ ap (λ (a : Result (Unit {0}) Fault). (told a).number) e)
+        desk t x l (Err f) e =
+            of_fault (word_number w) f (x.word.number ∙ ap (λ (a : Result (Unit {0}) Fault). (told a).number) e) l
             (number_of_lem (x.settles.by_book l) f e)
 
         by_none : (n : ℕ) → (n ≡ 16) ⊎ (n ≡ 17) → Numbers n
@@ -272,14 +270,14 @@ again v y c o k q w c₁ w₂ c₂ a b e f = go (decide (is_record c))
     go (inl t) =
         let x = settle_in v y (desk_in c) o in
         let z = small_after v y (desk_in c) o x (settles.settles_by v y (desk_in c) o q) (small_in c k) in
-        let i : c₁ ≡ desk_record x.outcome.desk = b ∙ pick_yes _ _ _ t in
-        let r : T (is_record c₁) = subst (λ (y : List ℕ). T (is_record y)) (sym i) (record_is x.outcome.desk z) in
+        let i : c₁ ≡ desk_record x.answer.desk = b ∙ pick_yes _ _ _ t in
+        let r : T (is_record c₁) = subst (λ (y : List ℕ). T (is_record y)) (sym i) (record_is x.answer.desk z) in
         let j : settle_in v y (desk_in c₁) o ≡ x =
-        ap (λ (d : Desk). settle_in v y d o) (ap desk_in i ∙ decode_encode x.outcome.desk z)
+        ap (λ (d : Desk). settle_in v y d o) (ap desk_in i ∙ decode_encode x.answer.desk z)
         ∙ settles.settled_twice v y (desk_in c) o q in (
-          e ∙ pick_yes _ _ _ r ∙ ap (λ (y : Settling). desk_word y.edition y.outcome.answer) j
+          e ∙ pick_yes _ _ _ r ∙ ap (λ (y : Settling). desk_word y.edition y.answer.answer) j
               ∙ sym (a ∙ pick_yes _ _ _ t),
-          f ∙ pick_yes _ _ _ r ∙ ap (λ (y : Settling). desk_record y.outcome.desk) j ∙ sym i,
+          f ∙ pick_yes _ _ _ r ∙ ap (λ (y : Settling). desk_record y.answer.desk) j ∙ sym i,
         )
     go (inr n) =
         let i : c₁ ≡ c = b ∙ pick_not _ _ _ n in (
@@ -332,53 +330,53 @@ module _ (c : List ℕ) (t : T (is_record c)) (w : Small (desk_in c).places) (x 
   said_so : SettlesBy x.edition x.way (desk_in c) x.octets as_call.settled
   said_so = settles.settles_by x.edition x.way (desk_in c) x.octets q
 
-  number_is : word_number x.word ≡ (told as_call.settled.outcome.answer).number
+  number_is : word_number x.word ≡ (told as_call.settled.answer.answer).number
   number_is = (settled_word x.edition x.way c x.octets x.word x.cells a b q t).number
 
-  no_number : (f : Fault) → as_call.settled.outcome.answer ≡ Refused f → f.number ≡ 0 → ⊥
+  no_number : (f : Fault) → as_call.settled.answer.answer ≡ Err f → f.number ≡ 0 → ⊥
   no_number f e z = let l = subst Clear e said_so.clear in omega (arith, l, z)
 
   same_word : (r : ℕ) → said_in r x ≡ said r as_call
   unfolding said_in said said_under told
-  same_word r = go as_call.settled.outcome.answer refl
+  same_word r = go as_call.settled.answer.answer refl
     where
-      go : (k : Answer) → as_call.settled.outcome.answer ≡ k →
+      go : (k : Result (Unit {0}) Fault) → as_call.settled.answer.answer ≡ k →
           said_in r x ≡
-          said_under (rules_of (book_of x.edition x.way)) r x.octets as_call.settled.outcome.answer
-      go Done e =
-          pick_yes _ _ _ (of_eq _ _ (number_is ∙ ap (λ (x : Answer). (told x).number) e))
+          said_under (rules_of (book_of x.edition x.way)) r x.octets as_call.settled.answer.answer
+      go (Ok u) e =
+          pick_yes _ _ _ (of_eq _ _ (number_is ∙ ap (λ (x : Result (Unit {0}) Fault). (told x).number) e))
           ∙ ap (said_under (rules_of (book_of x.edition x.way)) r x.octets) (sym e)
-      go (Refused f) e =
+      go (Err f) e =
           pick_not _ _ _ (λ z. no_number f e
-          (sym (ap (λ (x : Answer). (told x).number) e) ∙ sym number_is ∙ eq_of _ _ z))
+          (sym (ap (λ (x : Result (Unit {0}) Fault). (told x).number) e) ∙ sym number_is ∙ eq_of _ _ z))
           ∙ ap (said_under (rules_of (book_of x.edition x.way)) r x.octets) (sym e)
 
-  after_is : x.cells ≡ desk_record as_call.settled.outcome.desk
+  after_is : x.cells ≡ desk_record as_call.settled.answer.desk
   unfolding settle_record
   after_is = b ∙ pick_yes _ _ _ t
 
-  after_small : Small as_call.settled.outcome.desk.places
+  after_small : Small as_call.settled.answer.desk.places
   after_small = small_after x.edition x.way (desk_in c) x.octets as_call.settled said_so w
 
-  after_desk : desk_in x.cells ≡ as_call.settled.outcome.desk
-  after_desk = ap desk_in after_is ∙ decode_encode as_call.settled.outcome.desk after_small
+  after_desk : desk_in x.cells ≡ as_call.settled.answer.desk
+  after_desk = ap desk_in after_is ∙ decode_encode as_call.settled.answer.desk after_small
 
   after_record : T (is_record x.cells)
   after_record =
-      subst (λ (y : List ℕ). T (is_record y)) (sym after_is) (record_is as_call.settled.outcome.desk after_small)
+      subst (λ (y : List ℕ). T (is_record y)) (sym after_is) (record_is as_call.settled.answer.desk after_small)
 
   -- number 0 exactly where the desk's own call is done
-  call_done : (as_call.settled.outcome.answer ≡ Done) ↔ (word_number x.word ≡ 0)
+  call_done : (as_call.settled.answer.answer ≡ (Ok tt)) ↔ (word_number x.word ≡ 0)
   unfolding told
   call_done = (
-    λ e. number_is ∙ ap (λ (x : Answer). (told x).number) e,
-    λ e. go as_call.settled.outcome.answer refl (sym number_is ∙ e),
+    λ e. number_is ∙ ap (λ (x : Result (Unit {0}) Fault). (told x).number) e,
+    λ e. go as_call.settled.answer.answer refl (sym number_is ∙ e),
   )
     where
-      go : (k : Answer) → as_call.settled.outcome.answer ≡ k →
-          (told as_call.settled.outcome.answer).number ≡ 0 → as_call.settled.outcome.answer ≡ Done
-      go Done e z = e
-      go (Refused f) e z = absurd (no_number f e (sym (ap (λ (x : Answer). (told x).number) e) ∙ z))
+      go : (k : Result (Unit {0}) Fault) → as_call.settled.answer.answer ≡ k →
+          (told as_call.settled.answer.answer).number ≡ 0 → as_call.settled.answer.answer ≡ (Ok tt)
+      go (Ok u) e z = e
+      go (Err f) e z = absurd (no_number f e (sym (ap (λ (x : Result (Unit {0}) Fault). (told x).number) e) ∙ z))
 
   names_iff : (s r : ℕ) → Names as_call s r ↔ NamesIn x s r
   names_iff s r = (

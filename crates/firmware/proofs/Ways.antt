@@ -59,13 +59,13 @@ module _ (e : ℕ) (k : T (edition e)) (o : List ℕ) (a : Accepts (strict_of e)
   unfolding settle_answer
   same_desk_word =
       let z = same_settling e k o a (desk_in c) in
-      λ i. pick (is_record c) (desk_word (z i).edition (z i).outcome.answer) bad_record
+      λ i. pick (is_record c) (desk_word (z i).edition (z i).answer.answer) bad_record
 
   pub same_desk_record : settle_record e strict c o ≡ settle_record e lenient c o
   unfolding settle_record
   same_desk_record =
       let z = same_settling e k o a (desk_in c) in
-      λ i. pick (is_record c) (desk_record (z i).outcome.desk) c
+      λ i. pick (is_record c) (desk_record (z i).answer.desk) c
 
 module _ (e : ℕ) (k : T (edition e)) (o : List ℕ) (a : Accepts (strict_of e) o) where
   counts_by : (t : ℕ) (v : Result ℕ Fault) → counted_under e strict v o t ≡ counted_under e lenient v o t
@@ -91,4 +91,4 @@ module _ (e : ℕ) (k : T (edition e)) (o : List ℕ) (a : Accepts (strict_of e)
   unfolding caption_record
   same_caption_record d c =
       let z = same_finding e k o a d in
-      λ i. pick (length c =? part_size) (part_from c (z i).shown) c
+      λ i. pick (length c =? part_size) (part_from c (z i).answer) c

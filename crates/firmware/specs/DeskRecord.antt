@@ -2,10 +2,8 @@
 -- 0 unknown, 1 off, 2 on; an octet kept at 0; then sixteen places of three octets, low first, each 0 or one more than
 -- the reference that it holds. Anything else is 17 (document 01, Numbers; document 02, Q-6).
 -- Assumes nothing.
-use Rattle.std.specs.Prelude.{ℕ, zero, suc, ◌+◌, ◌*◌, ◌/◌, ◌%◌, Bool, List, [], ◌∷◌, ◌++◌, length, drop, get_or}
+use Rattle.std.specs.Prelude.{ℕ, zero, suc, ◌+◌, ◌*◌, ◌/◌, ◌%◌, Bool, List, [], ◌∷◌, ◌++◌, length, drop, get_or, Option, Some, None}
 use Rattle.rules.specs.Tests.{◌≤?◌, ◌=?◌, ◌and◌, pick}
-use Rattle.desk.specs.declared.Waiting.{Waiting}
-use Rattle.desk.specs.declared.Waiting.TheVariants as waiting
 use Rattle.desk.specs.declared.Lamp.{Lamp}
 use Rattle.desk.specs.declared.Lamp.TheVariants as lamp
 use Rattle.desk.specs.declared.Desk.{Desk}
@@ -19,8 +17,8 @@ is_waiting w n = pick (w =? 0) (n =? 0) (w =? 1)
 unfoldable pub is_desk : ℕ → ℕ → ℕ → ℕ → Bool
 is_desk w n l z = is_waiting w n and (l ≤? 2 and z =? 0)
 
-unfoldable pub waiting_of : ℕ → ℕ → Waiting
-waiting_of w n = pick (w =? 0) waiting.Unknown (waiting.Number n)
+unfoldable pub waiting_of : ℕ → ℕ → Option ℕ
+waiting_of w n = pick (w =? 0) None (Some n)
 
 unfoldable pub lamp_of : ℕ → Lamp
 lamp_of l = pick (l =? 0) lamp.Unknown (pick (l =? 1) lamp.Off lamp.On)
@@ -46,13 +44,13 @@ desk_in c =
     }
 
 -- ---- the record of a desk
-unfoldable pub waiting_code : Waiting → ℕ
-waiting_code waiting.Unknown = 0
-waiting_code (waiting.Number n) = 1
+unfoldable pub waiting_code : Option ℕ → ℕ
+waiting_code None = 0
+waiting_code (Some n) = 1
 
-unfoldable pub waiting_number : Waiting → ℕ
-waiting_number waiting.Unknown = 0
-waiting_number (waiting.Number n) = n
+unfoldable pub waiting_number : Option ℕ → ℕ
+waiting_number None = 0
+waiting_number (Some n) = n
 
 unfoldable pub lamp_code : Lamp → ℕ
 lamp_code lamp.Unknown = 0

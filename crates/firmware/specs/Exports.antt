@@ -1,6 +1,7 @@
 -- What the exports answer, and what they leave in a record (document 01: 17 comes first; a record that is only
 -- written is judged by its size alone; document 02, Q-5 and Q-11: then 16, where the edition or the way is unknown).
 -- Assumes nothing.
+use Rattle.caption.specs.Told.{Finding}
 use Rattle.std.specs.Prelude.{ℕ, List, length, Result, Ok, Err, Option, Some, None}
 use Rattle.rules.specs.Tests.{◌=?◌, pick}
 use Rattle.rules.specs.Table.{Rules, rules_of}
@@ -18,19 +19,14 @@ use Rattle.message.specs.Parts.{counted_at}
 use Rattle.caption.specs.declared.Shown.{Shown}
 use Rattle.caption.specs.declared.Shown.TheVariants as found
 use Rattle.caption.specs.Told as caption
-use Rattle.caption.specs.declared.Finding.{Finding}
 use Rattle.caption.specs.Caption.{find_in}
 use Rattle.reader.specs.Read.{pack_of, area_after}
 use Rattle.reader.specs.Told as reader
-use Rattle.desk.specs.declared.Answer as desk
 use Rattle.desk.specs.Told as settled
 use Rattle.desk.specs.Settle.{new_desk, settle_in}
 use Rattle.firmware.specs.DeskRecord.{is_record, desk_in, desk_record}
 use Rattle.firmware.specs.DraftRecord.{draft_record}
 use Rattle.firmware.specs.PartRecord.{part_record}
-use Rattle.firmware.specs.declared.HeardWord.{HeardWord}
-use Rattle.firmware.specs.declared.Decoded.{Decoded}
-use Rattle.firmware.specs.declared.Decoded.TheVariants.{Known, Unknown}
 use Rattle.firmware.specs.Record.{decode_of, record_of}
 use Rattle.firmware.specs.Word.{packed}
 use Rattle.firmware.specs.Sizes.{listener_size, draft_size, desk_size, part_size}
@@ -58,16 +54,13 @@ word_of h =
     packed h.edition (told h.answer).number (told h.answer).place (told h.answer).parameter
     (told h.answer).size h.taken
 
-unfoldable pub heard_word_of : Listener → List ℕ → HeardWord
-heard_word_of l o = record { listener = (heard_of l o).listener; word = word_of (heard_of l o) }
+unfoldable pub answered : Option Listener → List ℕ → ℕ
+answered (Some l) o = word_of (heard_of l o)
+answered None o = bad_record
 
-unfoldable pub answered : Decoded → List ℕ → ℕ
-answered (Known l) o = word_of (heard_of l o)
-answered Unknown o = bad_record
-
-unfoldable pub recorded : Decoded → List ℕ → List ℕ → List ℕ
-recorded (Known l) c o = record_of (heard_of l o).listener
-recorded Unknown c o = c
+unfoldable pub recorded : Option Listener → List ℕ → List ℕ → List ℕ
+recorded (Some l) c o = record_of (heard_of l o).listener
+recorded None c o = c
 
 unfoldable pub listen_answer : List ℕ → List ℕ → ℕ
 listen_answer c o = answered (decode_of c) o
@@ -107,17 +100,17 @@ unfoldable pub new_desk_record : List ℕ → List ℕ
 new_desk_record c = pick (length c =? desk_size) (desk_record new_desk) c
 
 -- the edition named, number, place and parameter of an answer as a word
-unfoldable pub desk_word : ℕ → desk.Answer → ℕ
+unfoldable pub desk_word : ℕ → Result (Unit {0}) Fault → ℕ
 desk_word e a = packed e (settled.told a).number (settled.told a).place (settled.told a).parameter 0 0
 
 -- a record that is a desk's: word and record of that desk's settling; any other is 17 and stays
 unfoldable pub settle_answer : ℕ → ℕ → List ℕ → List ℕ → ℕ
 settle_answer e y c o =
     pick (is_record c)
-    (desk_word (settle_in e y (desk_in c) o).edition (settle_in e y (desk_in c) o).outcome.answer) bad_record
+    (desk_word (settle_in e y (desk_in c) o).edition (settle_in e y (desk_in c) o).answer.answer) bad_record
 
 unfoldable pub settle_record : ℕ → ℕ → List ℕ → List ℕ → List ℕ
-settle_record e y c o = pick (is_record c) (desk_record (settle_in e y (desk_in c) o).outcome.desk) c
+settle_record e y c o = pick (is_record c) (desk_record (settle_in e y (desk_in c) o).answer.desk) c
 
 -- ---- what counts: the size is the length of the contents that count, and their start stands in octets 5 and 6; 0
 -- and 0 where none count
@@ -136,17 +129,17 @@ counted_answer e y o t = pick (known e y) (counted_under e y (verdict_of (rules_
 -- ---- the caption: the record is only written, so its size alone is judged
 unfoldable pub found_word : Finding → ℕ
 found_word r =
-    packed r.edition (caption.told r.shown).number (caption.told r.shown).place
-    (caption.told r.shown).parameter 0 0
+    packed r.edition (caption.told r.answer).number (caption.told r.answer).place
+    (caption.told r.answer).parameter 0 0
 
 -- the record of the part that is found; as it was with a refusal
-unfoldable pub part_from : List ℕ → Shown → List ℕ
-part_from c (found.InMessage start n) = part_record 0 start n
-part_from c (found.InDirectory start n) = part_record 1 start n
-part_from c (found.Refused f) = c
+unfoldable pub part_from : List ℕ → Result Shown Fault → List ℕ
+part_from c (Ok (found.InMessage start n)) = part_record 0 start n
+part_from c (Ok (found.InDirectory start n)) = part_record 1 start n
+part_from c (Err f) = c
 
 unfoldable pub caption_answer : ℕ → ℕ → List ℕ → List ℕ → List ℕ → ℕ
 caption_answer e y o d c = pick (length c =? part_size) (found_word (find_in e y o d)) bad_record
 
 unfoldable pub caption_record : ℕ → ℕ → List ℕ → List ℕ → List ℕ → List ℕ
-caption_record e y o d c = pick (length c =? part_size) (part_from c (find_in e y o d).shown) c
+caption_record e y o d c = pick (length c =? part_size) (part_from c (find_in e y o d).answer) c

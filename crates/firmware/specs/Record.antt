@@ -3,7 +3,7 @@
 -- index; 7 the memory; 8 the room;
 -- 9 the number of a refusal; 10 the parameter; 11 the edition; 12 the way; 13 to 15 are 0, kept for what may come.
 -- Assumes nothing.
-use Rattle.std.specs.Prelude.{ℕ, ◌+◌, ◌*◌, ◌/◌, ◌%◌, Bool, List, [], ◌∷◌, length, get_or}
+use Rattle.std.specs.Prelude.{ℕ, ◌+◌, ◌*◌, ◌/◌, ◌%◌, Bool, List, [], ◌∷◌, length, get_or, Option, Some, None}
 use Rattle.rules.specs.Tests.{◌≤?◌, ◌=?◌, pick}
 use Rattle.rules.specs.Refusals.{noted_in}
 use Rattle.rules.specs.Codes.{class_code, class_coded, code_in}
@@ -14,8 +14,6 @@ use Rattle.rules.specs.declared.State.{State}
 use Rattle.rules.specs.declared.State.TheVariants.{Waiting, Message, Refused}
 use Rattle.listener.specs.declared.Listener.{Listener}
 use Rattle.firmware.specs.declared.Fields.{Fields}
-use Rattle.firmware.specs.declared.Decoded.{Decoded}
-use Rattle.firmware.specs.declared.Decoded.TheVariants.{Known, Unknown}
 use Rattle.firmware.specs.Sizes.{listener_size}
 
 unfoldable pub fields_of : List ℕ → Fields
@@ -89,36 +87,36 @@ record_of l = laid_fields l.edition l.way (fields_for l.state)
 
 -- ---- back
 -- a listener of an edition and a way
-unfoldable pub known : ℕ → ℕ → Bool → State → Decoded
-known e y ok s = pick ok (Known (record { edition = e; way = y; state = s })) Unknown
+unfoldable pub known : ℕ → ℕ → Bool → State → Option Listener
+known e y ok s = pick ok (Some (record { edition = e; way = y; state = s })) None
 
 abbrev pub spot_of : Fields → Spot
 spot_of f = record { sum = f.sum; place = f.place; parameter = f.parameter }
 
 -- Where something is unused it must be 0; idle is the sum of what is.
 -- before a parameter: the message type, L, a parameter type or the checksum is to come
-unfoldable pub opening_of : ℕ → ℕ → ℕ → Spot → ℕ → ℕ → Decoded
+unfoldable pub opening_of : ℕ → ℕ → ℕ → Spot → ℕ → ℕ → Option Listener
 opening_of e y s q r idle =
     pick (s =? 0) (known e y (idle + r =? 0) (Waiting Kind q))
     (pick (s =? 1) (known e y (idle + r =? 0) (Waiting Size q))
     (known e y (idle =? 0) (Waiting (Header r) q)))
 
 -- in a parameter, of a class that the edition has by the way: its length or an octet of its contents is to come
-unfoldable pub parameter_state : ℕ → ℕ → ℕ → Spot → ℕ → ℕ → ℕ → ℕ → ℕ → ℕ → Decoded
+unfoldable pub parameter_state : ℕ → ℕ → ℕ → Spot → ℕ → ℕ → ℕ → ℕ → ℕ → ℕ → Option Listener
 parameter_state e y s q c n i m r idle =
     pick (code_in e y c)
     (pick (s =? 3) (known e y (n + i + m + idle =? 0) (Waiting (Length (class_coded c) r) q))
     (known e y (idle =? 0) (Waiting (Content (class_coded c) n i m r) q)))
-    Unknown
+    None
 
 -- a message or a refusal
-unfoldable pub ended_of : ℕ → ℕ → ℕ → ℕ → ℕ → ℕ → ℕ → Decoded
+unfoldable pub ended_of : ℕ → ℕ → ℕ → ℕ → ℕ → ℕ → ℕ → Option Listener
 ended_of e y s p k b idle =
     pick (s =? 5) (known e y (idle + k + b =? 0) (Message p))
     (pick (s =? 6) (known e y (idle =? 0) (Refused (noted_in k p b)))
-    Unknown)
+    None)
 
-unfoldable pub state_of : ℕ → ℕ → Fields → Decoded
+unfoldable pub state_of : ℕ → ℕ → Fields → Option Listener
 state_of e y f =
     pick (f.stage ≤? 2) (opening_of e y f.stage (spot_of f) f.room
     (f.class + f.length + f.index + f.memory + f.number + f.spare))
@@ -128,5 +126,5 @@ state_of e y f =
     (f.class + f.length + f.index + f.memory + f.sum + f.room + f.spare)))
 
 -- a record of another size stands for nothing
-unfoldable pub decode_of : List ℕ → Decoded
-decode_of c = pick (length c =? listener_size) (state_of (get_or c 11 0) (get_or c 12 0) (fields_of c)) Unknown
+unfoldable pub decode_of : List ℕ → Option Listener
+decode_of c = pick (length c =? listener_size) (state_of (get_or c 11 0) (get_or c 12 0) (fields_of c)) None

@@ -1,12 +1,11 @@
 -- What demand 3 says of a call on a listener's record, read off the answer's word and over the written rules alone.
 -- Assumes nothing.
-use Rattle.std.specs.Prelude.{ℕ, suc, ◌+◌, ◌≤◌, ◌<◌, ◌≡◌, Bool, ◌⊎◌, ◌↔◌, List, ◌∷◌, ◌++◌, length, take, drop, get_or, T}
+use Rattle.std.specs.Prelude.{ℕ, suc, ◌+◌, ◌≤◌, ◌<◌, ◌≡◌, Bool, ◌⊎◌, ◌↔◌, List, ◌∷◌, ◌++◌, length, take, drop, get_or, T, Some}
 use Rattle.rules.specs.Endings.{Ending, Spoilt, Numbered}
 use Rattle.rules.specs.Language.{Language}
 use Rattle.rules.specs.Editions.{known}
 use Rattle.listener.specs.Answers.{InRange}
 use Rattle.listener.specs.declared.Listener.{Listener}
-use Rattle.firmware.specs.declared.Decoded.TheVariants.{Known}
 use Rattle.firmware.specs.Record.{decode_of}
 use Rattle.firmware.specs.Word.{packed, word_edition, word_number, word_place, word_parameter, word_size, word_taken}
 
@@ -38,7 +37,7 @@ pub record RecordHears (L : Language) (e : ℕ) (h o : List ℕ) (w : ℕ) : Typ
 -- a record stands for a listener in range; its edition is octet 11, its way octet 12
 pub record Stands (c : List ℕ) : Type 0 where
   pub listener : Listener
-  pub known : decode_of c ≡ Known listener
+  pub known : decode_of c ≡ Some listener
   pub is_in_range : InRange listener
 
 -- there are an edition and a way of the numbers in octets 11 and 12

@@ -12,8 +12,7 @@ use Rattle.rules.specs.declared.Fault.{Fault}
 use Rattle.message.specs.Told as message
 use Rattle.message.specs.Judges.{Judges}
 use Rattle.message.specs.Places.{contents_at}
-use Rattle.caption.specs.declared.Finding.{Finding}
-use Rattle.caption.specs.Told.{told}
+use Rattle.caption.specs.Told.{told, Finding}
 use Rattle.caption.specs.Finds.{FindsBy}
 use Rattle.firmware.specs.Word.{Unpacked}
 use Rattle.firmware.specs.PartRecord.{part_record, part_side, part_start, part_length}
@@ -39,15 +38,15 @@ pub record RecordFinds (e y : ℕ) (o d c : List ℕ) (w : ℕ) (c' : List ℕ) 
   pub finding : Finding
   pub finds : FindsBy e y o d finding
   pub word :
-      let a = told finding.shown in
+      let a = told finding.answer in
       Unpacked finding.edition a.number a.place a.parameter 0 0 w
   -- side, start and length of the part; as it was with a refusal
   pub part :
-      let t = told finding.shown in
+      let t = told finding.answer in
       t.number ≡ 0 → c' ≡ part_record t.side t.start t.size
-  pub refused : 1 ≤ (told finding.shown).number → c' ≡ c
+  pub refused : 1 ≤ (told finding.answer).number → c' ≡ c
   -- and the header's readers read them back; every slice has fewer than 2^64 octets
   pub read_back :
-      let t = told finding.shown in
+      let t = told finding.answer in
       length d < 256 ^ 8 → t.number ≡ 0 →
       (part_side c' ≡ t.side) × (part_start c' ≡ t.start) × (part_length c' ≡ t.size)

@@ -1,6 +1,6 @@
 -- What settling says and leaves on a desk's record, read off the answer's word and over the written rules alone.
 -- Assumes nothing.
-use Rattle.std.specs.Prelude.{ℕ, ◌≡◌, Bool, true, false, ◌↔◌, List, [], ◌∷◌, T}
+use Rattle.std.specs.Prelude.{ℕ, ◌≡◌, Bool, true, false, ◌↔◌, List, [], ◌∷◌, T, Ok}
 use Rattle.std.proofs.Math.Option.{Option, none, some}
 use Rattle.rules.specs.Tests.{◌=?◌, pick}
 use Rattle.rules.specs.Table.{rules_of}
@@ -9,11 +9,9 @@ use Rattle.rules.specs.Message as message
 use Rattle.rules.specs.Message.{octets, LegalMessage}
 use Rattle.rules.specs.Counting.{counted}
 use Rattle.desk.specs.declared.Desk.{Desk}
-use Rattle.desk.specs.declared.Answer.TheVariants.{Done}
-use Rattle.desk.specs.declared.Settling.{Settling}
 use Rattle.desk.specs.History.{said_under, later}
 use Rattle.desk.specs.Holding.{Fit}
-use Rattle.desk.specs.Told.{told}
+use Rattle.desk.specs.Told.{told, Settling}
 use Rattle.desk.specs.Settles.{SettlesBy}
 use Rattle.firmware.specs.DeskRecord.{is_record, desk_in, desk_record}
 use Rattle.firmware.specs.Word.{word_number, Unpacked}
@@ -25,9 +23,9 @@ pub record RecordSettles (e y : ℕ) (d : Desk) (o : List ℕ) (w : ℕ) (c' : L
   pub settling : Settling
   pub settles : SettlesBy e y d o settling
   pub word :
-      let a = told settling.outcome.answer in
+      let a = told settling.answer.answer in
       Unpacked settling.edition a.number a.place a.parameter 0 0 w
-  pub cells : c' ≡ desk_record settling.outcome.desk
+  pub cells : c' ≡ desk_record settling.answer.desk
 
 -- size and codes are right, every place is in range, and no reference stands twice
 pub record IsDesk (c : List ℕ) : Type 0 where
@@ -46,7 +44,7 @@ pub record RecordCall : Type 0 where
 -- what a call says of the reference r: with number 0, what a notice that is done says; else nothing
 unfoldable pub said_in : ℕ → RecordCall → Option Bool
 said_in r x =
-    pick (word_number x.word =? 0) (said_under (rules_of (book_of x.edition x.way)) r x.octets Done) none
+    pick (word_number x.word =? 0) (said_under (rules_of (book_of x.edition x.way)) r x.octets (Ok tt)) none
 
 -- the last word of some calls on r, after the word b
 unfoldable pub last_said_in : ℕ → List RecordCall → Option Bool → Option Bool

@@ -6,60 +6,57 @@ ghost use Rattle.desk.specs.References.{place_count};
 ghost use Rattle.firmware.specs.DeskRecord as record_of;
 ghost use Rattle.firmware.specs.Sizes.{desk_size};
 
-use desk::{Desk, Lamp, PLACES, Waiting};
+use desk::{Desk, Lamp, PLACES};
 
 // The octets of a desk's record.
 pub(crate) const DESK: usize = 52;
 
 // 0 unknown, and then no number; 1 known.
+#[tactic(auto, using(rules::proofs::Telling::telling), unfolding(crate::specs::DeskRecord::is_waiting))]
 fn is_waiting(code: u8, number: u8) -> bool
     ensures { result ≡ record_of.is_waiting code number }
 {
-    if code == 0 { number == 0 } else { code == 1 }
-}
-
-fn waiting_of(code: u8, number: u8) -> Waiting
-    ensures { result ≡ record_of.waiting_of code number }
-{
-    if code == 0 {
-        Waiting::Unknown
-    } else {
-        Waiting::Number(number)
+    match code {
+        0 => number == 0,
+        _ => code == 1,
     }
 }
 
-// 0 unknown, 1 off, 2 on.
+#[tactic(auto, using(rules::proofs::Telling::telling), unfolding(crate::specs::DeskRecord::waiting_of))]
+fn waiting_of(code: u8, number: u8) -> Option<u8>
+    ensures { result ≡ record_of.waiting_of code number }
+{
+    match code {
+        0 => None,
+        _ => Some(number),
+    }
+}
+
+// 0 unknown, 1 off, 2 on. Total, since `is_desk` has judged the code before: a TryFrom would refuse once more.
+#[tactic(auto, using(rules::proofs::Telling::telling), unfolding(crate::specs::DeskRecord::lamp_of))]
 fn lamp_of(code: u8) -> Lamp
     ensures { result ≡ record_of.lamp_of code }
 {
-    if code == 0 {
-        Lamp::Unknown
-    } else if code == 1 {
-        Lamp::Off
-    } else {
-        Lamp::On
+    match code {
+        0 => Lamp::Unknown,
+        1 => Lamp::Off,
+        _ => Lamp::On,
     }
 }
 
+#[tactic(auto, using(rules::proofs::Telling::telling), unfolding(crate::specs::DeskRecord::is_desk))]
 fn is_desk(code: u8, number: u8, lamp: u8, spare: u8) -> bool
     ensures { result ≡ record_of.is_desk code number lamp spare }
 {
-    if is_waiting(code, number) {
-        if lamp <= 2 { spare == 0 } else { false }
-    } else {
-        false
-    }
+    is_waiting(code, number) && lamp <= 2 && spare == 0
 }
 
 // Size and codes; what the places hold is for the desk to judge.
+#[tactic(auto, using(rules::proofs::Telling::telling), unfolding(crate::specs::DeskRecord::is_record))]
 pub(crate) fn is_record(cells: &[u8]) -> bool
     ensures { result ≡ record_of.is_record cells.now }
 {
-    if cells.len() == DESK {
-        is_desk(cells[0], cells[1], cells[2], cells[3])
-    } else {
-        false
-    }
+    cells.len() == DESK && is_desk(cells[0], cells[1], cells[2], cells[3])
 }
 
 // A place: three octets, the low one first.
@@ -97,32 +94,31 @@ pub(crate) fn decode(cells: &[u8]) -> Desk
     }
 }
 
-fn waiting_code(w: Waiting) -> u8
-    ensures { result ≡ record_of.waiting_code w }
+#[tactic(auto, unfolding(crate::specs::DeskRecord::waiting_code))]
+fn waiting_code(waiting: Option<u8>) -> u8
+    ensures { result ≡ record_of.waiting_code waiting }
 {
-    match w {
-        Waiting::Unknown => 0,
-        Waiting::Number(_) => 1,
+    match waiting {
+        None => 0,
+        Some(_) => 1,
     }
 }
 
-fn waiting_number(w: Waiting) -> u8
-    ensures { result ≡ record_of.waiting_number w }
+#[tactic(auto, unfolding(crate::specs::DeskRecord::waiting_number))]
+fn waiting_number(waiting: Option<u8>) -> u8
+    ensures { result ≡ record_of.waiting_number waiting }
 {
-    match w {
-        Waiting::Unknown => 0,
-        Waiting::Number(n) => n,
+    match waiting {
+        None => 0,
+        Some(number) => number,
     }
 }
 
+#[tactic(auto, unfolding(crate::specs::DeskRecord::lamp_code))]
 fn lamp_code(l: Lamp) -> u8
     ensures { result ≡ record_of.lamp_code l }
 {
-    match l {
-        Lamp::Unknown => 0,
-        Lamp::Off => 1,
-        Lamp::On => 2,
-    }
+    l as u8
 }
 
 // The three octets of a place, over the beginning of what is lent.

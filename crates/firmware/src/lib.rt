@@ -6,7 +6,7 @@ mod desks;
 mod drafts;
 mod parts;
 
-ghost use Rattle.std.specs.Prelude.{◌≡◌, ◌+◌, ◌*◌, ◌≤◌, length};
+ghost use Rattle.std.specs.Prelude.{◌≡◌, Ok, ◌+◌, ◌*◌, ◌≤◌, length};
 ghost use Rattle.rules.specs.Table.{rules_of};
 ghost use Rattle.rules.specs.Editions.{strict, book_of};
 ghost use Rattle.listener.specs.Told.{told};
@@ -48,11 +48,20 @@ struct Fields {
     parameter: u8,
 }
 
-#[derive(Clone, Copy)]
-enum Decoded {
-    Known(Listener),
-    Unknown,
-}
+// The fields of nothing: each state lays its own over them.
+const NOTHING: Fields = Fields {
+    stage: 0,
+    sum: 0,
+    place: 0,
+    class: 0,
+    length: 0,
+    index: 0,
+    memory: 0,
+    room: 0,
+    number: 0,
+    spare: 0,
+    parameter: 0,
+};
 
 fn joined(low: u8, high: u8) -> u16
     ensures { result ≡ low + 256 * high }
@@ -97,235 +106,198 @@ fn fields_of(cells: &[u8]) -> Fields
     }
 }
 
-fn known(edition: u8, way: u8, ok: bool, state: State) -> Decoded
+#[tactic(auto, using(rules::proofs::Telling::telling), unfolding(crate::specs::Record::known))]
+fn known(edition: u8, way: u8, ok: bool, state: State) -> Option<Listener>
     ensures { result ≡ record_of.known edition way ok state }
 {
     if ok {
-        Decoded::Known(Listener {
+        Some(Listener {
             edition,
             way,
             state,
         })
     } else {
-        Decoded::Unknown
+        None
+    }
+}
+
+// Where a listener stands that waits.
+fn spot_of(f: Fields) -> Spot
+    ensures { result ≡ record_of.spot_of f }
+{
+    Spot {
+        sum: f.sum,
+        place: f.place,
+        parameter: f.parameter,
     }
 }
 
 // Before a parameter: the message type, L, a parameter type or the checksum is to come. What is unused sums up to
 // `idle`, and must be 0.
-fn opening_of(edition: u8, way: u8, stage: u8, q: Spot, room: u8, idle: u64) -> Decoded
-    requires { idle ≤ 10000000000 }
-    ensures { result ≡ record_of.opening_of edition way stage q room idle }
+#[tactic(auto, using(rules::proofs::Telling::telling), unfolding(crate::specs::Record::opening_of))]
+fn opening_of(edition: u8, way: u8, f: Fields) -> Option<Listener>
+    ensures { result ≡ record_of.opening_of edition way f.stage (record_of.spot_of f) f.room (f.class + f.length + f.index + f.memory + f.number + f.spare) }
 {
-    if stage == 0 {
-        known(
-            edition,
-            way,
-            idle + room as u64 == 0,
-            State::Waiting(Stage::Kind, q),
-        )
-    } else if stage == 1 {
-        known(
-            edition,
-            way,
-            idle + room as u64 == 0,
-            State::Waiting(Stage::Size, q),
-        )
-    } else {
-        known(
-            edition,
-            way,
-            idle == 0,
-            State::Waiting(Stage::Header { room }, q),
-        )
+    let inner = f.class as u64 + f.length as u64 + f.index as u64 + f.memory as u64;
+    let idle = inner + f.number as u64 + f.spare as u64;
+    let spot = spot_of(f);
+    match f.stage {
+        0 => {
+            let state = State::Waiting(Stage::Kind, spot);
+            known(edition, way, idle + f.room as u64 == 0, state)
+        }
+        1 => {
+            let state = State::Waiting(Stage::Size, spot);
+            known(edition, way, idle + f.room as u64 == 0, state)
+        }
+        _ => {
+            let state = State::Waiting(Stage::Header { room: f.room }, spot);
+            known(edition, way, idle == 0, state)
+        }
     }
 }
 
 // In a parameter: its length or an octet of its contents is to come.
-fn parameter_of(
-    edition: u8,
-    way: u8,
-    stage: u8,
-    q: Spot,
-    code: u8,
-    length: u8,
-    index: u8,
-    memory: u8,
-    room: u8,
-    idle: u64,
-) -> Decoded
-    requires { idle ≤ 10000000000 }
-    ensures { result ≡ record_of.parameter_state edition way stage q code length index memory room idle }
+#[tactic(auto, using(rules::proofs::Telling::telling), unfolding(crate::specs::Record::parameter_state))]
+fn parameter_of(edition: u8, way: u8, f: Fields) -> Option<Listener>
+    ensures { result ≡ record_of.parameter_state edition way f.stage (record_of.spot_of f) f.class f.length f.index f.memory f.room (f.number + f.spare) }
 {
-    if rules::code_in(edition, way, code) {
-        let class = rules::class_coded(code);
-        if stage == 3 {
-            known(
-                edition,
-                way,
-                length as u64 + index as u64 + memory as u64 + idle == 0,
-                State::Waiting(Stage::Length { class, room }, q),
-            )
-        } else {
-            let stage = Stage::Content {
-                class,
-                length,
-                index,
-                memory,
-                room,
-            };
-            known(edition, way, idle == 0, State::Waiting(stage, q))
-        }
+    if !rules::code_in(edition, way, f.class) {
+        return None;
+    }
+    let class = rules::class_coded(f.class);
+    let idle = f.number as u64 + f.spare as u64;
+    let spot = spot_of(f);
+    if f.stage == 3 {
+        let unused = f.length as u64 + f.index as u64 + f.memory as u64 + idle;
+        let stage = Stage::Length {
+            class,
+            room: f.room,
+        };
+        known(edition, way, unused == 0, State::Waiting(stage, spot))
     } else {
-        Decoded::Unknown
+        let stage = Stage::Content {
+            class,
+            length: f.length,
+            index: f.index,
+            memory: f.memory,
+            room: f.room,
+        };
+        known(edition, way, idle == 0, State::Waiting(stage, spot))
     }
 }
 
 // A message or a refusal.
-fn ended_of(
-    edition: u8,
-    way: u8,
-    stage: u8,
-    place: u16,
-    number: u8,
-    parameter: u8,
-    idle: u64,
-) -> Decoded
-    requires { idle ≤ 10000000000 }
-    ensures { result ≡ record_of.ended_of edition way stage place number parameter idle }
-{
-    if stage == 5 {
-        known(
-            edition,
-            way,
-            idle + number as u64 + parameter as u64 == 0,
-            State::Message(place),
-        )
-    } else if stage == 6 {
-        let fault = Fault {
-            number,
-            place,
-            parameter,
-        };
-        known(edition, way, idle == 0, State::Refused(fault))
-    } else {
-        Decoded::Unknown
-    }
-}
-
-fn state_of(edition: u8, way: u8, f: Fields) -> Decoded
-    ensures { result ≡ record_of.state_of edition way f }
+#[tactic(auto, using(rules::proofs::Telling::telling), unfolding(crate::specs::Record::ended_of))]
+fn ended_of(edition: u8, way: u8, f: Fields) -> Option<Listener>
+    ensures { result ≡ record_of.ended_of edition way f.stage f.place f.number f.parameter (f.class + f.length + f.index + f.memory + f.sum + f.room + f.spare) }
 {
     let inner = f.class as u64 + f.length as u64 + f.index as u64 + f.memory as u64;
-    let q = Spot {
-        sum: f.sum,
-        place: f.place,
-        parameter: f.parameter,
-    };
-    if f.stage <= 2 {
-        opening_of(
-            edition,
-            way,
-            f.stage,
-            q,
-            f.room,
-            inner + f.number as u64 + f.spare as u64,
-        )
-    } else if f.stage <= 4 {
-        let idle = f.number as u64 + f.spare as u64;
-        parameter_of(
-            edition, way, f.stage, q, f.class, f.length, f.index, f.memory, f.room, idle,
-        )
-    } else {
-        let idle = inner + f.sum as u64 + f.room as u64 + f.spare as u64;
-        ended_of(edition, way, f.stage, f.place, f.number, f.parameter, idle)
+    let idle = inner + f.sum as u64 + f.room as u64 + f.spare as u64;
+    match f.stage {
+        5 => {
+            let unused = idle + f.number as u64 + f.parameter as u64;
+            known(edition, way, unused == 0, State::Message(f.place))
+        }
+        6 => {
+            let fault = Fault {
+                number: f.number,
+                place: f.place,
+                parameter: f.parameter,
+            };
+            known(edition, way, idle == 0, State::Refused(fault))
+        }
+        _ => None,
     }
 }
 
-fn decode(cells: &[u8]) -> Decoded
+#[tactic(auto, using(rules::proofs::Telling::telling), unfolding(crate::specs::Record::state_of))]
+fn state_of(edition: u8, way: u8, f: Fields) -> Option<Listener>
+    ensures { result ≡ record_of.state_of edition way f }
+{
+    match f.stage {
+        0..=2 => opening_of(edition, way, f),
+        3 | 4 => parameter_of(edition, way, f),
+        _ => ended_of(edition, way, f),
+    }
+}
+
+#[tactic(auto, using(rules::proofs::Telling::telling), unfolding(crate::specs::Record::decode_of))]
+fn decode(cells: &[u8]) -> Option<Listener>
     ensures { result ≡ record_of.decode_of cells.now }
 {
-    if cells.len() == LISTENER {
-        let edition = cells[11];
-        let way = cells[12];
-        state_of(edition, way, fields_of(cells))
-    } else {
-        Decoded::Unknown
+    if cells.len() != LISTENER {
+        return None;
     }
+    let edition = cells[11];
+    let way = cells[12];
+    state_of(edition, way, fields_of(cells))
 }
 
 // The fields of a stage; what it does not use is 0.
-fn fields_waiting(
-    stage: u8,
-    q: Spot,
-    class: u8,
-    length: u8,
-    index: u8,
-    memory: u8,
-    room: u8,
-) -> Fields
-    ensures { result ≡ record_of.fields_waiting stage q class length index memory room }
-{
-    Fields {
-        stage,
-        sum: q.sum,
-        place: q.place,
-        class,
-        length,
-        index,
-        memory,
-        room,
-        number: 0,
-        spare: 0,
-        parameter: q.parameter,
-    }
-}
-
+#[tactic(auto, unfolding(crate::specs::Record::fields_at, crate::specs::Record::fields_waiting))]
 fn fields_at(stage: Stage, q: Spot) -> Fields
     ensures { result ≡ record_of.fields_at stage q }
 {
+    let waiting = Fields {
+        sum: q.sum,
+        place: q.place,
+        parameter: q.parameter,
+        ..NOTHING
+    };
     match stage {
-        Stage::Kind => fields_waiting(0, q, 0, 0, 0, 0, 0),
-        Stage::Size => fields_waiting(1, q, 0, 0, 0, 0, 0),
-        Stage::Header { room } => fields_waiting(2, q, 0, 0, 0, 0, room),
-        Stage::Length { class, room } => {
-            fields_waiting(3, q, rules::code_of(class), 0, 0, 0, room)
-        }
+        Stage::Kind => waiting,
+        Stage::Size => Fields {
+            stage: 1,
+            ..waiting
+        },
+        Stage::Header { room } => Fields {
+            stage: 2,
+            room,
+            ..waiting
+        },
+        Stage::Length { class, room } => Fields {
+            stage: 3,
+            class: rules::code_of(class),
+            room,
+            ..waiting
+        },
         Stage::Content {
             class,
             length,
             index,
             memory,
             room,
-        } => fields_waiting(4, q, rules::code_of(class), length, index, memory, room),
+        } => Fields {
+            stage: 4,
+            class: rules::code_of(class),
+            length,
+            index,
+            memory,
+            room,
+            ..waiting
+        },
     }
 }
 
-fn fields_ended(stage: u8, place: u16, number: u8, parameter: u8) -> Fields
-    ensures { result ≡ record_of.fields_ended stage place number parameter }
-{
-    Fields {
-        stage,
-        sum: 0,
-        place,
-        class: 0,
-        length: 0,
-        index: 0,
-        memory: 0,
-        room: 0,
-        number,
-        spare: 0,
-        parameter,
-    }
-}
-
+#[tactic(auto, unfolding(crate::specs::Record::fields_for, crate::specs::Record::fields_ended))]
 fn fields_for(s: State) -> Fields
     ensures { result ≡ record_of.fields_for s }
 {
     match s {
         State::Waiting(stage, q) => fields_at(stage, q),
-        State::Message(n) => fields_ended(5, n, 0, 0),
-        State::Refused(f) => fields_ended(6, f.place, f.number, f.parameter),
+        State::Message(n) => Fields {
+            stage: 5,
+            place: n,
+            ..NOTHING
+        },
+        State::Refused(f) => Fields {
+            stage: 6,
+            place: f.place,
+            number: f.number,
+            parameter: f.parameter,
+            ..NOTHING
+        },
     }
 }
 
@@ -371,6 +343,15 @@ fn packed(edition: u8, number: u8, place: u16, parameter: u8, size: u16, taken: 
     low + 1099511627776 * (taken as u64) + 72057594037927936 * last
 }
 
+// A refusal, with its place and its parameter.
+fn refused(edition: u8, f: Fault, taken: usize) -> u64
+    requires { taken ≤ 258 }
+    ensures { result ≡ word.packed edition f.number f.place f.parameter 0 taken }
+{
+    packed(edition, f.number, f.place, f.parameter, 0, taken)
+}
+
+#[tactic(auto, unfolding(listener::specs::Told::told))]
 fn word_of(edition: u8, a: Answer, taken: usize) -> u64
     requires { taken ≤ 258 }
     ensures { result ≡ word.packed edition (told a).number (told a).place (told a).parameter (told a).size taken }
@@ -378,7 +359,7 @@ fn word_of(edition: u8, a: Answer, taken: usize) -> u64
     match a {
         Answer::Waits => packed(edition, 0, 0, 0, 0, taken),
         Answer::Message(n) => packed(edition, 0, 0, 0, n, taken),
-        Answer::Refused(f) => packed(edition, f.number, f.place, f.parameter, 0, taken),
+        Answer::Refused(f) => refused(edition, f, taken),
     }
 }
 
@@ -387,23 +368,6 @@ fn plain(number: u8) -> u64
     ensures { result ≡ word.packed 0 number 0 0 0 0 }
 {
     packed(0, number, 0, 0, 0, 0)
-}
-
-// What a call leaves: the listener, and the answer as a word.
-#[derive(Clone, Copy)]
-struct HeardWord {
-    listener: Listener,
-    word: u64,
-}
-
-fn hear(l: Listener, octets: &[u8]) -> HeardWord
-    ensures { result ≡ exports.heard_word_of l octets.now }
-{
-    let heard = listener::listen(l, octets);
-    let listener = heard.listener;
-    let answer = heard.answer;
-    let word = word_of(heard.edition, answer, heard.taken);
-    HeardWord { listener, word }
 }
 
 // The texts, and the record where they were laid down.
@@ -420,16 +384,17 @@ fn read_into(edition: u8, way: u8, octets: &[u8], cells: &mut [u8], texts: &mut 
             let used = drafts::lay_draft(book, octets, cells, texts);
             packed(edition, 0, 0, 0, used as u16, 0)
         }
-        Err(fault) => { packed(edition, fault.number, fault.place, fault.parameter, 0, 0) }
+        Err(fault) => refused(edition, fault, 0),
     }
 }
 
-fn desk_word(edition: u8, a: desk::Answer) -> u64
+#[tactic(auto, unfolding(crate::specs::Exports::desk_word, desk::specs::Told::told))]
+fn desk_word(edition: u8, a: Result<(), Fault>) -> u64
     ensures { result ≡ exports.desk_word edition a }
 {
     match a {
-        desk::Answer::Done => packed(edition, 0, 0, 0, 0, 0),
-        desk::Answer::Refused(f) => packed(edition, f.number, f.place, f.parameter, 0, 0),
+        Ok(_) => packed(edition, 0, 0, 0, 0, 0),
+        Err(fault) => refused(edition, fault, 0),
     }
 }
 
@@ -455,7 +420,19 @@ fn counted_by(edition: u8, way: u8, octets: &[u8], kind: u8) -> u64
     let verdict = message::judge(book, octets);
     match verdict {
         Ok(_) => counted_in(edition, way, octets, kind),
-        Err(fault) => { packed(edition, fault.number, fault.place, fault.parameter, 0, 0) }
+        Err(fault) => refused(edition, fault, 0),
+    }
+}
+
+// The record of a part: 0 says the message, 1 the directory.
+#[tactic(auto, unfolding(crate::specs::Exports::part_from))]
+fn lay_shown(cells: &mut [u8], shown: Shown)
+    requires { length cells.old ≡ part_size }
+    ensures { cells.new ≡ exports.part_from cells.old (Ok shown) }
+{
+    match shown {
+        Shown::InMessage { start, length } => parts::lay_part(cells, 0, start, length),
+        Shown::InDirectory { start, length } => parts::lay_part(cells, 1, start, length),
     }
 }
 
@@ -463,21 +440,16 @@ fn counted_by(edition: u8, way: u8, octets: &[u8], kind: u8) -> u64
 fn caption_into(edition: u8, way: u8, octets: &[u8], directory: &[u8], cells: &mut [u8]) -> u64
     requires { length cells.old ≡ part_size }
     ensures answer { result ≡ exports.found_word (find_in edition way octets.now directory.now) }
-    ensures cells { cells.new ≡ exports.part_from cells.old (find_in edition way octets.now directory.now).shown }
+    ensures cells { cells.new ≡ exports.part_from cells.old (find_in edition way octets.now directory.now).answer }
 {
     let finding = caption::find(edition, way, octets, directory);
     let named = finding.edition;
-    let found = finding.shown;
-    match found {
-        Shown::InMessage { start, length: n } => {
-            parts::lay_part(cells, 0, start, n);
+    match finding.answer {
+        Ok(shown) => {
+            lay_shown(cells, shown);
             packed(named, 0, 0, 0, 0, 0)
         }
-        Shown::InDirectory { start, length: n } => {
-            parts::lay_part(cells, 1, start, n);
-            packed(named, 0, 0, 0, 0, 0)
-        }
-        Shown::Refused(f) => packed(named, f.number, f.place, f.parameter, 0, 0),
+        Err(fault) => refused(named, fault, 0),
     }
 }
 
@@ -511,16 +483,12 @@ pub fn anthercup_reset(edition: u8, cells: &mut [u8]) -> u64
 pub fn anthercup_listen(cells: &mut [u8], octets: &[u8]) -> u64
     ensures { (result ≡ exports.listen_answer cells.old octets.now) × (cells.new ≡ exports.listen_record cells.old octets.now) }
 {
-    let got = decode(cells);
-    match got {
-        Decoded::Known(l) => {
-            let done = hear(l, octets);
-            let listener = done.listener;
-            encode(cells, listener);
-            done.word
-        }
-        Decoded::Unknown => plain(17),
-    }
+    let Some(known) = decode(cells) else {
+        return plain(17);
+    };
+    let heard = listener::listen(known, octets);
+    encode(cells, heard.listener);
+    word_of(heard.edition, heard.answer, heard.taken)
 }
 
 // A whole read: the draft's record and the texts, or one of 1 to 10 with its place and both as they were; a record of
@@ -575,18 +543,13 @@ pub fn anthercup_new_desk(cells: &mut [u8]) -> u64
 pub fn anthercup_settle(edition: u8, way: u8, cells: &mut [u8], octets: &[u8]) -> u64
     ensures { (result ≡ exports.settle_answer edition way cells.old octets.now) × (cells.new ≡ exports.settle_record edition way cells.old octets.now) }
 {
-    if desks::is_record(cells) {
-        let found = desks::decode(cells);
-        let done = desk::settle(edition, way, found, octets);
-        let named = done.edition;
-        let outcome = done.outcome;
-        let after = outcome.desk;
-        let answer = outcome.answer;
-        desks::encode(cells, after);
-        desk_word(named, answer)
-    } else {
-        plain(17)
+    if !desks::is_record(cells) {
+        return plain(17);
     }
+    let found = desks::decode(cells);
+    let done = desk::settle(edition, way, found, octets);
+    desks::encode(cells, done.answer.desk);
+    desk_word(done.edition, done.answer.answer)
 }
 
 // Where the contents of a type that count stand in a whole message, or one of 1 to 8 and 10 with its place; an unknown

@@ -14,7 +14,7 @@ use draft::{Draft, Entry, Flat, Value};
 use rules::{Fault, Form, MOST};
 use std::io;
 use std::io::{Read, Write};
-use walker::{Step, Stepped, Walker};
+use walker::{Stepped, Walker};
 use writer::Written;
 
 // The most octets that a message has, and the most that its texts have (document 01, The message).
@@ -398,27 +398,24 @@ fn onward(edition: u8, way: u8, message: &[u8], place: usize) -> Stepped
     }))
 }
 
-fn say_step(out: &mut impl Write, step: Step) -> io::Result<()> {
+fn say_step(
+    out: &mut impl Write,
+    step: Result<Option<walker::Parameter>, Fault>,
+) -> io::Result<()> {
     match step {
-        Step::Parameter {
-            kind,
-            start,
-            length,
-            next: _,
-        } => {
+        Ok(Some(parameter)) => {
             say(out, b"step ")?;
-            say_octet(out, kind)?;
-            say_number(out, b" ", start as u64)?;
-            say_number(out, b" ", length as u64)
+            say_octet(out, parameter.kind)?;
+            say_number(out, b" ", parameter.start as u64)?;
+            say_number(out, b" ", parameter.length as u64)
         }
-        Step::NoMore => say(out, b"step none"),
-        Step::Refused(fault) => say_fault(out, b"step ", fault),
+        Ok(None) => say(out, b"step none"),
+        Err(fault) => say_fault(out, b"step ", fault),
     }
 }
 
 fn say_stepped(out: &mut impl Write, stepped: Stepped) -> io::Result<()> {
-    let step = stepped.step;
-    say_step(out, step)?;
+    say_step(out, stepped.answer)?;
     say_edition(out, stepped.edition)
 }
 
@@ -426,28 +423,13 @@ fn say_stepped(out: &mut impl Write, stepped: Stepped) -> io::Result<()> {
 fn say_steps(out: &mut impl Write, edition: u8, way: u8, message: &[u8]) -> io::Result<()> {
     let mut stepped = first(edition, way, message);
     let mut place: usize = 2;
-    let mut turns: usize = 0;
-    while turns <= MOST {
+    for _ in 0..=MOST {
         say_stepped(out, stepped)?;
-        let step = stepped.step;
-        match step {
-            Step::Parameter {
-                kind: _,
-                start: _,
-                length: _,
-                next,
-            } => {
-                stepped = onward(edition, way, message, place);
-                place = next;
-                turns += 1;
-            }
-            Step::NoMore => {
-                return say_stepped(out, onward(edition, way, message, place));
-            }
-            Step::Refused(fault) => {
-                return say_stepped(out, onward(edition, way, message, place));
-            }
-        }
+        let Ok(Some(parameter)) = stepped.answer else {
+            return say_stepped(out, onward(edition, way, message, place));
+        };
+        stepped = onward(edition, way, message, place);
+        place = parameter.next;
     }
     Ok(())
 }
@@ -455,24 +437,13 @@ fn say_steps(out: &mut impl Write, edition: u8, way: u8, message: &[u8]) -> io::
 // At how many places a parameter begins; where none does, the walker says so (document 01, Drafts).
 fn beginnings(edition: u8, way: u8, message: &[u8]) -> usize {
     let mut count: usize = 0;
-    let mut place: usize = 0;
-    while place < message.len() {
-        let stepped = walker::step_at(edition, way, message, place);
-        let step = stepped.step;
-        match step {
-            Step::Parameter {
-                kind: _,
-                start: _,
-                length: _,
-                next: _,
-            } => {
+    for place in 0..message.len() {
+        match walker::step_at(edition, way, message, place).answer {
+            Ok(Some(_)) => {
                 count += 1;
-                place += 1;
             }
-            Step::NoMore => {
-                place += 1;
-            }
-            Step::Refused(_) => {
+            Ok(None) => {}
+            Err(_) => {
                 return 0;
             }
         }
@@ -498,11 +469,12 @@ fn say_find(
     directory: &[u8],
 ) -> io::Result<()> {
     let finding = caption::find(edition, way, message, directory);
-    let found = finding.shown;
-    match found {
-        Shown::InMessage { start, length } => say_part(out, b"find message ", start, length)?,
-        Shown::InDirectory { start, length } => say_part(out, b"find directory ", start, length)?,
-        Shown::Refused(fault) => say_fault(out, b"find ", fault)?,
+    match finding.answer {
+        Ok(Shown::InMessage { start, length }) => say_part(out, b"find message ", start, length)?,
+        Ok(Shown::InDirectory { start, length }) => {
+            say_part(out, b"find directory ", start, length)?
+        }
+        Err(fault) => say_fault(out, b"find ", fault)?,
     }
     say_edition(out, finding.edition)
 }

@@ -4,6 +4,9 @@
 -- the only hypothesis is that octets are below 256, which every slice of octets meets. Which number at which place in
 -- which parameter, exactly, and that there is only one, say the sentences of demands 2 and 3.
 -- Assumes nothing.
+use Rattle.walker.specs.Steps.{Step, Stepped}
+use Rattle.caption.specs.Told.{Finding}
+use Rattle.desk.specs.Told.{Settling}
 use Prim.Native.Nat.{ℕ, zero, suc, ◌≤◌, ◌<◌}
 use mathlib.Core.Path.{◌≡◌, refl, sym, ◌∙◌, ap, subst}
 use mathlib.Core.Bool.{Bool}
@@ -61,14 +64,10 @@ use Rattle.writer.proofs.Reasons.{answer_iff}
 use Rattle.writer.proofs.Promised as writer
 use Rattle.relist.proofs.Promised as relist
 use Rattle.desk.specs.declared.Desk.{Desk}
-use Rattle.desk.specs.declared.Settling.{Settling}
-use Rattle.desk.specs.declared.Answer as settled_answer
-use Rattle.desk.specs.declared.Answer.TheVariants as settled
 use Rattle.desk.specs.Told as settling_told
 use Rattle.desk.specs.Settles.{Settles, SettlesBy}
 use Rattle.desk.proofs.Promised as desk
 use Rattle.caption.specs.declared.Shown.{Shown}
-use Rattle.caption.specs.declared.Finding.{Finding}
 use Rattle.caption.specs.Finds.{FindsBy}
 use Rattle.caption.specs.declared.Shown.TheVariants as found
 use Rattle.caption.specs.Caption as caption_of
@@ -81,8 +80,6 @@ use Rattle.desk.proofs.Told as settling
 use Rattle.reader.proofs.Told.{spoilt_iff, early_iff, followed_iff, short_iff, noted_at, some_number, refused_so}
 use Rattle.caption.proofs.Promised as caption
 use Rattle.walker.specs.declared.Walker.{Walker}
-use Rattle.walker.specs.declared.Stepped.{Stepped}
-use Rattle.walker.specs.declared.Step.TheVariants as step
 use Rattle.walker.specs.Moves.{Seen}
 use Rattle.walker.specs.Walks.{WalksBy}
 use Rattle.walker.proofs.Promised as walker
@@ -280,27 +277,27 @@ write_refuses w d t old r out h f e = go (decide (known d.edition w))
 
 -- the desk: 17 at 0, or 16 at 0, or as the verdict, or 21 at 0; it comes back as it was
 pub settle_refuses : (e w : ℕ) (d : Desk) (o : List ℕ) (r : Settling) → desk.SettleGives e w d o r → Octets o →
-    (f : Fault) → r.outcome.answer ≡ settled.Refused f →
+    (f : Fault) → r.answer.answer ≡ Err f →
     ((T (known e w) × VerdictLike (book_of e w) o f)
-    ⊎ (Unknown e w f ⊎ ((f ≡ noted 17 0) ⊎ (f ≡ noted 21 0)))) × (r.outcome.desk ≡ d)
+    ⊎ (Unknown e w f ⊎ ((f ≡ noted 17 0) ⊎ (f ≡ noted 21 0)))) × (r.answer.desk ≡ d)
 unfolding settling_told.told
 settle_refuses e w d o r h q f z = (go (decide (known e w)), x.refusal_stays (omega (arith, number)))
   where
     x : SettlesBy e w d o r
     x = desk.settling e w d o r h q
 
-    number : 1 ≤ (settling_told.told r.outcome.answer).number
-    number = subst (λ (a : settled_answer.Answer). 1 ≤ (settling_told.told a).number) (sym z)
+    number : 1 ≤ (settling_told.told r.answer.answer).number
+    number = subst (λ (a : Result (Unit {0}) Fault). 1 ≤ (settling_told.told a).number) (sym z)
         (subst settling_told.Clear z x.clear)
 
     told_is : (k : ℕ) → f.number ≡ k →
-        settling_told.told r.outcome.answer ≡ settling_told.refusal k f.place f.parameter
+        settling_told.told r.answer.answer ≡ settling_told.refusal k f.place f.parameter
     told_is k n = ap settling_told.told z ∙ (λ i. settling_told.refusal (n i) f.place f.parameter)
 
     at_zero : (k : ℕ) → f.number ≡ k → (f.place ≡ 0) × (f.parameter ≡ 0) → f ≡ noted k 0
     at_zero k n y = let a = y.0 in let b = y.1 in λ i. record { place = a i; number = n i; parameter = b i }
 
-    by_book : T (known e w) → Settles (rules_of (book_of e w)) d o r.outcome →
+    by_book : T (known e w) → Settles (rules_of (book_of e w)) d o r.answer →
         T (verdict_number (language_of (book_of e w)) f.number) ⊎ ((f.number ≡ 17) ⊎ (f.number ≡ 21)) →
         (T (known e w) × VerdictLike (book_of e w) o f) ⊎ (Unknown e w f ⊎ ((f ≡ noted 17 0) ⊎ (f ≡ noted 21 0)))
     by_book k s (inl t) =
@@ -312,10 +309,10 @@ settle_refuses e w d o r h q f z = (go (decide (known e w)), x.refusal_stays (om
         )
     by_book k s (inr (inl n)) =
         let y = settling.noted_at s f z 17 n (inl refl) in
-        inr (inr (inl (y ∙ ap (noted 17) ((settling.unfit_iff s f.place).0 (z ∙ ap settled.Refused y)).0)))
+        inr (inr (inl (y ∙ ap (noted 17) ((settling.unfit_iff s f.place).0 (z ∙ ap Err y)).0)))
     by_book k s (inr (inr n)) =
         let y = settling.noted_at s f z 21 n (inr refl) in
-        inr (inr (inr (y ∙ ap (noted 21) ((settling.full_iff s f.place).0 (z ∙ ap settled.Refused y)).0)))
+        inr (inr (inr (y ∙ ap (noted 21) ((settling.full_iff s f.place).0 (z ∙ ap Err y)).0)))
 
     by_none : (T (known e w) → ⊥) → (f.number ≡ 16) ⊎ (f.number ≡ 17) →
         (T (known e w) × VerdictLike (book_of e w) o f) ⊎ (Unknown e w f ⊎ ((f ≡ noted 17 0) ⊎ (f ≡ noted 21 0)))
@@ -324,11 +321,11 @@ settle_refuses e w d o r h q f z = (go (decide (known e w)), x.refusal_stays (om
     by_none n (inr k) =
         let y = (x.seventeen _ _).0 (told_is 17 k) in inr (inr (inl (at_zero 17 k (y.0, y.1))))
 
-    of_fault : (k : ℕ) → (settling_told.told r.outcome.answer).number ≡ k → f.number ≡ k
-    of_fault k n = sym (ap (λ (a : settled_answer.Answer). (settling_told.told a).number) z) ∙ n
+    of_fault : (k : ℕ) → (settling_told.told r.answer.answer).number ≡ k → f.number ≡ k
+    of_fault k n = sym (ap (λ (a : Result (Unit {0}) Fault). (settling_told.told a).number) z) ∙ n
 
-    numbers : ((settling_told.told r.outcome.answer).number ≡ 16)
-        ⊎ ((settling_told.told r.outcome.answer).number ≡ 17) → (f.number ≡ 16) ⊎ (f.number ≡ 17)
+    numbers : ((settling_told.told r.answer.answer).number ≡ 16)
+        ⊎ ((settling_told.told r.answer.answer).number ≡ 17) → (f.number ≡ 16) ⊎ (f.number ≡ 17)
     numbers (inl k) = inl (of_fault 16 k)
     numbers (inr k) = inr (of_fault 17 k)
 
@@ -345,7 +342,7 @@ judge_refuses b o v h q f e =
     (judging.number_of_lem x f e, placed (language_of b) o v x f e, names b o q v x f e)
 
 pub find_refuses : (e w : ℕ) (o d : List ℕ) (r : Finding) → caption.FindGives e w o d r → Octets o → (f : Fault) →
-    r.shown ≡ found.Refused f → (T (known e w) × VerdictLike (book_of e w) o f) ⊎ Unknown e w f
+    r.answer ≡ Err f → (T (known e w) × VerdictLike (book_of e w) o f) ⊎ Unknown e w f
 find_refuses e w o d r h q f z = go (decide (known e w))
   where
     x : FindsBy e w o d r
@@ -366,18 +363,18 @@ find_refuses e w o d r h q f z = go (decide (known e w))
     go (inr n) =
         inr (n, same (sym z ∙ (finding.told-refused _ 16 0 0 (omega arith)).0 ((x.sixteen 0 0).1 (refl, refl, n))))
       where
-        same : found.Refused f ≡ found.Refused (noted 16 0) → f ≡ noted 16 0
+        same : ◌≡◌ {A = Result Shown Fault} (Err f) (Err (noted 16 0)) → f ≡ noted 16 0
         same k = cc
 
 pub caption_refuses : (e w : ℕ) (o d : List ℕ) (r : Finding) → caption.FindGives e w o d r →
-    (x : ℕ) (p : List ℕ) (y : ℕ) → caption.CaptionGives e w o d x p y → (f : Fault) → r.shown ≡ found.Refused f →
+    (x : ℕ) (p : List ℕ) (y : ℕ) → caption.CaptionGives e w o d x p y → (f : Fault) → r.answer ≡ Err f →
     y ≡ x
 unfolding caption_of.code_of
 caption_refuses e w o d r h x p y k f z =
-    (caption.same_part e w o d r h x p y k).1 ∙ ap (λ (v : Shown). caption_of.code_of v x) z
+    (caption.same_part e w o d r h x p y k).1 ∙ ap (λ (v : Result Shown Fault). caption_of.code_of v x) z
 
 step_so : (e w : ℕ) (o : List ℕ) (at : ℕ) (r : Stepped) → WalksBy e w o at r → Octets o → (f : Fault) →
-    r.step ≡ step.Refused f → (T (known e w) × VerdictLike (book_of e w) o f) ⊎ Unknown e w f
+    r.answer ≡ Err f → (T (known e w) × VerdictLike (book_of e w) o f) ⊎ Unknown e w f
 step_so e w o at r x q f z = go (decide (known e w))
   where
     go : T (known e w) ⊎ (T (known e w) → ⊥) → (T (known e w) × VerdictLike (book_of e w) o f) ⊎ Unknown e w f
@@ -395,15 +392,15 @@ step_so e w o at r x q f z = go (decide (known e w))
     go (inr n) =
         inr (n, same (sym z ∙ (walking.told-refused _ 16 0 0 (omega arith)).0 ((x.sixteen 0 0).1 (refl, refl, n))))
       where
-        same : step.Refused f ≡ step.Refused (noted 16 0) → f ≡ noted 16 0
+        same : ◌≡◌ {A = Step} (Err f) (Err (noted 16 0)) → f ≡ noted 16 0
         same k = cc
 
 pub step_refuses : (e w : ℕ) (o : List ℕ) (at : ℕ) (r : Stepped) → walker.StepGives e w o at r → Octets o →
-    (f : Fault) → r.step ≡ step.Refused f → (T (known e w) × VerdictLike (book_of e w) o f) ⊎ Unknown e w f
+    (f : Fault) → r.answer ≡ Err f → (T (known e w) × VerdictLike (book_of e w) o f) ⊎ Unknown e w f
 step_refuses e w o at r h q f z = step_so e w o at r (walker.stepping e w o at r h q) q f z
 
 pub look_refuses : (v : Walker) (r : Stepped) → Seen v r → Octets v.message.now → (f : Fault) →
-    r.step ≡ step.Refused f →
+    r.answer ≡ Err f →
     (T (known v.edition v.way) × VerdictLike (book_of v.edition v.way) v.message.now f)
     ⊎ Unknown v.edition v.way f
 look_refuses v r h q f z =
@@ -642,14 +639,14 @@ anthercup_caption_refuses e y o d c w c' h q = (
   λ n. firmware.caption_seventeen e y o d c w c' h n,
 )
   where
-    given_so : (x : RecordFinds e y o d c w c') → T (known e y) → (s : Shown) → x.finding.shown ≡ s →
+    given_so : (x : RecordFinds e y o d c w c') → T (known e y) → (s : Result Shown Fault) → x.finding.answer ≡ s →
         ZeroOr (verdict_number (language_of (book_of e y))) (word_number w)
-    given_so x i (found.InMessage start n) z = inl (x.word.number ∙ ap (λ (s : Shown). (shown.told s).number) z)
-    given_so x i (found.InDirectory start n) z = inl (x.word.number ∙ ap (λ (s : Shown). (shown.told s).number) z)
-    given_so x i (found.Refused f) z =
+    given_so x i (Ok (found.InMessage start n)) z = inl (x.word.number ∙ ap (λ (s : Result Shown Fault). (shown.told s).number) z)
+    given_so x i (Ok (found.InDirectory start n)) z = inl (x.word.number ∙ ap (λ (s : Result Shown Fault). (shown.told s).number) z)
+    given_so x i (Err f) z =
         let s = x.finds.by_book i in
         inr (subst (λ (n : ℕ). T (verdict_number (language_of (book_of e y)) n))
-        (sym (x.word.number ∙ ap (λ (s : Shown). (shown.told s).number) z))
+        (sym (x.word.number ∙ ap (λ (s : Result Shown Fault). (shown.told s).number) z))
         (judging.number_of_lem s.judged f (finding.declined_so s f z)))
 
     so : RecordFinds e y o d c w c' → T (known e y) ⊎ (T (known e y) → ⊥) →

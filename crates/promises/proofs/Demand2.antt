@@ -2,6 +2,7 @@
 -- `read`, `write` and `settle` and of the exports, by every edition and way, whatever outcomes they allow. So do
 -- listings and listings that come back, over the promises of `listing` and `message_of` (document 02, Q-1).
 -- Assumes nothing.
+use Rattle.desk.specs.Told.{Settling}
 use Rattle.std.proofs.Common.{Option, Ok}
 use Prim.Native.Nat.{ℕ, ◌≤◌, ◌<◌}
 use mathlib.Core.Path.{◌≡◌, refl, sym, ◌∙◌, ap, subst}
@@ -45,7 +46,6 @@ use Rattle.relist.specs.Relist.{limit}
 use Rattle.relist.specs.Sentences.{RisingKinds, Returned, Relists}
 use Rattle.relist.proofs.Promised as relist
 use Rattle.desk.specs.declared.Desk.{Desk}
-use Rattle.desk.specs.declared.Settling.{Settling}
 use Rattle.desk.specs.Settles.{SettlesBy}
 use Rattle.desk.specs.History.{Call, last_said, OpenBy, Says}
 use Rattle.desk.proofs.Promised as desk
@@ -244,7 +244,7 @@ equals_written w d t e u old x x' out out' h k q = writer.equals_written w d t e
 -- settled twice running by one edition and way, known or not, leaves what once left, and says the same; on the record
 -- too
 pub settled_twice : (e w : ℕ) (d : Desk) (o : List ℕ) (r r' : Settling) → desk.SettleGives e w d o r →
-    desk.SettleGives e w r.outcome.desk o r' → Octets o → r' ≡ r
+    desk.SettleGives e w r.answer.desk o r' → Octets o → r' ≡ r
 settled_twice e w d o r r' h k q = desk.settled_twice e w d o r h r' k q
 
 pub anthercup_settled_twice : (e y : ℕ) (c o : List ℕ) (w : ℕ) (c' : List ℕ) (w' : ℕ) (c'' : List ℕ) →

@@ -2,6 +2,9 @@
 -- but 17 names the edition, that edition and way are kept, and that drafts of two editions are never equal. Over the
 -- promises, whatever outcomes they allow, for any numbers at all.
 -- Assumes nothing.
+use Rattle.walker.specs.Steps.{Stepped}
+use Rattle.caption.specs.Told.{Finding}
+use Rattle.desk.specs.Told.{Settling}
 use Rattle.std.proofs.Common.{ℕ, Result, Ok, Err}
 use Prim.Native.Nat.{ℕ, zero, suc, ◌≤◌, ◌<◌}
 use mathlib.Core.Path.{◌≡◌, refl, sym, ◌∙◌, ap, subst}
@@ -45,19 +48,14 @@ use Rattle.writer.specs.declared.Writing.{Writing}
 use Rattle.writer.specs.Told as written
 use Rattle.writer.proofs.Promised as writer
 use Rattle.desk.specs.declared.Desk.{Desk}
-use Rattle.desk.specs.declared.Settling.{Settling}
-use Rattle.desk.specs.declared.Answer.{Answer}
-use Rattle.desk.specs.declared.Answer.TheVariants.{Done, Refused}
 use Rattle.desk.specs.Told as settled
 use Rattle.desk.specs.Settles.{SettlesBy}
 use Rattle.desk.proofs.Told.{told-done, refusal_leaves}
 use Rattle.desk.specs.Holding.{Fit}
 use Rattle.desk.proofs.Promised as desk
-use Rattle.caption.specs.declared.Finding.{Finding}
 use Rattle.caption.specs.Told as shown
 use Rattle.caption.proofs.Promised as caption
 use Rattle.walker.specs.declared.Walker.{Walker}
-use Rattle.walker.specs.declared.Stepped.{Stepped}
 use Rattle.walker.specs.Told as stepped
 use Rattle.walker.specs.Moves.{Seen, Reached}
 use Rattle.walker.proofs.Promised as walker
@@ -131,7 +129,7 @@ write_names w d t old r out h = let x = writer.writing_by w d t old r out h in (
 -- the desk: behind 17
 pub settle_sixteen : (e w : ℕ) (d : Desk) (o : List ℕ) (r : Settling) → desk.SettleGives e w d o r → Octets o →
     (p b : ℕ) →
-    (settled.told r.outcome.answer ≡ settled.refusal 16 p b) ↔
+    (settled.told r.answer.answer ≡ settled.refusal 16 p b) ↔
     ((p ≡ 0) × (b ≡ 0) × Fit d.places × (T (known e w) → ⊥))
 settle_sixteen e w d o r h q = (desk.settling e w d o r h q).sixteen
 
@@ -140,7 +138,7 @@ abbrev pub Naming : ℕ → ℕ → ℕ → Type 0
 Naming k v e = ((k ≡ 16 → ⊥) → (k ≡ 17 → ⊥) → v ≡ e) × ((k ≡ 16) ⊎ (k ≡ 17) → v ≡ 0)
 
 pub settle_names : (e w : ℕ) (d : Desk) (o : List ℕ) (r : Settling) → desk.SettleGives e w d o r → Octets o →
-    Naming (settled.told r.outcome.answer).number r.edition e
+    Naming (settled.told r.answer.answer).number r.edition e
 settle_names e w d o r h q = let x = desk.settling e w d o r h q in (x.names, x.names_none)
 
 is_old : (w : ℕ) → T (known 1 w) → T (old_book (book_of 1 w))
@@ -160,14 +158,14 @@ none_counts OldLenient k m = (unlisted OldLenient m 0x13 (λ z. z), unlisted Old
 
 -- a notice of the old edition changes the lamp alone: neither number nor references, for 13H and 0DH have no row there
 pub lamp_alone : (w : ℕ) (d : Desk) (o : List ℕ) (r : Settling) → desk.SettleGives 1 w d o r → Octets o →
-    (r.outcome.desk.waiting ≡ d.waiting) × (r.outcome.desk.places ≡ d.places)
+    (r.answer.desk.waiting ≡ d.waiting) × (r.answer.desk.places ≡ d.places)
 unfolding message_kind
 lamp_alone w d o r h q = go (decide (known 1 w))
   where
     x : SettlesBy 1 w d o r
     x = desk.settling 1 w d o r h q
 
-    same : r.outcome.desk ≡ d → (r.outcome.desk.waiting ≡ d.waiting) × (r.outcome.desk.places ≡ d.places)
+    same : r.answer.desk ≡ d → (r.answer.desk.waiting ≡ d.waiting) × (r.answer.desk.places ≡ d.places)
     same e = (ap (λ (y : Desk). y.waiting) e, ap (λ (y : Desk). y.places) e)
 
     some : (k : ℕ) → (k ≡ 16) ⊎ (k ≡ 17) → 1 ≤ k
@@ -175,48 +173,48 @@ lamp_alone w d o r h q = go (decide (known 1 w))
     some k (inr e) = omega arith
 
     by_kind : (t : T (known 1 w)) (m : Message) → LegalMessage (rules_of (book_of 1 w)) m → octets m ≡ o →
-        settled.told r.outcome.answer ≡ settled.success → T (m.kind =? 0x80) ⊎ T (m.kind =? 0x82) →
-        (r.outcome.desk.waiting ≡ d.waiting) × (r.outcome.desk.places ≡ d.places)
+        settled.told r.answer.answer ≡ settled.success → T (m.kind =? 0x80) ⊎ T (m.kind =? 0x82) →
+        (r.answer.desk.waiting ≡ d.waiting) × (r.answer.desk.places ≡ d.places)
     by_kind t m g e s (inl k) = same ((x.by_book t).call_stays m g e (eq_of _ _ k))
     by_kind t m g e s (inr k) =
         let y = (x.by_book t).notice m g e (eq_of _ _ k) s in
         let n = none_counts (book_of 1 w) (is_old w t) m in
         (y.number_stays n.0, y.places_stay n.1)
 
-    by_answer : (t : T (known 1 w)) (a : Answer) → r.outcome.answer ≡ a →
-        (r.outcome.desk.waiting ≡ d.waiting) × (r.outcome.desk.places ≡ d.places)
-    by_answer t Done e =
+    by_answer : (t : T (known 1 w)) (a : Result (Unit {0}) Fault) → r.answer.answer ≡ a →
+        (r.answer.desk.waiting ≡ d.waiting) × (r.answer.desk.places ≡ d.places)
+    by_answer t (Ok u) e =
         let s = (told-done _ (x.by_book t).clear).1 e in
         let y = ((x.by_book t).done.0 s).1 in
         by_kind t y.0 y.1 y.2 s (either _ _ y.1.kind)
-    by_answer t (Refused f) e = same (refusal_leaves (x.by_book t) f e)
+    by_answer t (Err f) e = same (refusal_leaves (x.by_book t) f e)
 
     go : T (known 1 w) ⊎ (T (known 1 w) → ⊥) →
-        (r.outcome.desk.waiting ≡ d.waiting) × (r.outcome.desk.places ≡ d.places)
-    go (inl t) = by_answer t r.outcome.answer refl
+        (r.answer.desk.waiting ≡ d.waiting) × (r.answer.desk.places ≡ d.places)
+    go (inl t) = by_answer t r.answer.answer refl
     go (inr n) = same (x.refusal_stays (some _ (x.unknown n)))
 
 -- the caption
 pub find_sixteen : (e w : ℕ) (o d : List ℕ) (r : Finding) → caption.FindGives e w o d r → Octets o → (p b : ℕ) →
-    (shown.told r.shown ≡ shown.refusal 16 p b) ↔ NoneKnown p b e w
+    (shown.told r.answer ≡ shown.refusal 16 p b) ↔ NoneKnown p b e w
 find_sixteen e w o d r h q = (caption.finding e w o d r h q).sixteen
 
 pub find_names : (e w : ℕ) (o d : List ℕ) (r : Finding) → caption.FindGives e w o d r → Octets o →
-    (((shown.told r.shown).number ≡ 16 → ⊥) → r.edition ≡ e) × ((shown.told r.shown).number ≡ 16 → r.edition ≡ 0)
+    (((shown.told r.answer).number ≡ 16 → ⊥) → r.edition ≡ e) × ((shown.told r.answer).number ≡ 16 → r.edition ≡ 0)
 find_names e w o d r h q = let x = caption.finding e w o d r h q in (x.names, x.names_none)
 
 -- the walker: told once, kept, and asked at each call
 pub step_sixteen : (e w : ℕ) (o : List ℕ) (at : ℕ) (r : Stepped) → walker.StepGives e w o at r → Octets o →
-    (p b : ℕ) → (stepped.told r.step ≡ stepped.refusal 16 p b) ↔ NoneKnown p b e w
+    (p b : ℕ) → (stepped.told r.answer ≡ stepped.refusal 16 p b) ↔ NoneKnown p b e w
 step_sixteen e w o at r h q = (walker.stepping e w o at r h q).sixteen
 
 pub look_sixteen : (v : Walker) (r : Stepped) → Seen v r → Octets v.message.now → (p b : ℕ) →
-    (stepped.told r.step ≡ stepped.refusal 16 p b) ↔ NoneKnown p b v.edition v.way
+    (stepped.told r.answer ≡ stepped.refusal 16 p b) ↔ NoneKnown p b v.edition v.way
 look_sixteen v r h q = (walker.looking v r h q).sixteen
 
 pub look_names : (v : Walker) (r : Stepped) → Seen v r → Octets v.message.now →
-    (((stepped.told r.step).number ≡ 16 → ⊥) → r.edition ≡ v.edition)
-    × ((stepped.told r.step).number ≡ 16 → r.edition ≡ 0)
+    (((stepped.told r.answer).number ≡ 16 → ⊥) → r.edition ≡ v.edition)
+    × ((stepped.told r.answer).number ≡ 16 → r.edition ≡ 0)
 look_names v r h q = let x = walker.looking v r h q in (x.names, x.names_none)
 
 pub walker_keeps : (e w : ℕ) (s : Bor (List ℕ)) (calls : ℕ) (v : Walker) → Reached e w s calls v → (r : Stepped) →

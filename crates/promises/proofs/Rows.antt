@@ -2,7 +2,8 @@
 -- Q-11, one list under one claim over the promises of `reset_way` and `reset`, `listen`, `read_way` and `read`,
 -- `write`, `settle` and `counted`, whatever outcomes they allow.
 -- Assumes nothing.
-use Rattle.std.proofs.Common.{Err, Option}
+use Rattle.desk.specs.Told.{Settling}
+use Rattle.std.proofs.Common.{Err, Option, Ok, Some, None}
 use Prim.Native.Nat.{ℕ}
 use mathlib.Core.Path.{◌≡◌, refl, ◌∙◌, ap}
 use mathlib.Core.List.{List, [], ◌∷◌, ◌++◌}
@@ -46,11 +47,8 @@ use Rattle.writer.specs.Writing.{legal_entry, legal_before, sized, measured_of, 
 use Rattle.writer.specs.Rows.{one}
 use Rattle.writer.proofs.Promised as writer
 use Rattle.desk.specs.declared.Desk.{Desk}
-use Rattle.desk.specs.declared.Settling.{Settling}
 use Rattle.desk.specs.Told as desk_told
 use Rattle.desk.proofs.Promised as desk
-use Rattle.desk.specs.declared.Answer.TheVariants as settled
-use Rattle.desk.specs.declared.Waiting.TheVariants as waiting
 use Rattle.desk.specs.declared.Lamp.TheVariants as lamp
 use Rattle.desk.specs.References.{place_with, absent, may_stand, places_fit, change_by, is_full, places_after}
 use Rattle.desk.specs.Settle.{new_desk, waiting_after, lamp_after, change_in, change_of, noticed, counted_in, settled_notice, settled_message, settled_under, refused_with, settle_of, settle_in}
@@ -99,7 +97,7 @@ Holds v y o (refused k p b) = HeardAs v y o (answer.Refused (noted_in k p b)) ×
 Holds v y o (counts t c) = (p : Option Part) → message.CountedGives (book_of v y) o t p → part_of o p ≡ c
 Holds v y o (settles d) =
     (r : Settling) → desk.SettleGives v y new_desk o r →
-    r ≡ record { edition = v; outcome = record { desk = d; answer = settled.Done } }
+    r ≡ record { edition = v; answer = record { desk = d; answer = Ok tt } }
 Holds v y o (writes d a) =
     (octets (message_of d []) ≡ o) × (d.edition ≡ v)
     × ((old : List ℕ) (w : Writing) (out : List ℕ) → length old ≡ length o →
@@ -190,10 +188,10 @@ second_0 =
     0x80 ∷ 0x0C ∷ 0x0F ∷ 0x0A ∷ 0x30 ∷ 0x36 ∷ 0x31 ∷ 0x35 ∷ 0x31 ∷ 0x34 ∷ 0x33 ∷ 0x30 ∷ 0x30 ∷ 0x30 ∷ 0x67 ∷ []
 
 abbrev two_wait : Desk
-two_wait = record { waiting = waiting.Number 2; lamp = lamp.Unknown; places = replicate 16 0 }
+two_wait = record { waiting = Some 2; lamp = lamp.Unknown; places = replicate 16 0 }
 
 abbrev lit : Desk
-lit = record { waiting = waiting.Unknown; lamp = lamp.On; places = replicate 16 0 }
+lit = record { waiting = None; lamp = lamp.On; places = replicate 16 0 }
 
 abbrev pub documents : List Example
 documents =
@@ -303,7 +301,7 @@ finds : (v y : ℕ) (o : List ℕ) (t : ℕ) (c : Maybe (List ℕ)) →
 finds v y o t c e p h = ap (part_of o) (message.counted_is (book_of v y) o t p h) ∙ e
 
 leaves : (v y : ℕ) (o : List ℕ) (d : Desk) →
-    settle_in v y new_desk o ≡ (record { edition = v; outcome = record { desk = d; answer = settled.Done } }) →
+    settle_in v y new_desk o ≡ (record { edition = v; answer = record { desk = d; answer = Ok tt } }) →
     Holds v y o (settles d)
 leaves v y o d e r h = desk.settle_is v y new_desk o r h ∙ e
 

@@ -3,6 +3,9 @@
 -- same edition accepts, with the same draft, the same settled values and the same desk. Over the promises, whatever
 -- outcomes they allow.
 -- Assumes nothing.
+use Rattle.walker.specs.Steps.{Stepped}
+use Rattle.caption.specs.Told.{Finding}
+use Rattle.desk.specs.Told.{Settling}
 use Rattle.std.proofs.Common.{ℕ, Result, Ok, Err}
 use Prim.Native.Nat.{ℕ, ◌≤◌, ◌<◌}
 use mathlib.Core.Path.{◌≡◌, refl, sym, ◌∙◌, ap, subst}
@@ -54,20 +57,17 @@ use Rattle.writer.specs.Told as written
 use Rattle.writer.specs.Reasons.{Makes, entry_at, Asked, Writes}
 use Rattle.writer.proofs.Promised as writer
 use Rattle.desk.specs.declared.Desk.{Desk}
-use Rattle.desk.specs.declared.Settling.{Settling}
 use Rattle.desk.specs.Holding.{Fit}
 use Rattle.desk.specs.Told as settled
 use Rattle.desk.specs.Settles.{Settles}
 use Rattle.desk.proofs.Promised as desk
 use Rattle.desk.proofs.Ways.{same_settling}
-use Rattle.caption.specs.declared.Finding.{Finding}
 use Rattle.caption.specs.declared.Shown.{Shown}
 use Rattle.caption.specs.declared.Shown.TheVariants as found
 use Rattle.caption.specs.Told as shown
 use Rattle.caption.proofs.Promised as caption
 use Rattle.caption.proofs.Ways.{same_finding}
 use Rattle.walker.specs.declared.Walker.{Walker}
-use Rattle.walker.specs.declared.Stepped.{Stepped}
 use Rattle.walker.specs.Told as stepped
 use Rattle.walker.specs.Moves.{Seen}
 use Rattle.walker.proofs.Promised as walker
@@ -161,20 +161,20 @@ module _ (e w : ℕ) (k : T (known e w)) where
       (p b : ℕ) → (read.told r.answer ≡ read.refusal 10 p b) ↔ AtUnlisted e w o p b
   read_ten o old r area h q p b = reads_ten o old r area (reader.reads e w o old r area h k q) p b
 
-  settles_ten : (d : Desk) (o : List ℕ) (r : Settling) → Settles R d o r.outcome → (p b : ℕ) →
-      (settled.told r.outcome.answer ≡ settled.refusal 10 p b) ↔ (Fit d.places × AtUnlisted e w o p b)
+  settles_ten : (d : Desk) (o : List ℕ) (r : Settling) → Settles R d o r.answer → (p b : ℕ) →
+      (settled.told r.answer.answer ≡ settled.refusal 10 p b) ↔ (Fit d.places × AtUnlisted e w o p b)
   settles_ten d o r s p b = (
     λ x.
-        let n : (settled.told r.outcome.answer).number ≡ 10 = ap (λ (t : settled.Told). t.number) x in
+        let n : (settled.told r.answer.answer).number ≡ 10 = ap (λ (t : settled.Told). t.number) x in
         let t = number n (s.numbers (omega (arith, n))) in
         let y = (s.refused 10 p b t).0 x in
         (y.0, (judges_ten o s.verdict s.judged p b).0 y.1),
     λ y. (s.refused 10 p b (verdict_ten y.1.0)).1 (y.0, (judges_ten o s.verdict s.judged p b).1 y.1),
   )
     where
-      number : (settled.told r.outcome.answer).number ≡ 10 →
-          T (verdict_number (calls R) (settled.told r.outcome.answer).number)
-          ⊎ (((settled.told r.outcome.answer).number ≡ 17) ⊎ ((settled.told r.outcome.answer).number ≡ 21)) →
+      number : (settled.told r.answer.answer).number ≡ 10 →
+          T (verdict_number (calls R) (settled.told r.answer.answer).number)
+          ⊎ (((settled.told r.answer.answer).number ≡ 17) ⊎ ((settled.told r.answer.answer).number ≡ 21)) →
           T (verdict_number (calls R) 10)
       number n (inl t) = subst (λ (m : ℕ). T (verdict_number (calls R) m)) n t
       number n (inr (inl z)) = absurd (omega (arith, n, z))
@@ -182,24 +182,24 @@ module _ (e w : ℕ) (k : T (known e w)) where
 
   -- settling, on a desk that fits; caption and walker
   pub settle_ten : (d : Desk) (o : List ℕ) (r : Settling) → desk.SettleGives e w d o r → Octets o → (p b : ℕ) →
-      (settled.told r.outcome.answer ≡ settled.refusal 10 p b) ↔ (Fit d.places × AtUnlisted e w o p b)
+      (settled.told r.answer.answer ≡ settled.refusal 10 p b) ↔ (Fit d.places × AtUnlisted e w o p b)
   settle_ten d o r h q p b = settles_ten d o r ((desk.settling e w d o r h q).by_book k) p b
 
   pub find_ten : (o d : List ℕ) (r : Finding) → caption.FindGives e w o d r → Octets o → (p b : ℕ) →
-      (shown.told r.shown ≡ shown.refusal 10 p b) ↔ AtUnlisted e w o p b
+      (shown.told r.answer ≡ shown.refusal 10 p b) ↔ AtUnlisted e w o p b
   find_ten o d r h q p b =
       let s = (caption.finding e w o d r h q).by_book k in
       Iff.trans (s.refused 10 p b (omega arith)) (judges_ten o s.verdict s.judged p b)
 
   pub step_ten : (o : List ℕ) (at : ℕ) (r : Stepped) → walker.StepGives e w o at r → Octets o → (p b : ℕ) →
-      (stepped.told r.step ≡ stepped.refusal 10 p b) ↔ AtUnlisted e w o p b
+      (stepped.told r.answer ≡ stepped.refusal 10 p b) ↔ AtUnlisted e w o p b
   step_ten o at r h q p b =
       let s = (walker.stepping e w o at r h q).by_book k in
       Iff.trans (s.refused 10 p b (omega arith)) (judges_ten o s.verdict s.judged p b)
 
 pub look_ten : (v : Walker) (r : Stepped) → Seen v r → Octets v.message.now → T (known v.edition v.way) →
     (p b : ℕ) →
-    (stepped.told r.step ≡ stepped.refusal 10 p b) ↔ AtUnlisted v.edition v.way v.message.now p b
+    (stepped.told r.answer ≡ stepped.refusal 10 p b) ↔ AtUnlisted v.edition v.way v.message.now p b
 look_ten v r h q k p b =
     let s = (walker.looking v r h q).by_book k in
     Iff.trans (s.refused 10 p b (omega arith))
@@ -239,15 +239,15 @@ judged_fields (Err f) p b = (
   ),
 )
 
-shown_fields : (a : Shown) (p b : ℕ) →
+shown_fields : (a : Result Shown Fault) (p b : ℕ) →
     (((shown.told a).number ≡ 10) × ((shown.told a).place ≡ p) × ((shown.told a).parameter ≡ b)) ↔
     (shown.told a ≡ shown.refusal 10 p b)
 unfolding shown.told
-shown_fields (found.InMessage start n) p b =
+shown_fields (Ok (found.InMessage start n)) p b =
     (λ e. absurd (omega (arith, e.0)), λ e. absurd (omega (arith, ap (λ (t : shown.Told). t.number) e)))
-shown_fields (found.InDirectory start n) p b =
+shown_fields (Ok (found.InDirectory start n)) p b =
     (λ e. absurd (omega (arith, e.0)), λ e. absurd (omega (arith, ap (λ (t : shown.Told). t.number) e)))
-shown_fields (found.Refused f) p b = (
+shown_fields (Err f) p b = (
   λ e i. shown.refusal (e.0 i) (e.1 i) (e.2 i),
   λ e. (
     ap (λ (t : shown.Told). t.number) e,
@@ -321,7 +321,7 @@ module _ (e y : ℕ) (k : T (known e y)) where
   anthercup_caption_ten o d c w c' h q n p b =
       let x = firmware.record_caption e y o d c w c' h q n in
       let s = x.finds.by_book k in
-      Iff.trans (fields_of_lem _ _ _ _ _ _ w p b x.word) (Iff.trans (shown_fields x.finding.shown p b)
+      Iff.trans (fields_of_lem _ _ _ _ _ _ w p b x.word) (Iff.trans (shown_fields x.finding.answer p b)
       (Iff.trans (s.refused 10 p b (omega arith)) (judges_ten e y k o s.verdict s.judged p b)))
 
 -- ---- by the lenient way 10 is never given
@@ -357,22 +357,22 @@ module _ (e : ℕ) (k : T (edition e)) where
       no_nine _ (inr ((reader.reads e lenient o old r area h i q).refused (omega (arith, z))).2) z
 
   pub settle_lenient : (d : Desk) (o : List ℕ) (r : Settling) → desk.SettleGives e lenient d o r → Octets o →
-      (settled.told r.outcome.answer).number ≡ 10 → ⊥
+      (settled.told r.answer.answer).number ≡ 10 → ⊥
   settle_lenient d o r h q z =
       go (((desk.settling e lenient d o r h q).by_book i).numbers (omega (arith, z)))
     where
-      go : T (verdict_number (calls (lenient_of e)) (settled.told r.outcome.answer).number)
-          ⊎ (((settled.told r.outcome.answer).number ≡ 17) ⊎ ((settled.told r.outcome.answer).number ≡ 21)) → ⊥
-      go (inl t) = no_eight (settled.told r.outcome.answer).number (inr t) z
+      go : T (verdict_number (calls (lenient_of e)) (settled.told r.answer.answer).number)
+          ⊎ (((settled.told r.answer.answer).number ≡ 17) ⊎ ((settled.told r.answer.answer).number ≡ 21)) → ⊥
+      go (inl t) = no_eight (settled.told r.answer.answer).number (inr t) z
       go (inr (inl u)) = omega (arith, z, u)
       go (inr (inr u)) = omega (arith, z, u)
 
   pub find_lenient : (o d : List ℕ) (r : Finding) → caption.FindGives e lenient o d r → Octets o →
-      (shown.told r.shown).number ≡ 10 → ⊥
+      (shown.told r.answer).number ≡ 10 → ⊥
   find_lenient o d r h q = no_eight _ ((caption.finding e lenient o d r h q).by_book i).numbers
 
   pub step-lenient : (o : List ℕ) (at : ℕ) (r : Stepped) → walker.StepGives e lenient o at r → Octets o →
-      (stepped.told r.step).number ≡ 10 → ⊥
+      (stepped.told r.answer).number ≡ 10 → ⊥
   step-lenient o at r h q = no_eight _ ((walker.stepping e lenient o at r h q).by_book i).numbers
 
   pub anthercup_listen_lenient : (c h : List ℕ) → firmware.RecordHasHeard e lenient c h → (o : List ℕ) → Octets o →

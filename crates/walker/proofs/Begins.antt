@@ -1,5 +1,6 @@
 -- A walk over a message's octets gives a parameter exactly where one begins, and that one.
 -- Assumes nothing.
+use Rattle.std.proofs.Common.{Ok, None}
 use Prim.Native.Nat.{ℕ, zero, suc, ◌+◌, ◌-◌, ◌≤◌, ◌<◌}
 use mathlib.Core.Path.{◌≡◌, refl, sym, ◌∙◌, ap}
 use mathlib.Core.List.{List, [], ◌∷◌, ◌++◌}
@@ -9,15 +10,13 @@ use Rattle.rules.proofs.Tests.{picked_by, eq_of, clash}
 use Rattle.rules.specs.Message as message
 use Rattle.rules.specs.Message.{body}
 use Rattle.message.proofs.Searching.{Stand, at_end, found_is, contents_are, on}
-use Rattle.walker.specs.declared.Step.{Step}
-use Rattle.walker.specs.declared.Step.TheVariants.{Parameter, NoMore}
 use Rattle.walker.specs.Walks.{Begins}
-use Rattle.walker.specs.Steps.{walk_from, next_place}
+use Rattle.walker.specs.Steps.{walk_from, next_place, Step, given}
 use Rattle.walker.proofs.Steps.{none_here, stands, here, onward}
 
 -- the step that gives a parameter: its type, its contents behind type and length, and the place behind them
 abbrev pub giving : ℕ → message.Parameter → Step
-giving at p = Parameter p.kind (at + 2) (length p.contents) (at + 2 + length p.contents)
+giving at p = given p.kind (at + 2) (length p.contents) (at + 2 + length p.contents)
 
 -- the place of the parameter that so many come before; behind the last one, that of the checksum
 unfoldable pub begin_at : ℕ → List message.Parameter → ℕ → ℕ
@@ -89,7 +88,7 @@ begins_apart first ps at behind b d h =
           (omega arith),
     )
 
-not_given : (k s n next : ℕ) → NoMore ≡ Parameter k s n next → ⊥
+not_given : (k s n next : ℕ) → Ok None ≡ given k s n next → ⊥
 not_given k s n next e = clash cc
 
 place_far : (first : ℕ) (ps : List message.Parameter) (k : ℕ) → first ≤ begin_at first ps k
@@ -107,7 +106,7 @@ place_behind first (q ∷ b) p a =
 
 -- ---- a walk that stands where the parameters ps begin
 module _ (o : List ℕ) (c : ℕ) where
-  at_last : (turns at place : ℕ) → Stand o c place [] → walk_from turns o at place ≡ NoMore
+  at_last : (turns at place : ℕ) → Stand o c place [] → walk_from turns o at place ≡ Ok None
   unfolding walk_from
   at_last zero at place e = refl
   at_last (suc turns) at place e = none_here (suc turns) o at place (omega arith) (at_end o c place e)
@@ -152,7 +151,7 @@ module _ (o : List ℕ) (c : ℕ) where
       (e ∙ ap (λ (l : List message.Parameter). body l ++ c ∷ []) b.is) b.place
 
   pub walk_begun : (turns at place : ℕ) (ps : List message.Parameter) → Stand o c place ps → length ps ≤ turns →
-      (k s n next : ℕ) → walk_from turns o at place ≡ Parameter k s n next → Begins place ps at
+      (k s n next : ℕ) → walk_from turns o at place ≡ given k s n next → Begins place ps at
   walk_begun turns at place [] e h k s n next w = absurd (not_given k s n next (sym (at_last turns at place e) ∙ w))
   walk_begun turns at place (p ∷ ps) e h k s n next w =
       picked_by (Begins place (p ∷ ps) at) _ _ _ _
@@ -162,7 +161,7 @@ module _ (o : List ℕ) (c : ℕ) where
       (on o c place p ps e) (omega arith) k s n next d))
 
   pub walk_none : (turns at place : ℕ) (ps : List message.Parameter) → Stand o c place ps → length ps ≤ turns →
-      (Begins place ps at → ⊥) → walk_from turns o at place ≡ NoMore
+      (Begins place ps at → ⊥) → walk_from turns o at place ≡ Ok None
   walk_none turns at place [] e h away = at_last turns at place e
   walk_none turns at place (p ∷ ps) e h away =
       onward turns o at place (omega arith) _ _ _ (found_is o c place p ps e) (λ z. away (first_begins place p ps at z))
@@ -184,7 +183,7 @@ module _ (o : List ℕ) (c : ℕ) where
       ∙ walk_on (turns - 1) (place + 2 + length p.contents) ps k (on o c place p ps e) (omega arith)
 
   pub walk_ended : (turns place : ℕ) (ps : List message.Parameter) (k : ℕ) → Stand o c place ps →
-      length ps ≤ turns → length ps ≤ k → walk_from turns o (begin_at place ps k) place ≡ NoMore
+      length ps ≤ turns → length ps ≤ k → walk_from turns o (begin_at place ps k) place ≡ Ok None
   unfolding begin_at
   walk_ended turns place [] k e h l = at_last turns (begin_at place [] k) place e
   walk_ended turns place (p ∷ ps) zero e h l = absurd (omega arith)

@@ -1,6 +1,7 @@
 -- What a caller learns of `new`, `look` and `next`: what their contracts ensure is the equation of `Moves`, for all
 -- lifetimes, numbers, slices and walkers.
 -- Assumes nothing.
+use Rattle.walker.specs.Steps.{Stepped}
 use Prim.Native.Nat.{ℕ}
 use mathlib.Core.List.{List}
 use seplogic.Ra.Ura.{Ura}
@@ -13,7 +14,6 @@ use contract.Monad.{Fun, fact}
 use denote.Ref.{Bor}
 use denote.Triple.Clauses.{ensured, lasts}
 use Rattle.walker.specs.declared.Walker.{Walker}
-use Rattle.walker.specs.declared.Stepped.{Stepped}
 use Rattle.walker.specs.Moves.{Begun, Seen, Moved}
 use Rattle.walker.specs.contracts.new as new
 use Rattle.walker.specs.contracts.look as look

@@ -1,6 +1,7 @@
 -- Walking by an edition and a way gives what is promised: by known numbers it is walking by their book, and by unknown
 -- ones 16 at every place, so that the place never moves.
 -- Assumes nothing.
+use Rattle.std.proofs.Common.{Err}
 use Prim.Native.Nat.{ℕ, zero, suc}
 use mathlib.Core.Path.{◌≡◌, refl, sym, ◌∙◌, ap, subst}
 use mathlib.Core.Logic.{◌⊎◌, inl, inr}
@@ -18,21 +19,18 @@ use Rattle.rules.proofs.ContentLaw.{sound_rules}
 use Rattle.rules.proofs.Grammar.{spoken}
 use Rattle.message.specs.Judges.{verdict_number}
 use Rattle.message.proofs.Judges.{told_small}
-use Rattle.walker.specs.declared.Step.{Step}
-use Rattle.walker.specs.declared.Step.TheVariants.{Refused}
-use Rattle.walker.specs.declared.Stepped.{Stepped}
 use Rattle.walker.specs.Told.{told, refusal}
-use Rattle.walker.specs.Steps.{step_of, step_in, next_place, place_at, place_in}
+use Rattle.walker.specs.Steps.{step_of, step_in, next_place, place_at, place_in, Step, Stepped}
 use Rattle.walker.specs.Walks.{Walks, WalksBy}
 use Rattle.walker.proofs.Told.{number_is, place_is, parameter_is}
 use Rattle.walker.proofs.Walks as walks
 
 -- a step by the edition e, and the one by none
 abbrev pub named : ℕ → Step → Stepped
-named e x = record { edition = e; step = x }
+named e x = record { edition = e; answer = x }
 
 abbrev pub by_none : Stepped
-by_none = record { edition = 0; step = Refused (noted 16 0) }
+by_none = record { edition = 0; answer = Err (noted 16 0) }
 
 module _ (e w : ℕ) (o : List ℕ) where
   pub known_is : (at : ℕ) → T (known e w) → step_in e w o at ≡ named e (step_of (rules_of (book_of e w)) o at)
@@ -49,13 +47,13 @@ module _ (e w : ℕ) (o : List ℕ) where
   unfolding place_in place_at
   known_place t zero = refl
   known_place t (suc calls) =
-      ap (λ (x : ℕ). next_place x (step_in e w o x).step) (known_place t calls)
-      ∙ ap (λ (r : Stepped). next_place (place_at (rules_of (book_of e w)) o calls) r.step) (known_is _ t)
+      ap (λ (x : ℕ). next_place x (step_in e w o x).answer) (known_place t calls)
+      ∙ ap (λ (r : Stepped). next_place (place_at (rules_of (book_of e w)) o calls) r.answer) (known_is _ t)
 
   -- by unknown ones a call leads nowhere
-  pub unknown_next : (at : ℕ) → (T (known e w) → ⊥) → next_place at (step_in e w o at).step ≡ at
+  pub unknown_next : (at : ℕ) → (T (known e w) → ⊥) → next_place at (step_in e w o at).answer ≡ at
   unfolding next_place
-  unknown_next at n = ap (λ (r : Stepped). next_place at r.step) (unknown_is at n)
+  unknown_next at n = ap (λ (r : Stepped). next_place at r.answer) (unknown_is at n)
 
   pub unknown_place : (T (known e w) → ⊥) → (calls : ℕ) → place_in e w o calls ≡ 2
   unfolding place_in

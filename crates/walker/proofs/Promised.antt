@@ -2,6 +2,7 @@
 -- whatever outcomes they allow (document 01, Drafts; document 02, Q-5). The promises of the last three go by the names
 -- that their contracts give them, `Begun`, `Seen`, `Moved`.
 -- Assumes nothing.
+use Rattle.std.proofs.Common.{Ok, None}
 use Prim.Native.Nat.{ℕ, ◌≤◌}
 use mathlib.Core.Path.{◌≡◌, sym, ◌∙◌, ap, subst}
 use mathlib.Core.List.{List, ◌∷◌, ◌++◌}
@@ -16,10 +17,7 @@ use Rattle.rules.proofs.ContentLaw.{sound_rules}
 use Rattle.rules.specs.Message as message
 use Rattle.rules.specs.Message.{Message, octets, LegalMessage}
 use Rattle.walker.specs.declared.Walker.{Walker}
-use Rattle.walker.specs.declared.Step.{Step}
-use Rattle.walker.specs.declared.Step.TheVariants.{NoMore}
-use Rattle.walker.specs.declared.Stepped.{Stepped}
-use Rattle.walker.specs.Steps.{step_of, step_in, place_at, place_in}
+use Rattle.walker.specs.Steps.{step_of, step_in, place_at, place_in, Step, Stepped}
 use Rattle.walker.proofs.Walks as walks
 use Rattle.walker.proofs.Editions as editions
 use Rattle.walker.specs.Told.{told, refusal, Clear}
@@ -35,11 +33,11 @@ StepGives e w o at r =
 
 -- 16 at 0, and no edition is named
 abbrev pub Sixteen : Stepped → Type 0
-Sixteen r = (told r.step ≡ refusal 16 0 0) × (r.edition ≡ 0)
+Sixteen r = (told r.answer ≡ refusal 16 0 0) × (r.edition ≡ 0)
 
 sixteen_by_none : (r : Stepped) → r ≡ editions.by_none → Sixteen r
 unfolding told
-sixteen_by_none r e = (ap (λ (x : Stepped). told x.step) e, ap (λ (x : Stepped). x.edition) e)
+sixteen_by_none r e = (ap (λ (x : Stepped). told x.answer) e, ap (λ (x : Stepped). x.edition) e)
 
 module _ (e w : ℕ) (o : List ℕ) (at : ℕ) (r : Stepped) (h : StepGives e w o at r) where
   step_at_is : r ≡ step_in e w o at
@@ -52,7 +50,7 @@ module _ (e w : ℕ) (o : List ℕ) (at : ℕ) (r : Stepped) (h : StepGives e w 
 
   -- of a legal message of a known edition and way
   pub step_of_lem : T (known e w) → (m : Message) → LegalMessage (rules_of (book_of e w)) m → octets m ≡ o →
-      Clear r.step × StepAt m at r.step × (r.edition ≡ e)
+      Clear r.answer × StepAt m at r.answer × (r.edition ≡ e)
   step_of_lem t m l k =
       let x = (stepping ((unique_in (book_of e w)).octets _ (m, l, k))).by_book t in
       (x.clear, x.stands m l k, ap (λ (y : Stepped). y.edition) (step_at_is ∙ editions.known_is e w o at t))
@@ -144,14 +142,14 @@ module _ (e w : ℕ) (s : Bor (List ℕ)) (calls : ℕ) (v : Walker) (h : Reache
     named_at_each = ap (λ (x : Stepped). x.edition) known_step
 
     module _ (m : Message) (l : LegalMessage R m) (o : s.now ≡ octets m) where
-      at_message : r.step ≡ step_of R (octets m) (place_at R (octets m) calls)
+      at_message : r.answer ≡ step_of R (octets m) (place_at R (octets m) calls)
       at_message =
-          ap (λ (x : Stepped). x.step) known_step ∙ ap (λ (x : List ℕ). step_of R x (place_at R x calls)) o
+          ap (λ (x : Stepped). x.answer) known_step ∙ ap (λ (x : List ℕ). step_of R x (place_at R x calls)) o
 
       -- as many calls as the parameter p has before it lead to p: its type, and its contents' own place, size and
       -- octets
       pub lists : (b : List message.Parameter) (p : message.Parameter) (a : List message.Parameter) →
-          m.parameters ≡ b ++ p ∷ a → calls ≡ length b → Gives (octets m) v.place p r.step
+          m.parameters ≡ b ++ p ∷ a → calls ≡ length b → Gives (octets m) v.place p r.answer
       lists b p a is j =
           subst (λ (x : Step). Gives (octets m) v.place p x)
           (sym (at_message ∙ ap (λ (n : ℕ). step_of R (octets m) (place_at R (octets m) n)) j))
@@ -163,5 +161,5 @@ module _ (e w : ℕ) (s : Bor (List ℕ)) (calls : ℕ) (v : Walker) (h : Reache
               place_is ∙ editions.known_place e w s.now t calls ∙ (λ i. place_at R (o i) (j i))
 
       -- as many calls as there are parameters, and each further one, lead to none
-      pub ends : length m.parameters ≤ calls → r.step ≡ NoMore
+      pub ends : length m.parameters ≤ calls → r.answer ≡ Ok None
       ends j = at_message ∙ walks.no_more R (sound_rules (book_of e w)) m l calls j

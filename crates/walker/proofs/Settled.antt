@@ -1,11 +1,11 @@
 -- Every public promise settles its answer: two that it allows are equal. Nothing is lent for writing.
 -- Assumes nothing.
+use Rattle.walker.specs.Steps.{Stepped}
 use Prim.Native.Nat.{ℕ}
 use mathlib.Core.Path.{◌≡◌, sym, ◌∙◌}
 use mathlib.Core.List.{List}
 use denote.Ref.{Bor}
 use Rattle.walker.specs.declared.Walker.{Walker}
-use Rattle.walker.specs.declared.Stepped.{Stepped}
 use Rattle.walker.specs.Moves.{Begun, Seen, Moved}
 use Rattle.walker.proofs.step_at.Reads as step_at
 

@@ -1,6 +1,7 @@
 -- Number, place and parameter tell a refusal of the walker, which has a number; it is the verdict's.
 -- Assumes nothing.
-use Rattle.std.proofs.Common.{Err}
+use Rattle.walker.specs.Steps.{Step}
+use Rattle.std.proofs.Common.{Err, Ok, Some, None}
 use Prim.Native.Nat.{ℕ, ◌≤◌}
 use mathlib.Core.Path.{◌≡◌, refl, ap, subst}
 use mathlib.Core.Logic.Iff
@@ -12,8 +13,6 @@ use Rattle.rules.specs.Table.{Rules}
 use Rattle.rules.specs.Refusals.{noted_in}
 use Rattle.rules.specs.declared.Fault.{Fault}
 use Rattle.message.proofs.Told.{told-declined}
-use Rattle.walker.specs.declared.Step.{Step}
-use Rattle.walker.specs.declared.Step.TheVariants.{Parameter, NoMore, Refused}
 use Rattle.walker.specs.Told.{Told, told, refusal, Clear}
 use Rattle.walker.specs.Walks.{Walks}
 
@@ -26,30 +25,29 @@ place_is e = ap (λ (t : Told). t.place) e
 pub parameter_is : {s t : Told} → s ≡ t → s.parameter ≡ t.parameter
 parameter_is e = ap (λ (t : Told). t.parameter) e
 
-pub told-refused : (r : Step) (k p b : ℕ) → 1 ≤ k → (told r ≡ refusal k p b) ↔ (r ≡ Refused (noted_in k p b))
+pub told-refused : (r : Step) (k p b : ℕ) → 1 ≤ k → (told r ≡ refusal k p b) ↔ (r ≡ Err (noted_in k p b))
 unfolding told
-told-refused (Parameter kind start n next) k p b l = (λ e. absurd (omega (arith, number_is e)), λ e. clash cc)
-told-refused NoMore k p b l = (λ e. absurd (omega (arith, number_is e)), λ e. clash cc)
-told-refused (Refused f) k p b l = (
-  λ e i. Refused (noted_in (e i).number (e i).place (e i).parameter),
+told-refused (Ok (Some one)) k p b l = (λ e. absurd (omega (arith, number_is e)), λ e. clash cc)
+told-refused (Ok None) k p b l = (λ e. absurd (omega (arith, number_is e)), λ e. clash cc)
+told-refused (Err f) k p b l = (
+  λ e i. Err (noted_in (e i).number (e i).place (e i).parameter),
   λ e. let d : f ≡ noted_in k p b = cc in ap (λ (g : Fault). refusal g.number g.place g.parameter) d,
 )
 
-pub clear_of : (r : Step) → ((f : Fault) → r ≡ Refused f → 1 ≤ f.number) → Clear r
-clear_of (Parameter kind start n next) h = tt
-clear_of NoMore h = tt
-clear_of (Refused f) h = h f refl
+pub clear_of : (r : Step) → ((f : Fault) → r ≡ Err f → 1 ≤ f.number) → Clear r
+clear_of (Ok one) h = tt
+clear_of (Err f) h = h f refl
 
 module _ {R : Rules} {o : List ℕ} {at : ℕ} {r : Step} (x : Walks R o at r) where
-  pub some_number : (f : Fault) → r ≡ Refused f → 1 ≤ f.number
+  pub some_number : (f : Fault) → r ≡ Err f → 1 ≤ f.number
   some_number f e = subst Clear e x.clear
 
-  pub refused_iff : (f : Fault) → 1 ≤ f.number → (r ≡ Refused f) ↔ (x.verdict ≡ Err f)
+  pub refused_iff : (f : Fault) → 1 ≤ f.number → (r ≡ Err f) ↔ (x.verdict ≡ Err f)
   refused_iff f l =
       Iff.trans (Iff.symm (told-refused r f.number f.place f.parameter l))
       (Iff.trans (x.refused f.number f.place f.parameter l)
       (told-declined x.verdict f.number f.place f.parameter l))
 
   -- a refusal is the verdict's
-  pub declined_so : (f : Fault) → r ≡ Refused f → x.verdict ≡ Err f
+  pub declined_so : (f : Fault) → r ≡ Err f → x.verdict ≡ Err f
   declined_so f e = (refused_iff f (some_number f e)).0 e

@@ -1,7 +1,7 @@
 -- The walker gives what is promised: its step follows the verdict on the octets, and in a message the walk meets each
 -- parameter where it begins; so one call after the other gives all the parameters in order, then none for ever.
 -- Assumes nothing.
-use Rattle.std.proofs.Common.{ℕ, Result, Ok, Err}
+use Rattle.std.proofs.Common.{ℕ, Result, Ok, Err, Some, None}
 use Prim.Native.Nat.{ℕ, zero, suc, ◌+◌, ◌≤◌}
 use mathlib.Core.Path.{◌≡◌, refl, sym, ◌∙◌, ap, ap₂, subst}
 use mathlib.Core.Logic.Iff
@@ -27,11 +27,9 @@ use Rattle.message.proofs.Searching.{Stand}
 use Rattle.rules.proofs.Sizes.{few}
 use Rattle.rules.specs.Language.{calls}
 use Rattle.rules.proofs.Grammar.{spoken}
-use Rattle.walker.specs.declared.Step.{Step}
-use Rattle.walker.specs.declared.Step.TheVariants.{Parameter, NoMore, Refused}
 use Rattle.walker.specs.Told.{told, nothing}
 use Rattle.walker.proofs.Told.{told-refused, clear_of}
-use Rattle.walker.specs.Steps.{walk_from, step_under, step_of, next_place, place_at}
+use Rattle.walker.specs.Steps.{walk_from, step_under, step_of, next_place, place_at, Step, given}
 use Rattle.walker.proofs.Steps.{walk_plain, under_inside}
 use Rattle.walker.proofs.Begins.{giving, begin_at, place_behind, begins_before, begins_apart, walk_begins, walk_begun, walk_none, walk_on, walk_ended, contents_stand}
 use Rattle.walker.specs.Walks.{Begins, Gives, StepAt, Walks}
@@ -48,7 +46,7 @@ module _ (o : List ℕ) (at : ℕ) where
   accepted_of (Ok n) h e = (n, refl)
   accepted_of (Err f) h e = absurd (omega (arith, h f refl))
 
-  refused_of : (v : Result ℕ Fault) (f : Fault) → (step_under v o at ≡ Refused f) ↔ (v ≡ Err f)
+  refused_of : (v : Result ℕ Fault) (f : Fault) → (step_under v o at ≡ Err f) ↔ (v ≡ Err f)
   unfolding step_under
   refused_of (Ok n) f = (λ e. absurd ((walk_plain o most at 2).1 f e), λ e. clash cc)
   refused_of (Err g) f = (λ e. cc, λ e. cc)
@@ -62,16 +60,16 @@ module _ (o : List ℕ) (at : ℕ) where
 
 place_stays : (at : ℕ) (r : Step) → (told r).more ≡ 0 → next_place at r ≡ at
 unfolding told next_place
-place_stays at (Parameter k start n next) l = absurd (omega arith)
-place_stays at NoMore l = refl
-place_stays at (Refused f) l = refl
+place_stays at (Ok (Some one)) l = absurd (omega arith)
+place_stays at (Ok None) l = refl
+place_stays at (Err f) l = refl
 
 -- ---- the step in a message
-given_is : (r : Step) → (told r).more ≡ 1 → (k s n next : ℕ) × (r ≡ Parameter k s n next)
+given_is : (r : Step) → (told r).more ≡ 1 → (k s n next : ℕ) × (r ≡ given k s n next)
 unfolding told
-given_is (Parameter k s n next) e = (k, s, n, next, refl)
-given_is NoMore e = absurd (omega arith)
-given_is (Refused f) e = absurd (omega arith)
+given_is (Ok (Some one)) e = (one.kind, one.start, one.length, one.next, refl)
+given_is (Ok None) e = absurd (omega arith)
+given_is (Err f) e = absurd (omega arith)
 
 giving_gives : (o : List ℕ) (at : ℕ) (p : message.Parameter) →
     take (length p.contents) (drop (at + 2) o) ≡ p.contents → Gives o at p (giving at p)
@@ -113,7 +111,7 @@ module _ (R : Rules) (S : SoundRules R) where
         (sym (legal_step at ∙ walk_begins o c most at 2 m.parameters stand (few R S m l) b))
         (giving_gives o at b.p (contents_stand o c at 2 m.parameters stand b))
 
-    none_at : (at : ℕ) → (Begins 2 m.parameters at → ⊥) → step_of R o at ≡ NoMore
+    none_at : (at : ℕ) → (Begins 2 m.parameters at → ⊥) → step_of R o at ≡ Ok None
     none_at at n = legal_step at ∙ walk_none o c most at 2 m.parameters stand (few R S m l) n
 
     none_told : (at : ℕ) → (Begins 2 m.parameters at → ⊥) → told (step_of R o at) ≡ nothing
@@ -157,7 +155,7 @@ module _ (R : Rules) (S : SoundRules R) where
     })
 
     -- and after as many as there are parameters there are no more, for ever
-    pub no_more : (calls : ℕ) → length m.parameters ≤ calls → step_of R o (place_at R o calls) ≡ NoMore
+    pub no_more : (calls : ℕ) → length m.parameters ≤ calls → step_of R o (place_at R o calls) ≡ Ok None
     no_more calls h =
         ap (step_of R o) (place_is calls)
         ∙ legal_step _

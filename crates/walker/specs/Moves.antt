@@ -5,8 +5,7 @@ use Rattle.std.specs.Prelude.{ℕ, zero, suc, ◌≡◌, List}
 use Rattle.std.proofs.Common.{◌∙◌, ap}
 use Rattle.std.specs.Borrow.{Bor}
 use Rattle.walker.specs.declared.Walker.{Walker}
-use Rattle.walker.specs.declared.Stepped.{Stepped}
-use Rattle.walker.specs.Steps.{step_in, next_place, place_in}
+use Rattle.walker.specs.Steps.{step_in, next_place, place_in, Stepped}
 
 -- a new walker holds the message lent, the place of its first parameter, and the edition and the way that it is told
 abbrev pub begun : ℕ → ℕ → Bor (List ℕ) → Walker
@@ -19,7 +18,7 @@ seen v = step_in v.edition v.way v.message.now v.place
 -- a walker moved on holds the same message, the place of the next call, and the same edition and way
 abbrev pub advanced : Walker → Walker
 advanced v =
-    record { message = v.message; place = next_place v.place (seen v).step; edition = v.edition; way = v.way }
+    record { message = v.message; place = next_place v.place (seen v).answer; edition = v.edition; way = v.way }
 
 -- the promises of `new`, `look` and `next`
 abbrev pub Begun : ℕ → ℕ → Bor (List ℕ) → Walker → Type 0

@@ -1,9 +1,8 @@
 -- What a step of the walker tells (document 01, The forms we expect: a definition provides number and values for each
 -- case).
 -- Assumes nothing.
-use Rattle.std.specs.Prelude.{ℕ, ◌≤◌}
-use Rattle.walker.specs.declared.Step.{Step}
-use Rattle.walker.specs.declared.Step.TheVariants.{Parameter, NoMore, Refused}
+use Rattle.walker.specs.Steps.{Step}
+use Rattle.std.specs.Prelude.{ℕ, ◌≤◌, Ok, Err, Some, None}
 
 -- number, place and parameter of a refusal; the type of a parameter and the part of its contents; 0 where there is
 -- none
@@ -18,10 +17,18 @@ pub record Told : Type 0 where
   pub size : ℕ
 
 unfoldable pub told : Step → Told
-told (Parameter k start n next) =
-    record { number = 0; place = 0; parameter = 0; more = 1; kind = k; start = start; size = n }
-told NoMore = record { number = 0; place = 0; parameter = 0; more = 0; kind = 0; start = 0; size = 0 }
-told (Refused f) =
+told (Ok (Some one)) =
+    record {
+      number = 0;
+      place = 0;
+      parameter = 0;
+      more = 1;
+      kind = one.kind;
+      start = one.start;
+      size = one.length;
+    }
+told (Ok None) = record { number = 0; place = 0; parameter = 0; more = 0; kind = 0; start = 0; size = 0 }
+told (Err f) =
     record { number = f.number; place = f.place; parameter = f.parameter; more = 0; kind = 0; start = 0; size = 0 }
 
 -- no parameter begins there
@@ -34,6 +41,5 @@ refusal k p b = record { number = k; place = p; parameter = b; more = 0; kind = 
 
 -- a refusal has a number: so what is told, and the place of the next call, tell the step
 abbrev pub Clear : Step → Type 0
-Clear (Parameter k start n next) = Unit {0}
-Clear NoMore = Unit {0}
-Clear (Refused f) = 1 ≤ f.number
+Clear (Ok one) = Unit {0}
+Clear (Err f) = 1 ≤ f.number

@@ -9,10 +9,8 @@ use Rattle.message.specs.Told as message
 use Rattle.rules.specs.Message.{Message, Parameter, body, octets, LegalMessage, Accepts}
 use Rattle.rules.specs.Language.{calls}
 use Rattle.message.specs.Judges.{Judges, verdict_number}
-use Rattle.walker.specs.declared.Step.{Step}
-use Rattle.walker.specs.declared.Stepped.{Stepped}
 use Rattle.walker.specs.Told.{told, nothing, refusal, Clear}
-use Rattle.walker.specs.Steps.{next_place}
+use Rattle.walker.specs.Steps.{next_place, Step, Stepped, given}
 
 -- of the parameters ps, of which the first begins at `first`, one begins at `at`: behind those before it
 pub record Begins (first : ℕ) (ps : List Parameter) (at : ℕ) : Type 0 where
@@ -70,17 +68,17 @@ pub record Walks (R : Rules) (o : List ℕ) (at : ℕ) (r : Step) : Type 0 where
 -- by the edition e and the way w, the octets o and a place went in, and r came back
 pub record WalksBy (e w : ℕ) (o : List ℕ) (at : ℕ) (r : Stepped) : Type 0 where
   -- by known numbers all that is said of their book
-  pub by_book : T (known e w) → Walks (rules_of (book_of e w)) o at r.step
+  pub by_book : T (known e w) → Walks (rules_of (book_of e w)) o at r.answer
   -- what is told, and the place of the next call, tell it, by unknown numbers too
-  pub clear : Clear r.step
+  pub clear : Clear r.answer
   -- 16 at 0 exactly where the edition or the way is unknown, whatever the octets and the place
-  pub sixteen : (p b : ℕ) → (told r.step ≡ refusal 16 p b) ↔ ((p ≡ 0) × (b ≡ 0) × (T (known e w) → ⊥))
+  pub sixteen : (p b : ℕ) → (told r.answer ≡ refusal 16 p b) ↔ ((p ≡ 0) × (b ≡ 0) × (T (known e w) → ⊥))
   -- by unknown numbers nothing else
-  pub unknown : (T (known e w) → ⊥) → (told r.step).number ≡ 16
+  pub unknown : (T (known e w) → ⊥) → (told r.answer).number ≡ 16
   -- where no parameter is given, the next call's place is the same, by unknown numbers too
-  pub stays : (told r.step).more ≡ 0 → next_place at r.step ≡ at
+  pub stays : (told r.answer).more ≡ 0 → next_place at r.answer ≡ at
   -- the part lies inside the octets, by unknown numbers too
-  pub inside : (told r.step).start + (told r.step).size ≤ length o
+  pub inside : (told r.answer).start + (told r.answer).size ≤ length o
   -- every answer names its edition, but with 16 none; 17 is never given
-  pub names : ((told r.step).number ≡ 16 → ⊥) → r.edition ≡ e
-  pub names_none : (told r.step).number ≡ 16 → r.edition ≡ 0
+  pub names : ((told r.answer).number ≡ 16 → ⊥) → r.edition ≡ e
+  pub names_none : (told r.answer).number ≡ 16 → r.edition ≡ 0

@@ -3,82 +3,55 @@
 // says what stands there, `place_after` where the next call goes.
 #![tactic(auto)]
 
-ghost use Rattle.std.specs.Prelude.{◌≡◌};
+ghost use Rattle.std.specs.Prelude.{◌≡◌, Ok};
 ghost use Rattle.rules.specs.Table.{rules_of};
 ghost use Rattle.rules.specs.Message.{most};
 ghost use Rattle.walker.specs.Steps.{walk_from, step_of, step_in, next_place};
 ghost use Rattle.walker.specs.Moves.{Begun, Seen, Moved};
 
-use message::Found;
+use message::Parameters;
 use rules::{Book, Fault};
 
-// A parameter: its type, where its contents start, how long they are, and the place behind them; or none; or a
-// refusal.
-#[derive(Clone, Copy)]
-pub enum Step {
-    Parameter {
-        kind: u8,
-        start: usize,
-        length: u8,
-        next: usize,
-    },
-    NoMore,
-    Refused(Fault),
+// A parameter: its type, where its contents start, how long they are, and the place behind them.
+#[derive(Clone, Copy, PartialEq, Eq)]
+pub struct Parameter {
+    pub kind: u8,
+    pub start: usize,
+    pub length: u8,
+    pub next: usize,
 }
 
-// What stands at a place, and the edition that the answer names: 0 with 16 (document 02, Q-5).
-#[derive(Clone, Copy)]
-pub struct Stepped {
-    pub edition: u8,
-    pub step: Step,
-}
+// What stands at a place, a parameter or none, or a refusal; and the edition that the answer names: 0 with 16 (document
+// 02, Q-5).
+pub type Stepped = rules::Named<Result<Option<Parameter>, Fault>>;
 
 // The parameter that begins at a place: parameters begin at 2 and behind one another, 85 at most.
-fn walk_to(message: &[u8], at: usize) -> Step
-    ensures { result ≡ walk_from most message.now at 2 }
+fn walk_to(message: &[u8], at: usize) -> Option<Parameter>
+    ensures { Ok result ≡ walk_from most message.now at 2 }
 {
     let mut place: usize = 2;
-    let mut turns: usize = rules::MOST;
-    while 0 < turns {
-        let found = message::parameter(message, place);
-        match found {
-            Some(
-                Found {
-                    kind,
-                    start,
-                    length,
-                },
-            ) => {
-                let next = start + length as usize;
-                if place == at {
-                    return Step::Parameter {
-                        kind,
-                        start,
-                        length,
-                        next,
-                    };
-                }
-                place = next;
-                turns -= 1;
-            }
-            None => {
-                return Step::NoMore;
-            }
+    for found in Parameters::new(message, rules::MOST) {
+        let next = found.start + found.length as usize;
+        if place == at {
+            return Some(Parameter {
+                kind: found.kind,
+                start: found.start,
+                length: found.length,
+                next,
+            });
         }
+        place = next;
     }
-    Step::NoMore
+    None
 }
 
 // By a book: what stands at a place; octets that the whole read declines with 1 to 8 or 10 get that number, at every
 // place.
-fn step_by(book: Book, message: &[u8], at: usize) -> Step
+fn step_by(book: Book, message: &[u8], at: usize) -> Result<Option<Parameter>, Fault>
     ensures { result ≡ step_of (rules_of book) message.now at }
 {
-    let verdict = message::judge(book, message);
-    match verdict {
-        Ok(size) => walk_to(message, at),
-        Err(fault) => Step::Refused(fault),
-    }
+    message::judge(book, message)?;
+    Ok(walk_to(message, at))
 }
 
 // What stands at a place, by an edition and a way: 16 where one of them is unknown, at every place.
@@ -89,30 +62,24 @@ pub fn step_at(edition: u8, way: u8, message: &[u8], at: usize) -> Stepped
     match rules::known_book(edition, way) {
         Some(book) => Stepped {
             edition,
-            step: step_by(book, message, at),
+            answer: step_by(book, message, at),
         },
         None => Stepped {
             edition: 0,
-            step: Step::Refused(rules::noted(16, 0)),
+            answer: Err(rules::noted(16, 0)),
         },
     }
 }
 
 // The place of the next call: behind the parameter that begins at a place, the same place where none does.
+#[tactic(auto, unfolding(crate::specs::Steps::next_place))]
 fn place_after(edition: u8, way: u8, message: &[u8], at: usize) -> usize
-    ensures { result ≡ next_place at (step_in edition way message.now at).step }
+    ensures { result ≡ next_place at (step_in edition way message.now at).answer }
 {
     let stepped = step_at(edition, way, message, at);
-    let step = stepped.step;
-    match step {
-        Step::Parameter {
-            kind,
-            start,
-            length,
-            next,
-        } => next,
-        Step::NoMore => at,
-        Step::Refused(fault) => at,
+    match stepped.answer {
+        Ok(Some(parameter)) => parameter.next,
+        Ok(None) | Err(_) => at,
     }
 }
 

@@ -6,16 +6,16 @@ use native.Mathlib.Omega.{arith}
 use Rattle.caption.specs.Caption.{by_entry}
 use Rattle.caption.proofs.by_entry.Goals as goal
 
-pub returns-in-Text : goal.returns-in-Text
+pub returns-in-Some : goal.returns-in-Some
 unfolding by_entry
-returns-in-Text c =
+returns-in-Some c =
     let a = c.args in
     let z : a.start + a.n - a.start ≡ a.n = omega arith in
-    rw (sym (rw z at c.entry_for-entry.ensures) ∙ c.in-Text.is) refl
+    rw (sym (rw z at c.entry_for-entry.ensures) ∙ c.in-Some.is) refl
 
-pub returns-in-Missing : goal.returns-in-Missing
+pub returns-in-None : goal.returns-in-None
 unfolding by_entry
-returns-in-Missing c =
+returns-in-None c =
     let a = c.args in
     let z : a.start + a.n - a.start ≡ a.n = omega arith in
-    rw (sym (rw z at c.entry_for-entry.ensures) ∙ c.in-Missing.is) refl
+    rw (sym (rw z at c.entry_for-entry.ensures) ∙ c.in-None.is) refl

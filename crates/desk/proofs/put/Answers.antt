@@ -1,14 +1,14 @@
--- `desk::put` meets its contract: past the last place nothing is put.
+-- `desk::put` meets its contract: where no place is the one sought nothing is put.
 -- Assumes nothing.
 use mathlib.Core.Path.{◌≡◌, sym}
 use native.Mathlib.Omega.{arith}
-use lib.ListN.{length}
 use lib.Seq.{set_out}
-use Rattle.desk.specs.References.{place_count}
-use borrow.Author.Rules.{rules}
+use Rattle.std.proofs.lemmas.Grind.{common_steps}
+use Rattle.desk.proofs.Holding.{place_is}
 use Rattle.desk.proofs.put.Goals as goal
 
-pub returns-else-at-lt-PLACES : goal.returns-else-at-lt-PLACES
-returns-else-at-lt-PLACES c =
-    let l : length c.args.places ≡ place_count = search rules in
-    sym (set_out c.args.places _ _ (omega (arith, l, c.if-at-lt-PLACES.false)))
+pub returns-in-Some : goal.returns-in-Some
+returns-in-Some c = grind (arith, common_steps, place_is)
+
+pub returns-in_default : goal.returns-in_default
+returns-in_default c = grind (arith, common_steps, place_is, set_out)

@@ -1,8 +1,8 @@
 -- `desk::waiting_after` meets its contract: the octet at the start of the contents of 13H that count, or the number
 -- as it was.
 -- Assumes nothing.
+use Rattle.std.proofs.Common.{Some}
 use mathlib.Core.Path.{refl, sym, ◌∙◌, ap}
-use Rattle.desk.specs.declared.Waiting.TheVariants.{Number}
 use Rattle.desk.specs.Settle.{waiting_after}
 use Rattle.desk.proofs.Counted.{start_inside, first_octet, counts_none, counts_some}
 use Rattle.desk.proofs.waiting_after.Goals as goal
@@ -15,7 +15,7 @@ unfolding waiting_after
 returns-in-Some c =
     let f = c.counted-part.ensures in
     let e = c.in-Some.is in
-    rw (counts_some _ _ _ _ f _ _ e) (ap Number (sym (first_octet _ _ c.requires _ _ _ (sym f ∙ e))))
+    rw (counts_some _ _ _ _ f _ _ e) (ap Some (sym (first_octet _ _ c.requires _ _ _ (sym f ∙ e))))
 
 pub returns-in-None : goal.returns-in-None
 unfolding waiting_after

@@ -2,19 +2,25 @@
 -- other is 17.
 -- Assumes nothing.
 use mathlib.Core.Path.{sym, ◌∙◌}
+use native.Mathlib.Omega.{arith}
+use Rattle.rules.proofs.Octets.{octets_at}
+use Rattle.listener.proofs.Hears.{taken_small}
 use Rattle.firmware.proofs.Coding.{known_size}
 use Rattle.firmware.proofs.ListenerRecord.{known_answers, unknown_answers}
 use Rattle.firmware.proofs.anthercup_listen.Goals as goal
 
 pub encode-requires : goal.encode-requires
-encode-requires c = known_size _ _ (sym c.decode-got.ensures ∙ c.in-Known.is)
+encode-requires c = known_size _ _ (sym c.decode.ensures ∙ c.in-Some.is)
 
-pub returns-in-Known : goal.returns-in-Known
-returns-in-Known c =
-    known_answers _ _ _ c.decode-got.ensures _ _ _ c.in-Known.is
-    c.hear-done.ensures c.encode.ensures
+pub word_of-requires : goal.word_of-requires
+word_of-requires c =
+    rw c.listen-heard.ensures
+    (taken_small _ _ (octets_at c.args.octets.now (λ i. omega (arith, c.shared_slice_known-1.given i))))
 
-pub returns-in-Unknown : goal.returns-in-Unknown
-returns-in-Unknown c =
-    unknown_answers _ _ _ c.decode-got.ensures _ c.in-Unknown.is
-    c.plain.ensures
+pub returns : goal.returns
+returns c =
+    known_answers _ _ _ c.decode.ensures _ _ _ _ c.in-Some.is c.listen-heard.ensures c.word_of.ensures
+    c.encode.ensures
+
+pub returns-in_default : goal.returns-in_default
+returns-in_default c = unknown_answers _ _ _ c.decode.ensures _ c.in_default.is c.plain.ensures

@@ -6,16 +6,16 @@ use Rattle.firmware.proofs.RecordPlaces.{settles_known, settles_unknown}
 use Rattle.firmware.proofs.anthercup_settle.Goals as goal
 
 pub decode-found-requires : goal.decode-found-requires
-decode-found-requires c = record_size _ (T_of _ (via _ _ _ c.is_record.ensures c.if-is_record.true))
+decode-found-requires c = record_size _ (T_of _ (via _ _ _ c.is_record.ensures c.if-not-is_record.false))
 
 pub encode-requires : goal.encode-requires
-encode-requires c = record_size _ (T_of _ (via _ _ _ c.is_record.ensures c.if-is_record.true))
+encode-requires c = record_size _ (T_of _ (via _ _ _ c.is_record.ensures c.if-not-is_record.false))
 
-pub returns-then-is_record : goal.returns-then-is_record
-returns-then-is_record c =
-    settles_known _ _ _ _ _ c.is_record.ensures c.if-is_record.true _
+pub returns : goal.returns
+returns c =
+    settles_known _ _ _ _ _ c.is_record.ensures c.if-not-is_record.false _
     _ _ _ c.decode-found.ensures c.settle-done.ensures c.desk_word.ensures
     c.encode.ensures
 
-pub returns-else-is_record : goal.returns-else-is_record
-returns-else-is_record c = settles_unknown _ _ _ _ _ c.is_record.ensures c.if-is_record.false _ c.plain.ensures
+pub returns-then-not-is_record : goal.returns-then-not-is_record
+returns-then-not-is_record c = settles_unknown _ _ _ _ _ c.is_record.ensures c.if-not-is_record.true _ c.plain.ensures

@@ -36,6 +36,6 @@ returns-in-Ok c =
 pub returns-in-Err : goal.returns-in-Err
 unfolding counted_under
 returns-in-Err c =
-    c.packed.ensures
+    c.refused.ensures
     ∙ by_book _ _ _ _ _ _ _ _ c.book_of-book.ensures c.judge-verdict.ensures
     c.in-Err.is

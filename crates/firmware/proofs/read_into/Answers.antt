@@ -63,7 +63,7 @@ returns-in-Err c =
     let p = packs_refused _ octets c.args.texts.now _
     (sym c.in-Err.is ∙ c.fits-fitting.ensures) in
     let x = by_book _ octets c.args.cells.now c.args.texts.now _ _ _ _ _ c.book_of-book.ensures (
-      c.packed-in-Err.ensures ∙ ap (packed_word _) p.answer,
+      c.refused.ensures ∙ ap (packed_word _) p.answer,
       (ap (record_from _ octets c.args.cells.now) p.answer, p.area_is),
     ) in
     record { answer = x.0; cells = x.1.0; texts = x.1.1 }

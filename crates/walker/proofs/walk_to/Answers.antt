@@ -1,34 +1,39 @@
--- `walker::walk_to` meets its contract. The loop's invariant: the walk from here on, with the turns left, gives what
--- the whole walk gives. The measure is the turns left.
+-- `walker::walk_to` meets its contract: at first all are left.
 -- Assumes nothing.
-use mathlib.Core.Path.{refl, sym, ◌∙◌}
-use native.Mathlib.Omega.{arith}
-use Rattle.message.proofs.Searching.{found_inside}
-use Rattle.walker.proofs.Steps.{no_turns, none_here, here, onward}
+use Rattle.std.proofs.Common.{length, sym, ap, ◌∙◌, subst, arith}
+use Rattle.rules.specs.Message.{most}
+use Rattle.message.specs.Walk.{founds_left}
+use Rattle.walker.proofs.Steps.{walked, walked_is, found_here, found_on, found_none, Within, founds_inside}
 use Rattle.walker.proofs.walk_to.Goals as goal
 
-pub loop-turns-init : goal.loop-turns-init
-loop-turns-init c = refl
+pub loop-found-init : goal.loop-found-init
+loop-found-init c =
+    let all = ap founds_left c.into_iter-found-iterator.ensures.into_iter_gives ∙ c.new-found-items.ensures in (
+      ap (walked c.args.at 2) all ∙ sym (walked_is most c.args.message.now c.args.at 2),
+      subst (Within (length c.args.message.now)) (sym all) (founds_inside most c.args.message.now 2),
+    )
 
 pub overflow_add-next : goal.overflow_add-next
-overflow_add-next c = omega (arith, found_inside _ _ _ _ _ _ c.parameter-found.ensures c.in-Some.is)
+overflow_add-next c =
+    let one = subst (Within (length c.args.message.now)) c.in-Some.ensures.steps c.loop-found.invariant.1 in
+    omega (arith, one.0)
 
 pub returns-then-place-at : goal.returns-then-place-at
 returns-then-place-at c =
-    sym (here _ _ _ _ c.loop-turns-test.true _ _ _ (sym c.parameter-found.ensures
-    ∙ c.in-Some.is) c.if-place-at.true) ∙ c.loop-turns.invariant
+    sym (found_here _ _ _ _ c.if-place-at.true)
+    ∙ sym (ap (walked c.args.at c.loop-found.place) c.in-Some.ensures.steps)
+    ∙ c.loop-found.invariant.0
 
-pub loop-turns-preserved : goal.loop-turns-preserved
-loop-turns-preserved c =
-    sym (onward _ _ _ _ c.loop-turns-test.true _ _ _
-    (sym c.parameter-found.ensures ∙ c.in-Some.is) c.if-place-at.false)
-    ∙ c.loop-turns.invariant
-
-pub returns-in-None : goal.returns-in-None
-returns-in-None c =
-    sym (none_here _ _ _ _ c.loop-turns-test.true
-    (sym c.parameter-found.ensures ∙ c.in-None.is))
-    ∙ c.loop-turns.invariant
+pub loop-found-preserved : goal.loop-found-preserved
+loop-found-preserved c =
+    let one = subst (Within (length c.args.message.now)) c.in-Some.ensures.steps c.loop-found.invariant.1 in (
+      sym (found_on _ _ _ _ c.if-place-at.false)
+      ∙ sym (ap (walked c.args.at c.loop-found.place) c.in-Some.ensures.steps)
+      ∙ c.loop-found.invariant.0,
+      one.1,
+    )
 
 pub returns : goal.returns
-returns c = sym (no_turns _ _ _ _ c.loop-turns-test.false) ∙ c.loop-turns.invariant
+returns c =
+    sym (found_none c.args.at c.loop-found.place _ c.in-None.ensures.steps.0)
+    ∙ c.loop-found.invariant.0

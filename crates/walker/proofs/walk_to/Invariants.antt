@@ -1,13 +1,13 @@
--- `walker::walk_to` meets its contract. The loop's invariant: the walk from here on, with the turns left, gives what
--- the whole walk gives. The measure is the turns left.
+-- `walker::walk_to`: the parameters that are left hold what the whole walk gives, and end inside the message.
 -- Assumes nothing.
-use mathlib.Core.Path.{◌≡◌}
+use Rattle.std.proofs.Common.{◌≡◌, length}
 use Rattle.rules.specs.Message.{most}
+use Rattle.message.specs.Walk.{founds_left}
 use Rattle.walker.specs.Steps.{walk_from}
+use Rattle.walker.proofs.Steps.{walked, Within}
 use Rattle.walker.proofs.walk_to.Given as goal
 
-abbrev pub invariant-loop-turns : goal.invariant-loop-turns
-invariant-loop-turns l = walk_from l.turns l.message l.at l.place ≡ walk_from most l.message l.at 2
-
-abbrev pub decreases-loop-turns : goal.decreases-loop-turns
-decreases-loop-turns l = l.turns
+abbrev pub invariant-loop-found : goal.invariant-loop-found
+invariant-loop-found l =
+    (walked l.at l.place (founds_left l.found-iterator) ≡ walk_from most l.message l.at 2)
+    × Within (length l.message) (founds_left l.found-iterator)
