@@ -448,7 +448,7 @@ fn is_line(row: &Row, contents: &[u8], line: &[u8]) -> bool
 }
 
 // The line of a row, if its type counts.
-#[tactic(auto, using(std::proofs::lemmas::Grind::common_steps, crate::proofs::Rows::row_line, crate::proofs::Rows::row_none))]
+#[tactic(auto, using(std::proofs::lemmas::Grind::common_steps, crate::proofs::Rows::row_line, crate::proofs::Rows::row_none, crate::proofs::Rows::part_inside))]
 fn put_row(octets: &[u8], row: &Row, page: &mut Page)
     requires { HasRoom (written (part_lines (rules_of book.PresentLenient) octets.now (seen row.now))) page.old }
     ensures { page.new.items ≡ page.old.items ++ written (part_lines (rules_of book.PresentLenient) octets.now (seen row.now)) }
@@ -458,6 +458,7 @@ fn put_row(octets: &[u8], row: &Row, page: &mut Page)
     }
 }
 
+#[tactic(auto, using(std::proofs::lemmas::Grind::common_steps, crate::proofs::Rows::row_next, crate::proofs::Rows::rows_long, crate::proofs::Rows::no_rows))]
 fn put_rows(octets: &[u8], page: &mut Page)
     requires { HasRoom (written (rows_at (rules_of book.PresentLenient) octets.now (rules_of book.PresentLenient).rows)) page.old }
     ensures { page.new.items ≡ page.old.items ++ written (rows_at (rules_of book.PresentLenient) octets.now (rules_of book.PresentLenient).rows) }
