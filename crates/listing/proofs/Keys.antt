@@ -25,7 +25,9 @@ short = refl
 
 pub key_short : (i : ℕ) → i < row_count → length (row_at i).key ≤ 17
 unfolding row_at
-key_short i h = grind (arith, common_steps, short, row_count_lem, list_all_at (λ (r : table.Row). leb (length r.key) 17) (rules_of PresentLenient).rows i no_row)
+key_short i h =
+    let at = list_all_at (λ (r : table.Row). leb (length r.key) 17) (rules_of PresentLenient).rows i no_row in
+    grind (arith, common_steps, short, row_count_lem, at)
 
 -- ---- behind the last row
 pub no_row_lem : (i : ℕ) → row_count ≤ i → row_at i ≡ no_row

@@ -68,7 +68,8 @@ decimal_says = by_digits (λ (n : ℕ). number_from 0 (decimal n) ≡ n) one mor
     one n h = ap (number_from 0) (decimal_small n h) ∙ omega arith
 
     more : (n : ℕ) → 10 ≤ n → number_from 0 (decimal (n / 10)) ≡ n / 10 → number_from 0 (decimal n) ≡ n
-    more n h e = ap (number_from 0) (decimal_big n h) ∙ number_snoc 0 (decimal (n / 10)) (48 + n % 10) ∙ omega (arith, e)
+    more n h e =
+        ap (number_from 0) (decimal_big n h) ∙ number_snoc 0 (decimal (n / 10)) (48 + n % 10) ∙ omega (arith, e)
 
 -- so no two numbers print alike
 pub decimal_apart : (m n : ℕ) → decimal m ≡ decimal n → m ≡ n

@@ -41,7 +41,8 @@ of_text : (v : List ℕ) →
     (shown (buffer_of v) ≡ v) × (drop (buffer_of v).length (buffer_of v).octets ≡ replicate (buffer_size - length v) 0)
 unfolding buffer_of
 of_text v =
-    (take-append_seam v (replicate (buffer_size - length v) 0), drop-append_seam v (replicate (buffer_size - length v) 0))
+    let zeros = replicate (buffer_size - length v) 0 in
+    (take-append_seam v zeros, drop-append_seam v zeros)
 
 module _ (o : List ℕ) (r : ListingText) (h : ListingGives o r) where
   listing_is : r ≡ buffer_of (listing_of (rules_of PresentLenient) o)

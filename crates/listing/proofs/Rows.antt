@@ -3,11 +3,11 @@
 -- Assumes nothing.
 use Rattle.std.proofs.Common.{Option, Some, None, zero, not, cond, filter, map}
 use Prim.Native.Nat.{ℕ, suc, ◌+◌, ◌-◌, ◌≤◌, ◌<◌}
-use mathlib.Core.Path.{◌≡◌, refl, sym, ◌∙◌, ap}
-use mathlib.Core.List.{List, [], ◌∷◌, ◌++◌, append_assoc, append-nil}
+use mathlib.Core.Path.{◌≡◌, refl, ◌∙◌, ap}
+use mathlib.Core.List.{List, [], ◌∷◌, ◌++◌, append-nil}
 use mathlib.Core.Bool.{Bool, true, false}
 use native.Mathlib.Omega.{arith}
-use lib.ListN.{length, length-append, get_or, take, drop, take-append-drop}
+use lib.ListN.{length, get_or, take, drop, take-append-drop}
 use Rattle.std.proofs.lemmas.List.{take_more, map-append}
 use Rattle.rules.specs.Tests.{pick}
 use Rattle.rules.specs.Table as table
@@ -22,15 +22,13 @@ use Rattle.message.specs.declared.Found.{Found}
 use Rattle.message.specs.Walk.{found_then, founds_from}
 use Rattle.listing.specs.declared.Row.{Row}
 use Rattle.listing.specs.Seen.{seen}
-use Rattle.arrayvec.specs.ArrayVec.{ArrayVec}
-use Rattle.listing.specs.Page.{HasRoom}
 use Rattle.std.proofs.lemmas.Grind.{common_steps}
 use Rattle.listing.specs.Listing.{line_text, written, written_one, written-append, line_of, lines_for, part_lines, rows_at, kind_line, carried_line, lines_at, number_line}
 
 -- ---- where contents stand, they lie inside
-pub part_inside : (o : List ℕ) (t : ℕ) (p : Option Part) (s n : ℕ) → p ≡ counted_at (rules_of PresentLenient) o t →
-    p ≡ part_at s n → s + n ≤ length o
-part_inside o t p s n e q = omega (arith, counted_inside o (rules_of PresentLenient) t s n (sym e ∙ q))
+pub part_inside : (o : List ℕ) (t : ℕ) (p : Part) → counted_at (rules_of PresentLenient) o t ≡ Some p →
+    p.start + p.length ≤ length o
+part_inside o t p e = omega (arith, counted_inside o (rules_of PresentLenient) t p.start p.length e)
 
 -- ---- the line of a row
 pub row_line : (o : List ℕ) (r : table.Row) (s n : ℕ) → counted_at (rules_of PresentLenient) o r.kind ≡ part_at s n →
@@ -60,16 +58,23 @@ pub rows_text-append : (o : List ℕ) (a b : List table.Row) → rows_text o (a 
 unfolding rows_at written
 rows_text-append o [] b = refl
 rows_text-append o (r ∷ a) b =
-    written-append (part_lines (rules_of PresentLenient) o r) (rows_at (rules_of PresentLenient) o (a ++ b))
-    ∙ ap (λ (v : List ℕ). written (part_lines (rules_of PresentLenient) o r) ++ v) (rows_text-append o a b)
-    ∙ sym (append_assoc (written (part_lines (rules_of PresentLenient) o r)) (rows_text o a) (rows_text o b))
-    ∙ ap (λ (v : List ℕ). v ++ rows_text o b)
-    (sym (written-append (part_lines (rules_of PresentLenient) o r) (rows_at (rules_of PresentLenient) o a)))
+    grind (
+      arith,
+      common_steps,
+      written-append (part_lines (rules_of PresentLenient) o r) (rows_at (rules_of PresentLenient) o (a ++ b)),
+      written-append (part_lines (rules_of PresentLenient) o r) (rows_at (rules_of PresentLenient) o a),
+      rows_text-append o a b,
+    )
 
 row_alone : (o : List ℕ) (r : table.Row) →
     rows_text o (r ∷ []) ≡ written (part_lines (rules_of PresentLenient) o r)
 unfolding rows_at
 row_alone o r = ap written (append-nil (part_lines (rules_of PresentLenient) o r))
+
+-- no rows have no text
+pub no_rows : (o : List ℕ) → rows_text o [] ≡ []
+unfolding rows_at written
+no_rows o = refl
 
 -- one row more
 pub row_next : (o : List ℕ) (rs : List Row) (i : ℕ) (d : Row) → i < length rs →
@@ -87,31 +92,14 @@ pub rows_long : (o : List ℕ) (rs : List Row) (i : ℕ) (d : Row) → i < lengt
     + length (written (part_lines (rules_of PresentLenient) o (seen (get_or rs i d)))) ≤
     length (rows_text o (map seen rs))
 rows_long o rs i d h =
-    let next = ap length (row_next o rs i d h) ∙ length-append (rows_text o (map seen (take i rs))) (written (part_lines (rules_of PresentLenient) o (seen (get_or rs i d)))) in
-    let all = ap (λ xs. length (rows_text o (map seen xs))) (take-append-drop (i + 1) rs) in
-    let parts = ap (λ us. length (rows_text o us)) (map-append seen (take (i + 1) rs) (drop (i + 1) rs)) in
-    omega (arith, next, all, parts, ap length (rows_text-append o (map seen (take (i + 1) rs)) (map seen (drop (i + 1) rs))), length-append (rows_text o (map seen (take (i + 1) rs))) (rows_text o (map seen (drop (i + 1) rs))))
-
--- ---- so the line of the next row has room where all have
-pub row_room : (o : List ℕ) (rs : List Row) (i : ℕ) (d : Row) (old now : ArrayVec ℕ) → i < length rs →
-    map seen rs ≡ (rules_of PresentLenient).rows → now.items ≡ old.items ++ rows_text o (map seen (take i rs)) →
-    HasRoom (rows_text o (rules_of PresentLenient).rows) old →
-    HasRoom (written (part_lines (rules_of PresentLenient) o (seen (get_or rs i d)))) now
-row_room o rs i d old now h e p r =
-    omega (
+    grind (
       arith,
-      rows_long o rs i d h,
-      ap (λ us. length (rows_text o us)) e,
-      ap length p,
-      length-append old.items (rows_text o (map seen (take i rs))),
-      r,
+      common_steps,
+      row_next o rs i d h,
+      take-append-drop (i + 1) rs,
+      map-append seen (take (i + 1) rs) (drop (i + 1) rs),
+      rows_text-append o (map seen (take (i + 1) rs)) (map seen (drop (i + 1) rs)),
     )
-
-pub row_more : (o : List ℕ) (rs : List Row) (i : ℕ) (d : Row) (old now new : List ℕ) → i < length rs →
-    now ≡ old ++ rows_text o (map seen (take i rs)) →
-    new ≡ now ++ written (part_lines (rules_of PresentLenient) o (seen (get_or rs i d))) →
-    new ≡ old ++ rows_text o (map seen (take (i + 1) rs))
-row_more o rs i d old now new h p q = grind (arith, common_steps, row_next o rs i d h)
 
 -- ---- how many are carried
 abbrev pub carries : Found → Bool

@@ -244,7 +244,8 @@ same_value c e p = record {
   plainly = λ v t. subst (λ (s : Style). T (plain (printed s v))) (sym e) (p v t);
 }
 
-text_plain : (ls s : List Range) → T (from 0x20 s) → (v : List ℕ) → T (in_set ls (length v) and all_in s v) → T (plain v)
+text_plain : (ls s : List Range) → T (from 0x20 s) → (v : List ℕ) → T (in_set ls (length v) and all_in s v) →
+    T (plain v)
 text_plain ls s p v t = all_plain s v p (both _ _ t).1
 
 pub value : (c : Class) → Printed c

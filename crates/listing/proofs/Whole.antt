@@ -68,7 +68,9 @@ module _ (o : List ℕ) (q : Octets o) (v : Result ℕ Fault) (e : v ≡ verdict
           let k : message_in o ≡ m =
           ap message_in (sym a.2) ∙ message_in_lem (rules_of PresentLenient) (sound_rules PresentLenient) m l in
           record {
-            is = ap written s ∙ ap (λ (x : Result ℕ Fault). written (verdict_lines (rules_of PresentLenient) o x)) (sym d ∙ e);
+            is =
+                ap written s
+                ∙ ap (λ (x : Result ℕ Fault). written (verdict_lines (rules_of PresentLenient) o x)) (sym d ∙ e);
             short =
                 omega (
                   arith,

@@ -22,7 +22,8 @@ use rules::{Book, Class, Fault};
 // No listing is longer.
 const LONGEST: usize = 553;
 
-// A listing: its first `length` octets; those behind them are 0.
+// A listing: its first `length` octets; those behind them are 0. It is handed out by value, with no heap: so it is an
+// array with a length, and `text` gives the slice.
 #[derive(Clone, Copy)]
 pub struct ListingText {
     pub octets: [u8; LONGEST],
@@ -190,7 +191,8 @@ fn put(text: &[u8], page: &mut Page)
 
 // ---- numbers
 
-// The digits of the quotient by ten, and then the last one.
+// The digits of the quotient by ten, and then the last one. Not by `write!`, which would answer a Result for each
+// number, though none can fail: the page is of octets, which need be no text, and a clause says each of them.
 #[tactic(auto, using(std::proofs::lemmas::Grind::common_steps, crate::proofs::Numerals::decimal_small, crate::proofs::Numerals::decimal_big))]
 fn put_decimal(n: u16, page: &mut Page)
     requires { HasRoom (decimal n) page.old }
@@ -209,7 +211,7 @@ fn hex_digit(k: u8) -> u8
     requires { k < 16 }
     ensures { result ≡ hex_digit k }
 {
-    if k <= 9 { 48 + k } else { 55 + k }
+    if k <= 9 { b'0' + k } else { b'A' + (k - 10) }
 }
 
 #[tactic(auto, unfolding(crate::specs::Numerals::hex))]
@@ -306,8 +308,7 @@ fn reference_in(contents: &[u8]) -> u16
 // An octet in hex, a space, and what stands behind it.
 #[tactic(auto, unfolding(crate::specs::Listing::coded, rules::specs::Table::ascii))]
 fn put_coded(contents: &[u8], i: usize, page: &mut Page)
-    requires code { i ≤ 3 }
-    requires room { HasRoom (coded contents.now i) page.old }
+    requires { (i ≤ 3) × HasRoom (coded contents.now i) page.old }
     ensures { page.new.items ≡ page.old.items ++ coded contents.now i }
 {
     put(&hex(message::octet(contents, i)), page);
@@ -448,7 +449,7 @@ fn is_line(row: &Row, contents: &[u8], line: &[u8]) -> bool
 }
 
 // The line of a row, if its type counts.
-#[tactic(auto, using(std::proofs::lemmas::Grind::common_steps, crate::proofs::Rows::row_line, crate::proofs::Rows::row_none))]
+#[tactic(auto, using(std::proofs::lemmas::Grind::common_steps, crate::proofs::Rows::row_line, crate::proofs::Rows::row_none, crate::proofs::Rows::part_inside))]
 fn put_row(octets: &[u8], row: &Row, page: &mut Page)
     requires { HasRoom (written (part_lines (rules_of book.PresentLenient) octets.now (seen row.now))) page.old }
     ensures { page.new.items ≡ page.old.items ++ written (part_lines (rules_of book.PresentLenient) octets.now (seen row.now)) }
@@ -458,6 +459,7 @@ fn put_row(octets: &[u8], row: &Row, page: &mut Page)
     }
 }
 
+#[tactic(auto, using(std::proofs::lemmas::Grind::common_steps, crate::proofs::Rows::row_next, crate::proofs::Rows::rows_long, crate::proofs::Rows::no_rows))]
 fn put_rows(octets: &[u8], page: &mut Page)
     requires { HasRoom (written (rows_at (rules_of book.PresentLenient) octets.now (rules_of book.PresentLenient).rows)) page.old }
     ensures { page.new.items ≡ page.old.items ++ written (rows_at (rules_of book.PresentLenient) octets.now (rules_of book.PresentLenient).rows) }
@@ -521,6 +523,7 @@ fn put_refusal(fault: Fault, page: &mut Page)
     put_number(b"in=", u16::from(fault.parameter), page);
 }
 
+// The lines of a message, or those of its refusal.
 fn put_listing(octets: &[u8], page: &mut Page)
     requires { HasRoom (listing_of (rules_of book.PresentLenient) octets.now) page.old }
     ensures { page.new.items ≡ page.old.items ++ listing_of (rules_of book.PresentLenient) octets.now }
@@ -531,6 +534,7 @@ fn put_listing(octets: &[u8], page: &mut Page)
     }
 }
 
+// The page as it is handed out.
 fn text_of(page: &Page) -> ListingText
     ensures { result ≡ buffer_of page.now.items }
 {
@@ -552,7 +556,7 @@ pub fn listing(octets: &[u8]) -> ListingText
     text_of(&page)
 }
 
-// The parameter type of a row; 0 behind the last.
+// The parameter type of a row; 0 behind the last, as `no_row` says.
 #[tactic(auto, using(crate::proofs::Keys::no_row_lem))]
 pub fn kind_at(i: usize) -> u8
     ensures { result ≡ (row_at i).kind }
@@ -563,7 +567,7 @@ pub fn kind_at(i: usize) -> u8
     }
 }
 
-// How many octets the key of a row has; 0 behind the last.
+// How many octets the key of a row has; 0 behind the last, as `no_row` says.
 #[tactic(auto, using(crate::proofs::Keys::no_row_lem))]
 pub fn key_length(i: usize) -> usize
     ensures { result ≡ length (row_at i).key }

@@ -7,4 +7,5 @@ use Rattle.listing.proofs.listing.Goals as goal
 
 pub put_listing-requires : goal.put_listing-requires
 put_listing-requires c =
-    omega (arith, ap length c.new-page.ensures, listing_short c.args.octets.now (octets_at c.args.octets.now (λ i. omega (arith, c.type_inv.octets i))))
+    let octets = octets_at c.args.octets.now (λ i. omega (arith, c.type_inv.octets i)) in
+    omega (arith, ap length c.new-page.ensures, listing_short c.args.octets.now octets)

@@ -9,5 +9,6 @@ pub returns : goal.returns
 unfolding buffer_of
 returns c =
     let text = c.as_slice-text.result.now in
-    (λ i. record { octets = c.copy_from_slice.ensures.after i ++ drop-replicate (length text) 553 0 i; length = length text })
+    let zeros = drop-replicate (length text) 553 0 in
+    (λ i. record { octets = c.copy_from_slice.ensures.after i ++ zeros i; length = length text })
     ∙ ap (buffer_of) c.as_slice-text.ensures.value
