@@ -1,4 +1,4 @@
--- What comparing drafts needs: parts of text areas, and the loop over the entries that are used.
+-- What comparing drafts needs: the loop over the entries that are used.
 -- Assumes nothing.
 use Prim.Native.Nat.{ℕ, ◌+◌, ◌-◌, ◌≤◌, ◌<◌}
 use mathlib.Core.Path.{◌≡◌, sym, ◌∙◌, ap₂}
@@ -17,18 +17,6 @@ use Rattle.rules.specs.Pairwise.{same_octets}
 use Rattle.rules.proofs.Pairwise.{compared, agrees, differs}
 use Rattle.draft.specs.Same.{same_entry, same_entries}
 use Rattle.draft.specs.declared.Entry.{Entry}
-
--- a text lies inside where its length is at most what is left behind its start
-pub lies_is : (a m n : ℕ) → a ≤ n → leb m (n - a) ≡ (a + m ≤? n)
-lies_is a m n h =
-    is_le m (n - a) ∙ same_truth _ _ (λ t. of_le _ _ (omega (arith, le_of m (n - a) t)))
-    (λ t. of_le _ _ (omega (arith, le_of (a + m) n t)))
-
--- parts that are lent by start and end are those by start and length
-pub parts_of : (s t : List ℕ) (a m b n : ℕ) (r : Bool) →
-    r ≡ same_octets (take (a + m - a) (drop a s)) (take (b + n - b) (drop b t)) →
-    r ≡ same_octets (take m (drop a s)) (take n (drop b t))
-parts_of s t a m b n r e = e ∙ ap₂ (λ (v w : List ℕ). same_octets v w) (part_is s a m) (part_is t b n)
 
 -- ---- the entries that are used: the first n of 85
 -- those from i on decide

@@ -1,5 +1,4 @@
 -- The root of the proofs.
-pub mod Copies
 pub mod Settled
 pub mod Promised
 pub mod One

@@ -40,6 +40,7 @@ fn number_of(a: u8, b: u8) -> u8
     10 * (a % 16) + b % 16
 }
 
+#[tactic(auto, unfolding(draft::specs::Meaning::digits_at))]
 fn pair_at(contents: &[u8], i: usize) -> u8
     requires { i ≤ 8 }
     ensures { result ≡ digits_at contents.now i }
@@ -56,6 +57,7 @@ fn pairs<const N: usize>(contents: &[u8]) -> [u8; N]
 }
 
 // The seconds behind a date, and one more; 0 where none were sent (document 02, Q-4).
+#[tactic(auto, using(rules::proofs::Telling::telling), unfolding(draft::specs::Meaning::seconds_of, draft::specs::Meaning::digits_at, draft::specs::Meaning::number_of))]
 fn seconds_of(contents: &[u8]) -> u8
     ensures { result ≡ seconds_of contents.now }
 {
@@ -121,6 +123,7 @@ fn value_of(kind: Form, contents: &[u8], at: usize) -> Value
 }
 
 // The kind of a type's value.
+#[tactic(auto, unfolding(draft::specs::Meaning::kind_of))]
 fn form_at(book: Book, kind: u8) -> Form
     ensures { result ≡ kind_of (rules_of book) kind }
 {
