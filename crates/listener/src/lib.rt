@@ -381,21 +381,14 @@ fn onward(book: Book, stage: Stage, q: Spot, octets: &[u8], i: usize) -> Ran
     }
 }
 
-#[tactic(auto, using(rules::proofs::Telling::telling), unfolding(rules::specs::Contents::within))]
-fn between(lo: u32, hi: u32, x: u32) -> bool
-    ensures { result ≡ within (lo, hi) x }
-{
-    lo <= x && x <= hi
-}
-
-#[tactic(auto, using(rules::proofs::Telling::telling), unfolding(rules::specs::Judge::given))]
+#[tactic(auto, using(rules::proofs::Telling::telling), unfolding(rules::specs::Judge::given, rules::specs::Contents::within))]
 fn known_number(book: Book, k: u8) -> bool
     ensures { result ≡ given (rules_of book) k }
 {
-    between(1, 6, k as u32) || (k == 10 && rules::is_strict(book))
+    (1..=6).contains(&k) || (k == 10 && rules::is_strict(book))
 }
 
-#[tactic(auto, using(rules::proofs::Telling::telling), unfolding(rules::specs::Judge::place_fits))]
+#[tactic(auto, using(rules::proofs::Telling::telling), unfolding(rules::specs::Judge::place_fits, rules::specs::Contents::within))]
 fn place_fits(stage: Stage, at: u16) -> bool
     ensures { result ≡ place_fits stage at }
 {
@@ -403,8 +396,8 @@ fn place_fits(stage: Stage, at: u16) -> bool
     match stage {
         Stage::Kind => at == 0,
         Stage::Size => at == 1,
-        Stage::Header { room } => between(5, 257, place + room as u32),
-        Stage::Length { room, .. } => 1 <= room && between(6, 258, place + room as u32),
+        Stage::Header { room } => (5..=257).contains(&(place + room as u32)),
+        Stage::Length { room, .. } => 1 <= room && (6..=258).contains(&(place + room as u32)),
         Stage::Content {
             length,
             index,
@@ -412,7 +405,7 @@ fn place_fits(stage: Stage, at: u16) -> bool
             ..
         } => {
             let i = index as u32;
-            index < length && between(5 + i, 257 + i, place + length as u32 + room as u32)
+            index < length && (5 + i..=257 + i).contains(&(place + length as u32 + room as u32))
         }
     }
 }
@@ -440,19 +433,19 @@ fn count_fits(stage: Stage, at: u16, parameter: u8) -> bool
 }
 
 // Is it the number of a type, a length or contents, which stand in a parameter?
-#[tactic(auto, using(rules::proofs::Telling::telling))]
+#[tactic(auto, using(rules::proofs::Telling::telling), unfolding(rules::specs::Contents::within))]
 fn in_parameter(number: u8) -> bool
     ensures { result ≡ (within (3, 5) number or number =? 10) }
 {
-    between(3, 5, number as u32) || number == 10
+    (3..=5).contains(&number) || number == 10
 }
 
-#[tactic(auto, using(rules::proofs::Telling::telling), unfolding(rules::specs::Judge::named))]
+#[tactic(auto, using(rules::proofs::Telling::telling), unfolding(rules::specs::Judge::named, rules::specs::Contents::within))]
 fn named(number: u8, parameter: u8) -> bool
     ensures { result ≡ judge.named number parameter }
 {
     if in_parameter(number) {
-        between(1, rules::MOST as u32, parameter as u32)
+        (1..=rules::MOST).contains(&(parameter as usize))
     } else {
         parameter == 0
     }
@@ -472,13 +465,13 @@ fn spot_in_range(book: Book, stage: Stage, q: Spot) -> bool
     place_fits(stage, q.place) && count_fits(stage, q.place, q.parameter)
 }
 
-#[tactic(auto, using(rules::proofs::Telling::telling), unfolding(rules::specs::Judge::in_range))]
+#[tactic(auto, using(rules::proofs::Telling::telling), unfolding(rules::specs::Judge::in_range, rules::specs::Contents::within))]
 fn in_range(book: Book, s: State) -> bool
     ensures { result ≡ in_range (rules_of book) s }
 {
     match s {
         State::Waiting(stage, q) => spot_in_range(book, stage, q),
-        State::Message(n) => between(6, 258, n as u32),
+        State::Message(n) => (6..=258).contains(&n),
         State::Refused(f) => fault_in_range(book, f),
     }
 }
