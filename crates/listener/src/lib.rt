@@ -19,7 +19,8 @@ ghost use Rattle.listener.specs.Heard as heard;
 
 use rules::{Book, Class, Fault, Spot, Stage, State};
 
-// Edition and way are the numbers told at its reset, known or not (document 02, Q-5 and Q-11).
+// Edition and way are the numbers told at its reset, known or not (document 02, Q-5 and Q-11): its record in C has both,
+// and gives back unknown ones.
 #[derive(Clone, Copy)]
 pub struct Listener {
     pub edition: u8,
@@ -27,6 +28,7 @@ pub struct Listener {
     pub state: State,
 }
 
+// Three answers, and so no Result: it waits, has a message of this size, or refuses.
 #[derive(Clone, Copy)]
 pub enum Answer {
     Waits,
@@ -228,20 +230,18 @@ fn row_in(class: Class, kinds: &[u8], x: u8) -> u8
 fn by_octets(
     book: Book,
     f: Frame,
-    first: u8,
-    kept: u8,
-    spot: Spot,
+    first: Inside,
     kinds: &[u8],
     octets: &[u8],
     from: usize,
 ) -> Ran
-    requires { T (in_range (rules_of book) (inside_of f first kept spot)) × (from < list.length octets.now) × AskedRows f.class kinds.now }
-    ensures { Onward (rules_of book) (inside_of f first kept spot) octets.now from result }
+    requires { T (in_range (rules_of book) (inside_of f first.index first.memory first.spot)) × (from < list.length octets.now) × AskedRows f.class kinds.now }
+    ensures { Onward (rules_of book) (inside_of f first.index first.memory first.spot) octets.now from result }
 {
     let class = f.class;
-    let mut index = first;
-    let mut memory = kept;
-    let mut q = spot;
+    let mut index = first.index;
+    let mut memory = first.memory;
+    let mut q = first.spot;
     for i in from..octets.len() {
         let x = octets[i];
         let row = row_in(class, kinds, x);
@@ -270,16 +270,16 @@ fn by_octets(
 }
 
 // Contents as far as they go. The table of octets is laid down where their class asks for it, once for the run.
-fn along(book: Book, f: Frame, first: u8, kept: u8, spot: Spot, octets: &[u8], from: usize) -> Ran
-    requires { T (in_range (rules_of book) (inside_of f first kept spot)) × (from < list.length octets.now) }
-    ensures { Onward (rules_of book) (inside_of f first kept spot) octets.now from result }
+fn along(book: Book, f: Frame, first: Inside, octets: &[u8], from: usize) -> Ran
+    requires { T (in_range (rules_of book) (inside_of f first.index first.memory first.spot)) × (from < list.length octets.now) }
+    ensures { Onward (rules_of book) (inside_of f first.index first.memory first.spot) octets.now from result }
 {
     let class = f.class;
     if contents::asks(class) {
         let kinds = contents::kinds::KINDS;
-        by_octets(book, f, first, kept, spot, &kinds[..], octets, from)
+        by_octets(book, f, first, &kinds[..], octets, from)
     } else {
-        by_octets(book, f, first, kept, spot, &octets[..0], octets, from)
+        by_octets(book, f, first, &octets[..0], octets, from)
     }
 }
 
@@ -376,7 +376,12 @@ fn onward(book: Book, stage: Stage, q: Spot, octets: &[u8], i: usize) -> Ran
                 length,
                 room,
             };
-            along(book, frame, index, memory, q, octets, i)
+            let inside = Inside {
+                index,
+                memory,
+                spot: q,
+            };
+            along(book, frame, inside, octets, i)
         }
     }
 }
@@ -497,6 +502,7 @@ fn run(book: Book, s: State, octets: &[u8]) -> Ran
     }
 }
 
+// What a state answers: less than it holds, so that a caller sees no stage.
 #[tactic(auto, using(rules::proofs::Telling::telling), unfolding(crate::specs::Heard::answer_of))]
 fn answer_of(s: State) -> Answer
     ensures { result ≡ answer_of s }
@@ -521,8 +527,8 @@ fn untaken(l: Listener, number: u8) -> Heard
     }
 }
 
-#[tactic(auto, unfolding(crate::specs::Heard::new_listener, rules::specs::Judge::machine))]
 // A new listener; a listener is reset by putting a new one in its place. It keeps the numbers told, unknown ones too.
+#[tactic(auto, unfolding(crate::specs::Heard::new_listener, rules::specs::Judge::machine))]
 pub fn reset_way(edition: u8, way: u8) -> Listener
     ensures { result ≡ new_listener edition way }
 {

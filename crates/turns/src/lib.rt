@@ -13,7 +13,7 @@ use rules::{Book, Class};
 // Where octets come to: behind a message (0); to their own end (8), where the last header on the way stands at
 // `place`, in a room, with the sum so far and so many parameters before it; or to the octet that spoils the message,
 // with its number and the parameter that it stands in, 0 for the checksum. Place and parameter count from the first
-// of the octets.
+// of the octets. Numbers for the ends: `Turned`, which `through` promises, tells them so, and they are a word's.
 #[derive(Clone, Copy)]
 pub struct Stop {
     pub number: u8,
