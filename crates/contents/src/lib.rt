@@ -34,7 +34,7 @@ const MINUTES: Range = (0, 59);
 // The hours of a duration (document 02, Q-4).
 const LONG_HOURS: Range = (0, 99);
 
-// The kinds of content octets, each a bit of a row.
+// The kinds of content octets, each a bit of a row; numbers, as `asked_kind`, by which `content_ok` promises, has them.
 const DIGIT: u8 = 1;
 
 const NUMBER: u8 = 2;

@@ -19,7 +19,8 @@ ghost use Rattle.listener.specs.Heard as heard;
 
 use rules::{Book, Class, Fault, Spot, Stage, State};
 
-// Edition and way are the numbers told at its reset, known or not (document 02, Q-5 and Q-11).
+// Edition and way are the numbers told at its reset, known or not (document 02, Q-5 and Q-11): its record in C has both,
+// and gives back unknown ones.
 #[derive(Clone, Copy)]
 pub struct Listener {
     pub edition: u8,
@@ -27,6 +28,7 @@ pub struct Listener {
     pub state: State,
 }
 
+// Three answers, and so no Result: it waits, has a message of this size, or refuses.
 #[derive(Clone, Copy)]
 pub enum Answer {
     Waits,
@@ -228,20 +230,18 @@ fn row_in(class: Class, kinds: &[u8], x: u8) -> u8
 fn by_octets(
     book: Book,
     f: Frame,
-    first: u8,
-    kept: u8,
-    spot: Spot,
+    first: Inside,
     kinds: &[u8],
     octets: &[u8],
     from: usize,
 ) -> Ran
-    requires { T (in_range (rules_of book) (inside_of f first kept spot)) × (from < list.length octets.now) × AskedRows f.class kinds.now }
-    ensures { Onward (rules_of book) (inside_of f first kept spot) octets.now from result }
+    requires { T (in_range (rules_of book) (inside_of f first.index first.memory first.spot)) × (from < list.length octets.now) × AskedRows f.class kinds.now }
+    ensures { Onward (rules_of book) (inside_of f first.index first.memory first.spot) octets.now from result }
 {
     let class = f.class;
-    let mut index = first;
-    let mut memory = kept;
-    let mut q = spot;
+    let mut index = first.index;
+    let mut memory = first.memory;
+    let mut q = first.spot;
     for i in from..octets.len() {
         let x = octets[i];
         let row = row_in(class, kinds, x);
@@ -270,16 +270,16 @@ fn by_octets(
 }
 
 // Contents as far as they go. The table of octets is laid down where their class asks for it, once for the run.
-fn along(book: Book, f: Frame, first: u8, kept: u8, spot: Spot, octets: &[u8], from: usize) -> Ran
-    requires { T (in_range (rules_of book) (inside_of f first kept spot)) × (from < list.length octets.now) }
-    ensures { Onward (rules_of book) (inside_of f first kept spot) octets.now from result }
+fn along(book: Book, f: Frame, first: Inside, octets: &[u8], from: usize) -> Ran
+    requires { T (in_range (rules_of book) (inside_of f first.index first.memory first.spot)) × (from < list.length octets.now) }
+    ensures { Onward (rules_of book) (inside_of f first.index first.memory first.spot) octets.now from result }
 {
     let class = f.class;
     if contents::asks(class) {
         let kinds = contents::kinds::KINDS;
-        by_octets(book, f, first, kept, spot, &kinds[..], octets, from)
+        by_octets(book, f, first, &kinds[..], octets, from)
     } else {
-        by_octets(book, f, first, kept, spot, &octets[..0], octets, from)
+        by_octets(book, f, first, &octets[..0], octets, from)
     }
 }
 
@@ -376,26 +376,24 @@ fn onward(book: Book, stage: Stage, q: Spot, octets: &[u8], i: usize) -> Ran
                 length,
                 room,
             };
-            along(book, frame, index, memory, q, octets, i)
+            let inside = Inside {
+                index,
+                memory,
+                spot: q,
+            };
+            along(book, frame, inside, octets, i)
         }
     }
 }
 
-#[tactic(auto, using(rules::proofs::Telling::telling), unfolding(rules::specs::Contents::within))]
-fn between(lo: u32, hi: u32, x: u32) -> bool
-    ensures { result ≡ within (lo, hi) x }
-{
-    lo <= x && x <= hi
-}
-
-#[tactic(auto, using(rules::proofs::Telling::telling), unfolding(rules::specs::Judge::given))]
+#[tactic(auto, using(rules::proofs::Telling::telling), unfolding(rules::specs::Judge::given, rules::specs::Contents::within))]
 fn known_number(book: Book, k: u8) -> bool
     ensures { result ≡ given (rules_of book) k }
 {
-    between(1, 6, k as u32) || (k == 10 && rules::is_strict(book))
+    (1..=6).contains(&k) || (k == 10 && rules::is_strict(book))
 }
 
-#[tactic(auto, using(rules::proofs::Telling::telling), unfolding(rules::specs::Judge::place_fits))]
+#[tactic(auto, using(rules::proofs::Telling::telling), unfolding(rules::specs::Judge::place_fits, rules::specs::Contents::within))]
 fn place_fits(stage: Stage, at: u16) -> bool
     ensures { result ≡ place_fits stage at }
 {
@@ -403,8 +401,8 @@ fn place_fits(stage: Stage, at: u16) -> bool
     match stage {
         Stage::Kind => at == 0,
         Stage::Size => at == 1,
-        Stage::Header { room } => between(5, 257, place + room as u32),
-        Stage::Length { room, .. } => 1 <= room && between(6, 258, place + room as u32),
+        Stage::Header { room } => (5..=257).contains(&(place + room as u32)),
+        Stage::Length { room, .. } => 1 <= room && (6..=258).contains(&(place + room as u32)),
         Stage::Content {
             length,
             index,
@@ -412,7 +410,7 @@ fn place_fits(stage: Stage, at: u16) -> bool
             ..
         } => {
             let i = index as u32;
-            index < length && between(5 + i, 257 + i, place + length as u32 + room as u32)
+            index < length && (5 + i..=257 + i).contains(&(place + length as u32 + room as u32))
         }
     }
 }
@@ -440,19 +438,19 @@ fn count_fits(stage: Stage, at: u16, parameter: u8) -> bool
 }
 
 // Is it the number of a type, a length or contents, which stand in a parameter?
-#[tactic(auto, using(rules::proofs::Telling::telling))]
+#[tactic(auto, using(rules::proofs::Telling::telling), unfolding(rules::specs::Contents::within))]
 fn in_parameter(number: u8) -> bool
     ensures { result ≡ (within (3, 5) number or number =? 10) }
 {
-    between(3, 5, number as u32) || number == 10
+    (3..=5).contains(&number) || number == 10
 }
 
-#[tactic(auto, using(rules::proofs::Telling::telling), unfolding(rules::specs::Judge::named))]
+#[tactic(auto, using(rules::proofs::Telling::telling), unfolding(rules::specs::Judge::named, rules::specs::Contents::within))]
 fn named(number: u8, parameter: u8) -> bool
     ensures { result ≡ judge.named number parameter }
 {
     if in_parameter(number) {
-        between(1, rules::MOST as u32, parameter as u32)
+        (1..=rules::MOST).contains(&(parameter as usize))
     } else {
         parameter == 0
     }
@@ -472,13 +470,13 @@ fn spot_in_range(book: Book, stage: Stage, q: Spot) -> bool
     place_fits(stage, q.place) && count_fits(stage, q.place, q.parameter)
 }
 
-#[tactic(auto, using(rules::proofs::Telling::telling), unfolding(rules::specs::Judge::in_range))]
+#[tactic(auto, using(rules::proofs::Telling::telling), unfolding(rules::specs::Judge::in_range, rules::specs::Contents::within))]
 fn in_range(book: Book, s: State) -> bool
     ensures { result ≡ in_range (rules_of book) s }
 {
     match s {
         State::Waiting(stage, q) => spot_in_range(book, stage, q),
-        State::Message(n) => between(6, 258, n as u32),
+        State::Message(n) => (6..=258).contains(&n),
         State::Refused(f) => fault_in_range(book, f),
     }
 }
@@ -504,6 +502,7 @@ fn run(book: Book, s: State, octets: &[u8]) -> Ran
     }
 }
 
+// What a state answers: less than it holds, so that a caller sees no stage.
 #[tactic(auto, using(rules::proofs::Telling::telling), unfolding(crate::specs::Heard::answer_of))]
 fn answer_of(s: State) -> Answer
     ensures { result ≡ answer_of s }
@@ -528,8 +527,8 @@ fn untaken(l: Listener, number: u8) -> Heard
     }
 }
 
-#[tactic(auto, unfolding(crate::specs::Heard::new_listener, rules::specs::Judge::machine))]
 // A new listener; a listener is reset by putting a new one in its place. It keeps the numbers told, unknown ones too.
+#[tactic(auto, unfolding(crate::specs::Heard::new_listener, rules::specs::Judge::machine))]
 pub fn reset_way(edition: u8, way: u8) -> Listener
     ensures { result ≡ new_listener edition way }
 {

@@ -75,7 +75,8 @@ pub enum Book {
 }
 
 // The numbers of the editions, the present one and the old one, and of the ways (document 02, Q-5 and Q-11): types
-// without a row are refused by the strict way, and carried by the lenient one.
+// without a row are refused by the strict way, and carried by the lenient one. No enums: an unknown number is told from
+// outside, kept in a record, and answered by 16 (`is_known`).
 pub const PRESENT: u8 = 0;
 
 pub const OLD: u8 = 1;
@@ -139,7 +140,8 @@ pub struct Spot {
 }
 
 // The place and the number, and the parameter of the octet there: its number in the message, from 1; 0 where it stands
-// in none (document 02, Q-3).
+// in none (document 02, Q-3). The number stays one: by it `noted`, the theorems (`Refusals`, `Demand3`) and the C header
+// name a refusal.
 #[derive(Clone, Copy)]
 pub struct Fault {
     pub place: u16,
@@ -225,7 +227,7 @@ pub fn named_by(number: u8, edition: u8) -> u8
     }
 }
 
-// The class of a code; a code of none is read as carried.
+// The class of a code; a code of none is read as carried: total, as it promises, beside `TryFrom`.
 #[tactic(auto, using(crate::proofs::Codes::or_carried))]
 pub fn class_coded(code: u8) -> Class
     ensures { result ≡ class_coded code }
@@ -332,7 +334,8 @@ pub fn form_of(c: Class) -> Form
 }
 
 // The classes of the present edition's types (document 01, The message; document 02, Q-4); every other type has the
-// class of types without a row.
+// class of types without a row. A match for each edition: a slice of rows searched for class and rival made a message a
+// fifth to a third dearer.
 #[tactic(auto, using(crate::proofs::Telling::telling), unfolding(crate::specs::Table::row_in))]
 fn present_class(t: u8, others: Class) -> Class
     ensures { result ≡ (row_in (plain_row t others) rows01 t).class }
@@ -590,7 +593,7 @@ pub fn message_kind(x: u8) -> bool
     matches!(x, 0x80 | 0x82)
 }
 
-// Are two texts the same, octet by octet?
+// Are two texts the same, octet by octet? Said by `same_octets`, as std's `==` is not.
 #[tactic(auto, using(crate::proofs::Telling::same_is))]
 pub fn same_octets(v: &[u8], w: &[u8]) -> bool
     ensures { result ≡ same_octets v.now w.now }

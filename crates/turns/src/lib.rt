@@ -13,7 +13,7 @@ use rules::{Book, Class};
 // Where octets come to: behind a message (0); to their own end (8), where the last header on the way stands at
 // `place`, in a room, with the sum so far and so many parameters before it; or to the octet that spoils the message,
 // with its number and the parameter that it stands in, 0 for the checksum. Place and parameter count from the first
-// of the octets.
+// of the octets. Numbers for the ends: `Turned`, which `through` promises, tells them so, and they are a word's.
 #[derive(Clone, Copy)]
 pub struct Stop {
     pub number: u8,
@@ -23,7 +23,8 @@ pub struct Stop {
     pub sum: u8,
 }
 
-// A stop as one number.
+// A stop as one number, and so in one register: that keeps `header` and `contents` one loop.
+#[tactic(auto, using(crate::proofs::Words::unpacked))]
 fn word(number: u8, place: usize, room: u8, sum: u8, parameter: usize) -> u64
     requires { (place ≤ 65535) × (parameter ≤ 255) }
     ensures { stop_in result ≡ stop number place room sum parameter }
@@ -174,6 +175,7 @@ fn contents(
 
 // Goes along parameters from the first octet on, in a room and with the sum so far, to the end of the message, of the
 // octets, or to the octet that spoils it.
+#[tactic(auto, unfolding(crate::specs::Turns::stop_in))]
 pub fn through(book: Book, s: &[u8], room: u8, sum: u8) -> Stop
     ensures { Turned (rules_of book) s.now 0 room sum 0 result }
 {

@@ -9,4 +9,4 @@ use Rattle.listener.proofs.Going.{Stands}
 use Rattle.listener.proofs.by_octets.Given as goal
 
 abbrev pub invariant-loop-i : goal.invariant-loop-i
-invariant-loop-i l = Stands (rules_of l.book) (sound_rules l.book) l.f l.octets (inside_of l.f l.first l.kept l.initial.q) l.from l.i l.index l.memory l.q
+invariant-loop-i l = Stands (rules_of l.book) (sound_rules l.book) l.f l.octets (inside_of l.f l.fn.first.index l.fn.first.memory l.fn.first.spot) l.from l.i l.index l.memory l.q
