@@ -235,69 +235,75 @@ fn decode(cells: &[u8]) -> Option<Listener>
 }
 
 // The fields of a stage; what it does not use is 0.
-#[tactic(auto, unfolding(crate::specs::Record::fields_at, crate::specs::Record::fields_waiting))]
+#[tactic(auto, unfolding(crate::specs::Record::fields_waiting))]
+fn fields_waiting(
+    stage: u8,
+    q: Spot,
+    class: u8,
+    length: u8,
+    index: u8,
+    memory: u8,
+    room: u8,
+) -> Fields
+    ensures { result ≡ record_of.fields_waiting stage q class length index memory room }
+{
+    Fields {
+        stage,
+        sum: q.sum,
+        place: q.place,
+        class,
+        length,
+        index,
+        memory,
+        room,
+        number: 0,
+        spare: 0,
+        parameter: q.parameter,
+    }
+}
+
+#[tactic(auto, unfolding(crate::specs::Record::fields_at))]
 fn fields_at(stage: Stage, q: Spot) -> Fields
     ensures { result ≡ record_of.fields_at stage q }
 {
-    let waiting = Fields {
-        sum: q.sum,
-        place: q.place,
-        parameter: q.parameter,
-        ..NOTHING
-    };
     match stage {
-        Stage::Kind => waiting,
-        Stage::Size => Fields {
-            stage: 1,
-            ..waiting
-        },
-        Stage::Header { room } => Fields {
-            stage: 2,
-            room,
-            ..waiting
-        },
-        Stage::Length { class, room } => Fields {
-            stage: 3,
-            class: rules::code_of(class),
-            room,
-            ..waiting
-        },
+        Stage::Kind => fields_waiting(0, q, 0, 0, 0, 0, 0),
+        Stage::Size => fields_waiting(1, q, 0, 0, 0, 0, 0),
+        Stage::Header { room } => fields_waiting(2, q, 0, 0, 0, 0, room),
+        Stage::Length { class, room } => {
+            fields_waiting(3, q, rules::code_of(class), 0, 0, 0, room)
+        }
         Stage::Content {
             class,
             length,
             index,
             memory,
             room,
-        } => Fields {
-            stage: 4,
-            class: rules::code_of(class),
-            length,
-            index,
-            memory,
-            room,
-            ..waiting
-        },
+        } => fields_waiting(4, q, rules::code_of(class), length, index, memory, room),
     }
 }
 
-#[tactic(auto, unfolding(crate::specs::Record::fields_for, crate::specs::Record::fields_ended))]
+#[tactic(auto, unfolding(crate::specs::Record::fields_ended))]
+fn fields_ended(stage: u8, place: u16, number: u8, parameter: u8) -> Fields
+    ensures { result ≡ record_of.fields_ended stage place number parameter }
+{
+    Fields {
+        stage,
+        place,
+        number,
+        parameter,
+        ..NOTHING
+    }
+}
+
+#[tactic(auto, unfolding(crate::specs::Record::fields_for))]
 fn fields_for(s: State) -> Fields
     ensures { result ≡ record_of.fields_for s }
 {
     match s {
         State::Waiting(stage, q) => fields_at(stage, q),
-        State::Message(n) => Fields {
-            stage: 5,
-            place: n,
-            ..NOTHING
-        },
-        State::Refused(f) => Fields {
-            stage: 6,
-            place: f.place,
-            number: f.number,
-            parameter: f.parameter,
-            ..NOTHING
-        },
+        State::Message(n) => fields_ended(5, n, 0, 0),
+        State::Refused(f) => fields_ended(6, f.place, f.number, f.parameter),
     }
 }
 
@@ -487,8 +493,9 @@ pub fn anthercup_listen(cells: &mut [u8], octets: &[u8]) -> u64
         return plain(17);
     };
     let heard = listener::listen(known, octets);
+    let word = word_of(heard.edition, heard.answer, heard.taken);
     encode(cells, heard.listener);
-    word_of(heard.edition, heard.answer, heard.taken)
+    word
 }
 
 // A whole read: the draft's record and the texts, or one of 1 to 10 with its place and both as they were; a record of

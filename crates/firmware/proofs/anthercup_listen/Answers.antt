@@ -12,14 +12,14 @@ use Rattle.firmware.proofs.anthercup_listen.Goals as goal
 pub encode-requires : goal.encode-requires
 encode-requires c = known_size _ _ (sym c.decode.ensures ∙ c.in-Some.is)
 
-pub word_of-requires : goal.word_of-requires
-word_of-requires c =
+pub word_of-word-requires : goal.word_of-word-requires
+word_of-word-requires c =
     rw c.listen-heard.ensures
     (taken_small _ _ (octets_at c.args.octets.now (λ i. omega (arith, c.shared_slice_known-1.given i))))
 
 pub returns : goal.returns
 returns c =
-    known_answers _ _ _ c.decode.ensures _ _ _ _ c.in-Some.is c.listen-heard.ensures c.word_of.ensures
+    known_answers _ _ _ c.decode.ensures _ _ _ _ c.in-Some.is c.listen-heard.ensures c.word_of-word.ensures
     c.encode.ensures
 
 pub returns-in_default : goal.returns-in_default
