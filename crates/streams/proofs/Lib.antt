@@ -1,1 +1,2 @@
 -- The root of the proofs.
+pub mod Settled

@@ -1,6 +1,12 @@
 -- Octets as a stream has them, and as they are printed.
 -- Assumes nothing.
-use Rattle.std.specs.Prelude.{ℕ, ◌+◌, ◌/◌, ◌%◌, List, [], ◌∷◌, if◌then◌else◌, nat_lt}
+use Rattle.std.specs.Io.KnownBytes.{Consumes, IsAtEnd}
+use Rattle.std.specs.declared.option.Option.{Option}
+use Rattle.std.specs.Prelude.{◌<◌, length, ℕ, ◌+◌, ◌/◌, ◌%◌, List, [], ◌∷◌, if◌then◌else◌, nat_lt}
+
+-- fewer octets than so many were left, and now none is
+abbrev pub EndsWithin : ℕ → Option (List ℕ) → Option (List ℕ) → Type 0
+EndsWithin n old new = (octets : List ℕ) × (length octets < n) × Consumes old new octets × IsAtEnd new
 
 -- a number in two octets, the high one first
 abbrev pub two_octets : ℕ → List ℕ

@@ -9,7 +9,7 @@ ghost use Rattle.std.specs.Io.KnownBytes.{Appends, Consumes, IsAtEnd};
 ghost use Rattle.rules.specs.Table.{rules_of};
 ghost use Rattle.rules.specs.declared.Book.TheVariants as book;
 ghost use Rattle.listing.specs.Listing.{listing_of};
-ghost use Rattle.streams.specs.Octets.{two_octets, small_hex};
+ghost use Rattle.streams.specs.Octets.{EndsWithin, two_octets, small_hex};
 
 use std::fmt::Display;
 use std::io::{Read, Write};
@@ -47,7 +47,7 @@ pub fn up_to<'a, R: Read>(input: &mut R, room: &'a mut [u8]) -> io::Result<&'a [
 // The next octets, so many, or none where the input ends before.
 pub fn exactly<const N: usize, R: Read>(input: &mut R) -> io::Result<Option<[u8; N]>>
     ensures some { IfOk result (λ head. IfSome head (Consumes (R.remaining input.old) (R.remaining input.new))) }
-    ensures none { IfOk result (λ head. IfNone head (IsAtEnd (R.remaining input.new))) }
+    ensures none { IfOk result (λ head. IfNone head (EndsWithin N (R.remaining input.old) (R.remaining input.new))) }
 {
     let mut octets = [0; N];
     if fill(input, &mut octets)? < N {
@@ -60,7 +60,7 @@ pub fn exactly<const N: usize, R: Read>(input: &mut R) -> io::Result<Option<[u8;
 pub fn number<R: Read>(input: &mut R) -> io::Result<Option<u16>>
     ensures some { IfOk result (λ told. IfSome told (λ n. Consumes (R.remaining input.old) (R.remaining input.new)
         (two_octets n))) }
-    ensures none { IfOk result (λ told. IfNone told (IsAtEnd (R.remaining input.new))) }
+    ensures none { IfOk result (λ told. IfNone told (EndsWithin 2 (R.remaining input.old) (R.remaining input.new))) }
 {
     let Some(octets) = exactly(input)? else {
         return Ok(None);
