@@ -8,6 +8,7 @@
 
 use caption::Shown;
 use draft::{Draft, Entry, Flat, Value};
+use reader::Reading;
 use rules::{Fault, MOST};
 use std::io;
 use std::io::{Read, Write};
@@ -105,6 +106,7 @@ fn say_entry(out: &mut impl Write, entry: Entry, texts: &[u8]) -> io::Result<()>
     }
 }
 
+// A draft and its texts stay two parameters, here and below: `draft::same` and `writer::write` take them so.
 fn say_entries(out: &mut impl Write, draft: Draft, texts: &[u8]) -> io::Result<()> {
     for entry in draft.entries.iter().take(draft.count) {
         say_entry(out, *entry, texts)?;
@@ -201,7 +203,7 @@ fn say_both(out: &mut impl Write, edition: u8, draft: Draft) -> io::Result<()> {
     writeln!(out, " edition {edition} {}", draft.edition)
 }
 
-// An entry whose text, where it has one, lies one octet further on.
+// Each of the three kinds with a text holds its own start, so the match names each. An entry whose text, where it has one, lies one octet further on.
 fn further(entry: Entry) -> Entry {
     let kind = entry.kind;
     let value = entry.value;
@@ -252,46 +254,39 @@ fn say_elsewhere(out: &mut impl Write, case: Case<'_>) -> io::Result<()> {
     say_write(out, case, draft, &area)
 }
 
-// The whole read into an area that every message's texts fit.
+// What a read answers: its draft with its entries, or the refusal.
+fn say_reading(out: &mut impl Write, text: &str, reading: Reading, area: &[u8]) -> io::Result<()> {
+    let draft = reading.draft;
+    match reading.answer {
+        Ok(octets) => {
+            say_draft(out, text, draft, octets)?;
+            say_both(out, reading.edition, draft)?;
+            say_entries(out, draft, area)
+        }
+        Err(fault) => {
+            say_fault(out, text, fault)?;
+            say_both(out, reading.edition, draft)
+        }
+    }
+}
+
+// The whole read into an area that every message's texts fit; a draft is written too.
 fn say_read(out: &mut impl Write, case: Case<'_>) -> io::Result<()> {
     let mut area = [0u8; TEXTS];
     let reading = reader::read_way(case.edition, case.way, case.message, &mut area);
-    let named = reading.edition;
-    let answer = reading.answer;
-    let draft = reading.draft;
-    match answer {
-        Ok(octets) => {
-            say_draft(out, "read ", draft, octets)?;
-            say_both(out, named, draft)?;
-            say_entries(out, draft, &area)?;
-            say_write(out, case, draft, &area)?;
-            say_elsewhere(out, case)
-        }
-        Err(fault) => {
-            say_fault(out, "read ", fault)?;
-            say_both(out, named, draft)
-        }
+    say_reading(out, "read ", reading, &area)?;
+    if reading.answer.is_ok() {
+        say_write(out, case, reading.draft, &area)?;
+        say_elsewhere(out, case)?;
     }
+    Ok(())
 }
 
 // The whole read by which no way is named: it is strict (document 02, Q-11).
 fn say_default(out: &mut impl Write, case: Case<'_>) -> io::Result<()> {
     let mut area = [0u8; TEXTS];
     let reading = reader::read(case.edition, case.message, &mut area);
-    let named = reading.edition;
-    let answer = reading.answer;
-    let draft = reading.draft;
-    match answer {
-        Ok(octets) => {
-            say_draft(out, "default ", draft, octets)?;
-            say_both(out, named, draft)?;
-            say_entries(out, draft, &area)
-        }
-        Err(fault) => {
-            say_fault(out, "default ", fault)?;
-            say_both(out, named, draft)
-        }
-    }
+    say_reading(out, "default ", reading, &area)
 }
 
 fn say_texts(out: &mut impl Write, answer: Result<u16, Fault>) -> io::Result<()> {

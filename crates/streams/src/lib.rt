@@ -93,5 +93,6 @@ pub fn list<W: Write>(out: &mut W, octets: &[u8]) -> io::Result<()>
     out.write_all(&lines[..text.length])
 }
 
-// The most cases that a program reads, so that it ends whatever comes.
+// The most cases that a program reads, so that it ends whatever comes. Each `main` goes over its cases itself: one
+// function for all would be handed the step, and have a `requires` that it may be called, which no public function has.
 pub const CASES: u64 = 1000000;
