@@ -63,6 +63,7 @@ fn say_whether(out: &mut impl Write, text: &str, same: bool) -> io::Result<()> {
 }
 
 // The text of a value, which lies in the area (document 01, Drafts).
+#[tactic(auto, using(rules::proofs::Returns::told_le))]
 fn say_text(out: &mut impl Write, texts: &[u8], start: usize, size: usize) -> io::Result<()> {
     if draft::lies(texts, start, size) {
         let end = start + size;
