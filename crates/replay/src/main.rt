@@ -2,57 +2,29 @@
 // What it must print was written by the second reader (tools/replay).
 #![tactic(auto)]
 
-ghost use Rattle.std.specs.Prelude.{◌≤◌, IfOk, length};
-
 use std::io;
 use std::io::{Read, Write};
 
-fn show(out: &mut impl Write, octets: &[u8]) -> io::Result<()> {
-    let text = listing::listing(octets);
-    let lines = text.octets;
-    out.write_all(&lines[..text.length])
-}
+// The most octets of a case: some more than a message has.
+const MOST: usize = 300;
 
-// Fills octets from the first on, put together from as many reads as it takes, and says how many there were.
-fn fill(input: &mut impl Read, octets: &mut [u8], n: usize) -> io::Result<usize>
-    requires { n ≤ length octets.old }
-    ensures { IfOk result (λ got. got ≤ n) }
-{
-    let mut filled = 0;
-    while filled < n {
-        let got = input.read(&mut octets[filled..n])?;
-        if got == 0 {
-            return Ok(filled);
-        }
-        filled += got;
-    }
-    Ok(filled)
-}
-
-fn number(high: u8, low: u8) -> usize {
-    256 * (high as usize) + low as usize
-}
-
-// Says whether there was one more.
+// Says whether there was one more: none where the input ends or a length is too large for any.
 fn next(input: &mut impl Read, out: &mut impl Write) -> io::Result<bool> {
-    let mut size = [0u8; 2];
-    if fill(input, &mut size, 2)? < 2 {
+    let Some(n) = streams::number(input)? else {
         return Ok(false);
-    }
-    let n = number(size[0], size[1]);
-    if 300 < n {
+    };
+    let mut room = [0u8; MOST];
+    let Some(room) = room.get_mut(..n as usize) else {
         return Ok(false);
-    }
-    let mut octets = [0u8; 300];
-    let got = fill(input, &mut octets, n)?;
-    show(out, &octets[..got])?;
+    };
+    streams::list(out, streams::up_to(input, room)?)?;
     Ok(true)
 }
 
 fn main(rt: HostRuntime) -> io::Result<()> {
     let mut input = rt.stdin();
     let mut out = io::writer(&rt);
-    for _ in 0..1000000u64 {
+    for _ in 0..streams::CASES {
         if !next(&mut input, &mut out)? {
             break;
         }

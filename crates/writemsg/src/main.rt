@@ -10,28 +10,16 @@ use std::io;
 use std::io::Write;
 use writer::Written;
 
-fn digit(n: u8) -> u8 {
-    if n < 10 { 48 + n } else { 55 + n % 16 }
-}
-
-fn print_octet(out: &mut impl Write, x: u8) -> io::Result<()> {
-    let pair = [digit(x / 16), digit(x % 16), 32];
-    out.write_all(&pair)
-}
-
-fn print_octets(out: &mut impl Write, s: &[u8]) -> io::Result<()> {
-    for x in s {
-        print_octet(out, *x)?;
+// Octets as two capital hex digits and a space each.
+fn print_octets(out: &mut impl Write, octets: &[u8]) -> io::Result<()> {
+    for x in octets {
+        write!(out, "{x:02X} ")?;
     }
     Ok(())
 }
 
-fn print_fault(out: &mut impl Write, f: Fault) -> io::Result<()> {
-    write!(out, "{} at {} ", f.number, f.place)
-}
-
-fn print_edition(out: &mut impl Write, edition: u8) -> io::Result<()> {
-    writeln!(out, "edition {edition}")
+fn print_fault(out: &mut impl Write, fault: Fault) -> io::Result<()> {
+    write!(out, "{} at {} ", fault.number, fault.place)
 }
 
 fn show_in(
@@ -52,7 +40,7 @@ fn show_in(
         }
         Written::Declined { fault } => print_fault(out, fault)?,
     }
-    print_edition(out, writing.edition)
+    writeln!(out, "edition {}", writing.edition)
 }
 
 fn show_by(out: &mut impl Write, way: u8, d: Draft, texts: &[u8]) -> io::Result<()> {

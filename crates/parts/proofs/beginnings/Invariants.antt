@@ -1,4 +1,4 @@
--- `parts::beginnings` meets its contract: no more are counted than places were asked.
+-- `parts::beginnings` meets its contract. No more are counted than places were asked.
 -- Assumes nothing.
 use Rattle.std.proofs.Common.{◌≤◌}
 use Rattle.parts.proofs.beginnings.Given as goal

@@ -4,8 +4,5 @@ use Rattle.std.proofs.Common.{sym, length-take-le}
 use Rattle.listing.proofs.Longest.{text_inside}
 use Rattle.round.proofs.comes_back.Goals as goal
 
-pub slice_bounds-lines-end : goal.slice_bounds-lines-end
-slice_bounds-lines-end c = text_inside _ _ c.listing-again.ensures
-
-pub slice_bounds-same_octets-end : goal.slice_bounds-same_octets-end
-slice_bounds-same_octets-end c = sym (length-take-le _ _ (text_inside _ _ c.listing-again.ensures))
+pub slice_bounds-eq-end : goal.slice_bounds-eq-end
+slice_bounds-eq-end c = sym (length-take-le _ _ (text_inside _ _ c.listing-again.ensures))

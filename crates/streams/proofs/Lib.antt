@@ -1,0 +1,2 @@
+-- The root of the proofs.
+pub mod Settled
