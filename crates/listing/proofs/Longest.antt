@@ -12,11 +12,13 @@ use mathlib.Core.Logic.{◌⊎◌, inl, inr}
 use mathlib.Core.List.{List, [], ◌∷◌, ◌++◌}
 use mathlib.Core.Option.{Option, none, some}
 use native.Mathlib.Omega.{arith}
+use Rattle.std.proofs.lemmas.Grind.{common_steps}
+use Rattle.rules.proofs.Telling.{telling}
 use lib.ListN.{length, length-append, replicate}
 use lib.Dec.{T}
 use Rattle.rules.specs.Tests.{◌≤?◌, ◌=?◌, ◌and◌, pick}
-use Rattle.rules.proofs.Tests.{pick_yes, pick_case, both, le_of, eq_of, decide}
-use Rattle.rules.specs.Table.{Rules, Row, rules_of, row_of, row_in, listed, class_of, rival_of, style_of, ascii, contents_fit}
+use Rattle.rules.proofs.Tests.{pick_yes, both, le_of, eq_of, decide}
+use Rattle.rules.specs.Table.{Rules, Row, rules_of, row_of, row_in, class_of, rival_of, style_of, ascii, contents_fit}
 use Rattle.rules.specs.declared.Book.TheVariants.{PresentLenient}
 use Rattle.rules.proofs.ContentLaw.{sound_rules}
 use Rattle.rules.specs.Message.{Parameter, Message, LegalMessage, body}
@@ -26,7 +28,6 @@ use Rattle.rules.specs.declared.Fault.{Fault}
 use Rattle.rules.proofs.Sizes.{few}
 use Rattle.contents.proofs.Fitting.{fits_short}
 use Rattle.listing.specs.declared.ListingText.{ListingText}
-use Rattle.listing.specs.Numerals.{decimal}
 use Rattle.listing.proofs.Numerals.{one_digit, two_digits, three_digits}
 use Rattle.listing.proofs.Values.{surplus, surplus_most, value}
 use Rattle.listing.proofs.Keys.{key_short}
@@ -35,14 +36,7 @@ use Rattle.listing.specs.Listing.{Line, line_text, written, line_of, lines_for, 
 -- ---- lines
 pub line_long : (l : Line) → length (line_text l) ≡ length l.key + length l.value + 2
 unfolding line_text ascii
-line_long l =
-    omega (
-      arith,
-      length-append (l.key ++ ascii "=" ++ l.value) (ascii "\n"),
-      length-append (l.key ++ ascii "=")
-          l.value,
-      length-append l.key (ascii "="),
-    )
+line_long l = grind (arith, common_steps)
 
 append_long : (a b : List Line) → length (written (a ++ b)) ≡ length (written a) + length (written b)
 append_long a b = ap length (written-append a b) ∙ length-append (written a) (written b)
@@ -52,9 +46,7 @@ one_line l = ap length (written_one l) ∙ line_long l
 
 kind_wide : (x : ℕ) → length (kind_line x).value ≤ 6
 unfolding kind_line ascii
-kind_wide x =
-    pick_case (λ (v : List ℕ). length v ≤ 6) (x =? 0x80) (ascii "call") (ascii "notice") (λ _. omega arith)
-    (λ _. omega arith)
+kind_wide x = grind (arith, telling)
 
 -- ---- the octets of a message that count
 -- type, length and contents of a parameter
@@ -87,12 +79,7 @@ module _ (R : Rules) where
     -- one of another type adds nothing to a row
     other : (t u : ℕ) → (T (p.kind =? t) → ⊥) → takes (first_of t u (p ∷ ps)) ≤ takes (first_of t u ps)
     unfolding first_of takes
-    other t u n =
-        pick_case Less (p.kind =? t) _ _ (λ e. absurd (n e))
-        (λ _. pick_case Less (p.kind =? u) none (first_of t u ps) (λ _. omega arith) (λ _. omega arith))
-      where
-        Less : Option (List ℕ) → Type 0
-        Less x = takes x ≤ takes (first_of t u ps)
+    other t u n = grind (arith, telling)
 
     -- nor to rows that are all later
     others : (n : ℕ) (rs : List Row) → T (rising n rs) → p.kind < n → firsts (p ∷ ps) rs ≤ firsts ps rs
@@ -164,9 +151,7 @@ module _ (m : Message) (legal : LegalMessage R m) where
 
   counted_first : (t : ℕ) → takes (counted R m t) ≤ takes (first_of t (rival_of R t) m.parameters)
   unfolding counted takes
-  counted_first t =
-      pick_case (λ (x : Option (List ℕ)). takes x ≤ takes (first_of t (rival_of R t) m.parameters)) (listed R t) _ _
-      (λ _. omega arith) (λ _. omega arith)
+  counted_first t = grind (arith, telling)
 
   row_long : (r : Row) → length (written (lines_for R r (counted R m r.kind))) ≤ length r.key + surplus
       (style_of (class_of R r.kind)) + takes (counted R m r.kind)
@@ -199,9 +184,7 @@ module _ (m : Message) (legal : LegalMessage R m) where
   carried_few : (ps : List Parameter) → carried_in R ps ≤ length ps
   unfolding carried_in
   carried_few [] = omega arith
-  carried_few (p ∷ ps) =
-      pick_case (λ (n : ℕ). n ≤ suc (length ps)) (listed R p.kind) _ _ (λ _. omega (arith, carried_few ps))
-      (λ _. omega (arith, carried_few ps))
+  carried_few (p ∷ ps) = grind (arith, telling, carried_few ps)
 
   pub longest : length (written (message_lines R m)) ≤ buffer_size
   unfolding message_lines written kind_line carried_line ascii
@@ -227,20 +210,7 @@ pub refusal_short : (f : Fault) → f.number < 1000 → f.place < 1000 → f.par
     length (written (refusal_lines f)) ≤ buffer_size
 unfolding refusal_lines written ascii
 refusal_short f a b c =
-    let k : Line = record { key = ascii "refused"; value = decimal f.number } in
-    let p : Line = record { key = ascii "at"; value = decimal f.place } in
-    let q : Line = record { key = ascii "in"; value = decimal f.parameter } in
-    omega (
-      arith,
-      length-append (line_text k) (written (p ∷ q ∷ [])),
-      length-append (line_text p) (written (q ∷ [])),
-      line_long k,
-      line_long p,
-      one_line q,
-      three_digits f.number a,
-      three_digits f.place b,
-      three_digits f.parameter c,
-    )
+    grind (arith, common_steps, line_long, three_digits f.number a, three_digits f.place b, three_digits f.parameter c)
 
 -- nor one line of a row with contents that fit
 pub row_short : (i : ℕ) → i < row_count → (v : List ℕ) → T (contents_fit (class_of R (row_at i).kind) v) →

@@ -7,7 +7,9 @@ use mathlib.Core.Logic.{⊎_elim}
 use mathlib.Core.Bool.{Bool, true, false}
 use mathlib.Core.List.{List, [], ◌∷◌, ◌++◌}
 use native.Mathlib.Omega.{arith}
-use lib.ListN.{length, length-append, length-drop, get_or, drop}
+use Rattle.std.proofs.lemmas.Grind.{common_steps}
+use Rattle.rules.proofs.Telling.{telling}
+use lib.ListN.{length, length-append, get_or, drop}
 use lib.Dec.{T}
 use Rattle.rules.specs.Tests.{◌≤?◌, ◌=?◌, ◌and◌, pick, every}
 use Rattle.rules.proofs.Tests.{pick_case, pick_not, both, join, either, eq_of}
@@ -64,21 +66,15 @@ long a c v p t = set_from a (whole c).lengths (length v) p ((lawful c).fit_lengt
 -- ---- how long values are
 lamp_wide : (x : ℕ) → length (lamp_word x) ≤ 3
 unfolding lamp_word ascii
-lamp_wide x =
-    pick_case (λ (v : List ℕ). length v ≤ 3) (x =? 0) (ascii "off") (ascii "on") (λ _. omega arith) (λ _. omega arith)
+lamp_wide x = grind (arith, telling)
 
 state_wide : (x : ℕ) → length (state_word x) ≤ 5
 unfolding state_word ascii
-state_wide x =
-    pick_case (λ (v : List ℕ). length v ≤ 5) (x =? 0x55) (ascii "unset") (lamp_word x) (λ _. omega arith)
-    (λ _. omega (arith, lamp_wide x))
+state_wide x = grind (arith, telling, lamp_wide x)
 
 selector_wide : (x : ℕ) → length (selector_word x) ≤ 11
 unfolding selector_word ascii
-selector_wide x =
-    pick_case (λ (v : List ℕ). length v ≤ 11) (x =? 1) (ascii "connection ") _ (λ _. omega arith)
-    (λ _. pick_case (λ (v : List ℕ). length v ≤ 11) (x =? 2) (ascii "number ") (ascii "subaddress ") (λ _. omega arith)
-    (λ _. omega arith))
+selector_wide x = grind (arith, telling)
 
 module _ (v : List ℕ) where
   clock_long : length (clock v) ≡ 11
@@ -88,30 +84,16 @@ module _ (v : List ℕ) where
   identity_wide : Octets v → length (identity v) ≤ 11
   unfolding identity ascii reference
   identity_wide o =
-      omega (
-        arith,
-        state_wide (get_or v 0 0),
-        five_digits (reference_of (get_or v 1 0) (get_or v 2 0))
-            (omega (arith, octet_at v o 1, octet_at v o 2)),
-        length-append (state_word (get_or v 0 0) ++ ascii " ")
-            (decimal (reference_of (get_or v 1 0) (get_or v 2 0))),
-        length-append (state_word (get_or v 0 0)) (ascii " "),
-      )
+      let digits = five_digits (reference_of (get_or v 1 0) (get_or v 2 0)) in
+      grind (arith, common_steps, state_wide (get_or v 0 0), octet_at v o 1, octet_at v o 2, digits)
 
   moment_wide : 8 ≤ length v → length (moment v) ≤ length v + 4
   unfolding moment seconds
-  moment_wide h =
-      omega (
-        arith,
-        clock_long,
-        length-append (clock v) (pick (length v =? 10) (seconds v 8) []),
-        pick_case (λ (w : List ℕ). length w + 11 ≤ length v + 4) (length v =? 10) (seconds v 8) []
-            (λ e. omega (arith, eq_of _ _ e)) (λ _. omega arith),
-      )
+  moment_wide h = grind (arith, telling, common_steps, clock_long)
 
   coded_long : (i : ℕ) → length (coded v i) ≡ 3 + (length v - (i + 1))
   unfolding coded hex ascii
-  coded_long i = omega (arith, length-append (hex (get_or v i 0) ++ ascii " ") (drop (i + 1) v), length-drop (i + 1) v)
+  coded_long i = grind (arith, common_steps)
 
   charge_wide : 4 ≤ length v → length (charge v) ≤ length v + 3
   unfolding charge currency
@@ -123,14 +105,7 @@ module _ (v : List ℕ) where
 
   terminal_wide : 2 ≤ length v → length (terminal v) ≤ length v + 11
   unfolding terminal selected hex
-  terminal_wide h =
-      omega (
-        arith,
-        selector_wide (get_or v 0 0),
-        length-append (selector_word (get_or v 0 0)) (selected v),
-        pick_case (λ (w : List ℕ). length w ≤ length v) (get_or v 0 0 =? 1) (hex (get_or v 1 0)) (drop 1 v)
-            (λ _. omega arith) (λ _. omega (arith, length-drop 1 v)),
-      )
+  terminal_wide h = grind (arith, telling, common_steps, selector_wide (get_or v 0 0))
 
 -- ---- values of characters
 module _ (v : List ℕ) where
