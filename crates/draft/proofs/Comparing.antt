@@ -1,19 +1,13 @@
 -- What comparing drafts needs: the loop over the entries that are used.
 -- Assumes nothing.
-use Prim.Native.Nat.{ℕ, ◌+◌, ◌-◌, ◌≤◌, ◌<◌}
+use Prim.Native.Nat.{ℕ, ◌+◌, ◌≤◌, ◌<◌}
 use mathlib.Core.Path.{◌≡◌, sym, ◌∙◌, ap₂}
 use mathlib.Core.Bool.{Bool, true, false}
 use mathlib.Core.List.{List}
 use native.Mathlib.Omega.{arith}
 use lib.ListN.{length, take, drop, get_or}
 use lib.Seq.{get_or-take, length-take-le}
-use lib.Dec.{leb}
-use Rattle.rules.proofs.Laying.{part_is}
 use Rattle.rules.specs.Message.{most}
-use Rattle.rules.specs.Tests.{◌≤?◌}
-use Rattle.rules.proofs.Tests.{le_of, of_le}
-use Rattle.rules.proofs.Returns.{is_le, same_truth}
-use Rattle.rules.specs.Pairwise.{same_octets}
 use Rattle.rules.proofs.Pairwise.{compared, agrees, differs}
 use Rattle.draft.specs.Same.{same_entry, same_entries}
 use Rattle.draft.specs.declared.Entry.{Entry}

@@ -102,18 +102,21 @@ pub fn empty(edition: u8, kind: u8) -> Draft
 pub fn has_text(form: u8) -> bool
     ensures { result ≡ has_text form }
 {
-    form == Form::TextValue.into() || form == Form::CarriedValue.into() || form == Form::MarkedValue.into()
+    form == Form::TextValue.into()
+        || form == Form::CarriedValue.into()
+        || form == Form::MarkedValue.into()
 }
 
-// The number of the kind of value that a class has: promised as a number.
+// The number of the kind of value that a class has, which is what is promised of it; `rules::form_of` has the kind.
 pub fn form_of(class: Class) -> u8
     ensures { result ≡ form_number (form_of class) }
 {
     rules::form_of(class).into()
 }
 
-// A value laid flat: its kind, its numbers (0 where it has fewer than five; the mark of a marked text is
-// its first), and where its text lies (0 and 0 where it has none).
+// A value laid flat: its kind, its numbers (0 where it has fewer than five; the mark of a marked text is its first),
+// and where its text lies. A value without one has the empty text at 0 and not an `Option`, so that values of all
+// kinds are compared, and written, alike.
 #[derive(Clone, Copy)]
 pub struct Flat {
     pub form: Form,
@@ -156,9 +159,15 @@ pub fn flatten(v: Value) -> Flat
             day,
             hour,
             minute,
-        } => plain(Form::DateValue, [month.into(), day.into(), hour.into(), minute.into(), 0]),
+        } => plain(
+            Form::DateValue,
+            [month.into(), day.into(), hour.into(), minute.into(), 0],
+        ),
         Value::Code(x) => plain(Form::CodeValue, [x.into(), 0, 0, 0, 0]),
-        Value::State { state, reference } => plain(Form::StateValue, [state.into(), reference, 0, 0, 0]),
+        Value::State { state, reference } => plain(
+            Form::StateValue,
+            [state.into(), reference, 0, 0, 0],
+        ),
         Value::Text { start, length } => marked(Form::TextValue, 0, start, length),
         Value::Carried { start, length } => marked(Form::CarriedValue, 0, start, length),
         Value::Moment {
@@ -167,12 +176,24 @@ pub fn flatten(v: Value) -> Flat
             hour,
             minute,
             second,
-        } => plain(Form::MomentValue, [month.into(), day.into(), hour.into(), minute.into(), second.into()]),
+        } => plain(
+            Form::MomentValue,
+            [
+                month.into(),
+                day.into(),
+                hour.into(),
+                minute.into(),
+                second.into(),
+            ],
+        ),
         Value::Duration {
             hours,
             minutes,
             seconds,
-        } => plain(Form::DurationValue, [hours.into(), minutes.into(), seconds.into(), 0, 0]),
+        } => plain(
+            Form::DurationValue,
+            [hours.into(), minutes.into(), seconds.into(), 0, 0],
+        ),
         Value::Marked {
             mark,
             start,
@@ -187,12 +208,14 @@ pub fn text_length(v: Value) -> usize
     ensures { result ≡ text_long v }
 {
     match v {
-        Value::Text { length, .. } | Value::Carried { length, .. } | Value::Marked { length, .. } => length,
+        Value::Text { length, .. } | Value::Carried { length, .. } | Value::Marked { length, .. } =>
+            length,
         _ => 0,
     }
 }
 
-// Does a text lie inside its area? No start or length is too large to ask.
+// Does a text lie inside its area? No start or length is too large to ask: two numbers, as a value and C's record hold
+// them, and so any two may be asked.
 #[tactic(auto, using(rules::proofs::Telling::telling))]
 pub fn lies(texts: &[u8], start: usize, length: usize) -> bool
     ensures { result ≡ (start + length ≤? list.length texts.now) }
@@ -225,6 +248,7 @@ fn same_entry(s: &[u8], e: Entry, t: &[u8], f: Entry) -> bool
     e.kind == f.kind && same_flat(s, flatten(e.value), t, flatten(f.value))
 }
 
+// Entry by entry, by the number of both: over `zip` and `all` the proof was tried and did not close.
 fn same_entries(a: Draft, s: &[u8], b: Draft, t: &[u8]) -> bool
     requires { a.count ≤ most }
     ensures { result ≡ same_entries s.now (list.take a.count a.entries) t.now (list.take a.count b.entries) }

@@ -5,10 +5,9 @@ use Prim.Native.Nat.{ℕ, zero, suc, ◌+◌, ◌*◌, ◌-◌, ◌/◌, ◌%◌
 use mathlib.Core.Path.{◌≡◌, refl, sym, ◌∙◌, ap, ap₂, subst}
 use mathlib.Core.Bool.{Bool}
 use mathlib.Core.List.{List, [], ◌∷◌, ◌++◌, append_assoc, append-nil}
-use native.Mathlib.Numerals.{add-one}
 use native.Mathlib.Omega.{arith}
-use lib.ListN.{get_or-append, length, length-append, length-set, take, drop, set, get_or, replicate, replicate-append-replicate}
-use lib.Seq.{take-append-add, drop-append-add, take-nil, drop-nil, set_split, take-suc-set, take_all, get_or-append-add}
+use lib.ListN.{get_or-append, length, length-append, take, drop, set, get_or, replicate, replicate-append-replicate}
+use lib.Seq.{take-append-add, drop-append-add, take-nil, drop-nil, set_split, get_or-append-add}
 use lib.Dec.{T}
 use Rattle.rules.specs.Message.{Message, most}
 use Rattle.rules.specs.Tests.{◌=?◌, pick, every}
@@ -112,7 +111,8 @@ module _ (R : Rules) (o old : List ℕ) where
       laid_down = laid_first R o old room left l;
     }
 
-    module _ (left : List Found) (count used : ℕ) (cells texts : List ℕ) (w : Recorded left count used cells texts) where
+    module _ (left : List Found) (count used : ℕ) (cells texts : List ℕ)
+        (w : Recorded left count used cells texts) where
       pub recorded_long : length cells ≡ draft_size
       recorded_long =
           omega (
@@ -131,7 +131,8 @@ module _ (R : Rules) (o old : List ℕ) where
         pub recorded_room : count < most
         recorded_room = filled_room R o f fs left l count used w.entries w.filled
 
-        module _ (e : Entry) (n : ℕ) (p : e ≡ entry_of R used (stands o f)) (q : n ≡ length (text_of R (stands o f))) where
+        module _ (e : Entry) (n : ℕ) (p : e ≡ entry_of R used (stands o f))
+            (q : n ≡ length (text_of R (stands o f))) where
           pub recorded_text : (n ≤ f.length) × (used + n ≤ length texts)
           recorded_text = (
             omega (arith, text_short R o f recorded_inside),

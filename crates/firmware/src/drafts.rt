@@ -20,8 +20,8 @@ fn low_octets(n: usize) -> [u8; 2]
     [(n % 256) as u8, (n / 256 % 256) as u8]
 }
 
-// Octets over the first of others. A loop of its own, since std's copy would have the archive ask for memmove, which the
-// header does not name.
+// Octets over the first of others. A loop of its own, since std's copy would have the archive ask for memmove, which
+// the header does not name.
 fn copy(from: &[u8], to: &mut [u8])
     requires { length from.now ≤ length to.old }
     ensures { to.new ≡ laid from.now to.old }
@@ -56,26 +56,62 @@ fn lay_entry(cells: &mut [u8], e: Entry)
             day,
             hour,
             minute,
-        } => copy(&[kind, Form::DateValue.into(), month, day, hour, minute, 0, 0], cells),
+        } => copy(
+            &[kind, Form::DateValue.into(), month, day, hour, minute, 0, 0],
+            cells,
+        ),
         Value::Code(x) => copy(&[kind, Form::CodeValue.into(), x, 0, 0, 0, 0, 0], cells),
         Value::State { state, reference } => {
             let [low, high] = low_octets(reference.into());
-            copy(&[kind, Form::StateValue.into(), state, 0, low, high, 0, 0], cells);
+            copy(
+                &[kind, Form::StateValue.into(), state, 0, low, high, 0, 0],
+                cells,
+            );
         }
-        Value::Text { start, length } => copy(&text_cells(kind, Form::TextValue, start, length), cells),
-        Value::Carried { start, length } => copy(&text_cells(kind, Form::CarriedValue, start, length), cells),
+        Value::Text { start, length } => copy(
+            &text_cells(kind, Form::TextValue, start, length),
+            cells,
+        ),
+        Value::Carried { start, length } => copy(
+            &text_cells(kind, Form::CarriedValue, start, length),
+            cells,
+        ),
         Value::Moment {
             month,
             day,
             hour,
             minute,
             second,
-        } => copy(&[kind, Form::MomentValue.into(), month, day, hour, minute, second, 0], cells),
+        } => copy(
+            &[
+                kind,
+                Form::MomentValue.into(),
+                month,
+                day,
+                hour,
+                minute,
+                second,
+                0,
+            ],
+            cells,
+        ),
         Value::Duration {
             hours,
             minutes,
             seconds,
-        } => copy(&[kind, Form::DurationValue.into(), hours, minutes, seconds, 0, 0, 0], cells),
+        } => copy(
+            &[
+                kind,
+                Form::DurationValue.into(),
+                hours,
+                minutes,
+                seconds,
+                0,
+                0,
+                0,
+            ],
+            cells,
+        ),
         Value::Marked {
             mark,
             start,
@@ -83,7 +119,19 @@ fn lay_entry(cells: &mut [u8], e: Entry)
         } => {
             let [from, above] = low_octets(start);
             let [size, more] = low_octets(length);
-            copy(&[kind, Form::MarkedValue.into(), mark, 0, from, above, size, more], cells);
+            copy(
+                &[
+                    kind,
+                    Form::MarkedValue.into(),
+                    mark,
+                    0,
+                    from,
+                    above,
+                    size,
+                    more,
+                ],
+                cells,
+            );
         }
     }
 }

@@ -16,7 +16,7 @@ use Rattle.rules.specs.declared.Fault.{Fault}
 use Rattle.rules.specs.Message.{Parameter, most}
 use Rattle.message.specs.declared.Found.{Found}
 use Rattle.message.specs.Walk.{founds_from}
-use Rattle.message.specs.Parameters.{parameters_from, parameters_in, message_in}
+use Rattle.message.specs.Parameters.{parameters_in, message_in}
 use Rattle.message.proofs.Walking.{founds_few}
 use Rattle.draft.specs.declared.Entry.{Entry}
 use Rattle.draft.specs.declared.Draft.{Draft}
@@ -176,7 +176,8 @@ module _ (R : Rules) (o : List ℕ) where
         }
 
   pub filled_end : (left : List Found) → left ≡ [] → (count used : ℕ) (entries : List Entry) →
-      TakenEntries left count used entries → (d : Draft) → d.kind ≡ get_or o 0 0 → d.edition ≡ R.edition → d.count ≡ count → d.entries ≡ entries →
+      TakenEntries left count used entries → (d : Draft) → d.kind ≡ get_or o 0 0 → d.edition ≡ R.edition →
+      d.count ≡ count → d.entries ≡ entries →
       d ≡ draft_of R (message_in o)
   unfolding draft_of message_in stood entries_of
   filled_end left e count used entries w d k v c s =

@@ -1,9 +1,9 @@
 -- How the texts and entries go on from parameter to parameter.
 -- Assumes nothing.
 use Rattle.std.proofs.Common.{Option, Some, None}
-use Prim.Native.Nat.{ℕ, zero, suc, ◌+◌, ◌-◌, ◌*◌, ◌≤◌, ◌<◌}
-use mathlib.Core.Path.{◌≡◌, refl, sym, ◌∙◌, ap, ap₂}
-use mathlib.Core.List.{List, [], ◌∷◌, ◌++◌}
+use Prim.Native.Nat.{ℕ, zero, suc, ◌+◌, ◌-◌, ◌*◌, ◌≤◌}
+use mathlib.Core.Path.{◌≡◌, refl, ◌∙◌, ap}
+use mathlib.Core.List.{List, [], ◌∷◌}
 use native.Mathlib.Omega.{arith}
 use lib.ListN.{length, length-append, length-drop, take, drop}
 use lib.Seq.{length-take-le, drop-length}
@@ -22,7 +22,7 @@ use Rattle.draft.specs.declared.Entry.{Entry}
 use Rattle.draft.specs.Draft.{text_long}
 use Rattle.draft.specs.Meaning.{Meaning, date_is, code_is, state_is, text_is, carried_is, moment_is, duration_is, marked_is, kind_of, meant, text_in}
 use Rattle.draft.specs.Packing.{value_at, meaning_in, entry_of, text_of, texts_of}
-use Rattle.reader.specs.Read.{parameter_with, standing, stands, text_size}
+use Rattle.reader.specs.Read.{parameter_with, stands, text_size}
 
 short : (f : Form) (v : List ℕ) → length (text_in (meant f v)) ≤ length v
 unfolding text_in meant

@@ -86,7 +86,10 @@ fn value_of(kind: Form, contents: &[u8], at: usize) -> Value
         Form::CodeValue => Value::Code(message::octet(contents, 0)),
         Form::StateValue => Value::State {
             state: message::octet(contents, 0),
-            reference: rules::reference_of(message::octet(contents, 1), message::octet(contents, 2)),
+            reference: rules::reference_of(
+                message::octet(contents, 1),
+                message::octet(contents, 2),
+            ),
         },
         Form::TextValue => Value::Text {
             start: at,
@@ -280,7 +283,11 @@ fn read_by(book: Book, octets: &[u8], area: &mut [u8]) -> Reading
 {
     let edition = rules::edition_of(book);
     let answer = pack(book, octets, area);
-    let draft = if answer.is_ok() { draft_of(book, octets) } else { draft::empty(edition, 0) };
+    let draft = if answer.is_ok() {
+        draft_of(book, octets)
+    } else {
+        draft::empty(edition, 0)
+    };
     Reading {
         edition,
         answer,

@@ -1,13 +1,12 @@
 -- `reader::draft_of` meets its contract: at first all are left.
 -- Assumes nothing.
 use Rattle.std.proofs.Common.{ap, ◌∙◌, sym, refl, subst, arith}
-use Rattle.draft.specs.Draft.{text_long, empty_of}
+use Rattle.draft.specs.Draft.{empty_of}
 use Rattle.draft.specs.declared.Draft.{Draft}
-use Rattle.draft.specs.declared.Entry.{Entry}
 use Rattle.message.specs.Walk.{founds_left}
 use Rattle.rules.specs.Table.{rules_of}
 use Rattle.reader.proofs.Turns.{entry_found, entry_long}
-use Rattle.reader.proofs.Laying.{TakenEntries, sized_inside, sized_within, filled_first, filled_room, filled_more, filled_end}
+use Rattle.reader.proofs.Laying.{TakenEntries, sized_inside, sized_within, filled_first, filled_more, filled_end}
 use Rattle.reader.proofs.draft_of.Goals as goal
 
 pub loop-found-init : goal.loop-found-init
@@ -28,13 +27,15 @@ contents_of-requires c = sized_inside _ _ _ _ _ c.in-Some.ensures.steps _ c.loop
 
 pub overflow_add-used : goal.overflow_add-used
 overflow_add-used c =
-    let n = entry_long _ _ c.in-Some.found _ _ c.contents_of.ensures _ c.entry_of-entry.ensures _ c.text_length-used.ensures in
+    let n = entry_long _ _ c.in-Some.found _ _ c.contents_of.ensures _ c.entry_of-entry.ensures _
+    c.text_length-used.ensures in
     omega (arith, sized_within _ _ _ _ _ c.in-Some.ensures.steps _ c.loop-found.invariant.taken.sized _ n)
 
 pub loop-found-preserved : goal.loop-found-preserved
 loop-found-preserved c =
     let e = entry_found _ _ c.in-Some.found _ _ c.contents_of.ensures _ c.entry_of-entry.ensures in
-    let n = entry_long _ _ c.in-Some.found _ _ c.contents_of.ensures _ c.entry_of-entry.ensures _ c.text_length-used.ensures in
+    let n = entry_long _ _ c.in-Some.found _ _ c.contents_of.ensures _ c.entry_of-entry.ensures _
+    c.text_length-used.ensures in
     record {
       kind = c.loop-found.invariant.kind;
       edition = c.loop-found.invariant.edition;

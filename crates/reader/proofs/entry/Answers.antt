@@ -12,7 +12,8 @@ pub returns-in_err-found : goal.returns-in_err-found
 unfolding taken_at taken_from
 returns-in_err-found c =
     c.from_residual.ensures
-    ∙ ap (taken_from (rules_of c.args.book) c.args.octets.now c.args.used) (sym c.in_err-found.was ∙ c.parameter.ensures)
+    ∙ ap (taken_from (rules_of c.args.book) c.args.octets.now c.args.used)
+    (sym c.in_err-found.was ∙ c.parameter.ensures)
 
 pub contents_of-requires : goal.contents_of-requires
 contents_of-requires c = omega (arith, found_inside _ _ _ _ _ _ c.parameter.ensures c.in_ok-found.was)

@@ -1,8 +1,8 @@
 -- `reader::lay_texts` meets its contract: at first all are left.
 -- Assumes nothing.
-use Rattle.std.proofs.Common.{length, ap, ◌∙◌, arith}
+use Rattle.std.proofs.Common.{ap, ◌∙◌}
 use Rattle.message.specs.Walk.{founds_left}
-use Rattle.reader.proofs.Laying.{sized_inside, sized_within, sized_end, laid_first, laid_room, laid_more, laid_end}
+use Rattle.reader.proofs.Laying.{sized_inside, sized_end, laid_first, laid_room, laid_more, laid_end}
 use Rattle.reader.proofs.lay_texts.Goals as goal
 
 pub loop-found-init : goal.loop-found-init

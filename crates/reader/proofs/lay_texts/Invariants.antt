@@ -1,4 +1,5 @@
--- `reader::lay_texts`: the texts laid down and those that are left make all texts, and the rest of the area is as it was.
+-- `reader::lay_texts`: the texts laid down and those that are left make all texts, and the rest of the area is as it
+-- was.
 -- Assumes nothing.
 use Rattle.rules.specs.Table.{rules_of}
 use Rattle.message.specs.Walk.{founds_left}

@@ -1,9 +1,8 @@
 -- `firmware::lay_draft` meets its contract: cleared, the entries and texts, then the header.
 -- Assumes nothing.
-use Prim.Native.Nat.{ℕ}
-use mathlib.Core.Path.{◌∙◌, ap}
+use mathlib.Core.Path.{◌∙◌}
 use native.Mathlib.Omega.{arith}
-use lib.ListN.{length-set, replicate}
+use lib.ListN.{length-set}
 use Rattle.rules.specs.Table.{rules_of}
 use Rattle.draft.specs.Packing.{draft_of}
 use Rattle.message.specs.Parameters.{message_in}

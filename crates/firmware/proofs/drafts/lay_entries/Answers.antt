@@ -1,12 +1,12 @@
 -- `firmware::lay_entries` meets its contract: at first all are left.
 -- Assumes nothing.
-use Rattle.std.proofs.Common.{ℕ, List, ◌+◌, ◌*◌, ap, ◌∙◌, sym, length, length-take, length-drop, arith}
+use Rattle.std.proofs.Common.{ℕ, List, ◌+◌, ◌*◌, ap, ◌∙◌, length, length-take, length-drop, arith}
 use Rattle.message.specs.Walk.{founds_left}
 use Rattle.rules.specs.Table.{rules_of}
 use Rattle.rules.specs.Laying.{laid_at}
 use Rattle.rules.proofs.Laying.{rest_laid, part_is}
 use Rattle.reader.proofs.Turns.{contents_long, entry_found, entry_long, entry_last}
-use Rattle.firmware.proofs.DraftRecord.{recorded_first, recorded_long, recorded_inside, recorded_room, recorded_text, recorded_more, recorded_end}
+use Rattle.firmware.proofs.DraftRecord.{recorded_first, recorded_inside, recorded_text, recorded_more, recorded_end}
 use Rattle.firmware.proofs.drafts.lay_entries.Goals as goal
 
 pub loop-found-init : goal.loop-found-init
