@@ -354,7 +354,8 @@ fn extension_ok(i: u8, m: u8, row: u8, x: u8) -> bool
     }
 }
 
-// May octet x of contents of no one kind stand at index i of n, where m is remembered?
+// May octet x of contents of no one kind stand at index i of n, where m is remembered? These go one by one, as
+// `content_ok` is told them: a struct of them would be made for one call and taken apart in the next.
 #[tactic(auto, unfolding(rules::specs::OctetRows::mixed_by))]
 fn mixed_ok(c: Class, n: u8, i: u8, m: u8, row: u8, x: u8) -> bool
     ensures { result ≡ mixed_by c n i m row x }

@@ -69,7 +69,8 @@ struct Inside {
     spot: Spot,
 }
 
-// The spot after an octet that a stage took, which stands in this parameter.
+// The spot after an octet that a stage took, which stands in this parameter. A place below 65535 is asked here, and is no
+// type of its own: a record may hold any, and `Spot` is what it holds.
 #[tactic(auto, using(rules::proofs::Telling::telling), unfolding(rules::specs::Judge::machine))]
 fn moved(book: Book, stage: Stage, q: Spot, x: u8, parameter: u8) -> Spot
     requires { (q.place < 65535) × (parameter ≡ judge.stands_in stage q.parameter) }
@@ -227,14 +228,7 @@ fn row_in(class: Class, kinds: &[u8], x: u8) -> u8
 }
 
 // Contents as far as they go: to their end, to the octet that spoils them, or to the end of the run.
-fn by_octets(
-    book: Book,
-    f: Frame,
-    first: Inside,
-    kinds: &[u8],
-    octets: &[u8],
-    from: usize,
-) -> Ran
+fn by_octets(book: Book, f: Frame, first: Inside, kinds: &[u8], octets: &[u8], from: usize) -> Ran
     requires { T (in_range (rules_of book) (inside_of f first.index first.memory first.spot)) × (from < list.length octets.now) × AskedRows f.class kinds.now }
     ensures { Onward (rules_of book) (inside_of f first.index first.memory first.spot) octets.now from result }
 {
@@ -335,7 +329,8 @@ fn by_turns(book: Book, room: u8, q: Spot, octets: &[u8], i: usize) -> Ran
     }
 }
 
-// One octet further; as far as contents go; or, where a whole parameter can follow, as far as parameters go.
+// One octet further; as far as contents go; or, where a whole parameter can follow, as far as parameters go. A match and
+// no table of functions, since each stage carries something else.
 fn onward(book: Book, stage: Stage, q: Spot, octets: &[u8], i: usize) -> Ran
     requires { T (in_range (rules_of book) (state.Waiting stage q)) × (i < list.length octets.now) }
     ensures { Onward (rules_of book) (state.Waiting stage q) octets.now i result }

@@ -13,7 +13,8 @@ use lib.ListN.{length, take, drop}
 use lib.Dec.{T}
 use Rattle.rules.specs.Tests.{◌=?◌, ◌or◌, pick}
 use Rattle.rules.proofs.Tests.{pick_not, eq_of, clash}
-use Rattle.rules.proofs.Rivals.{old_rivals, paired_old, rival_old}
+use Rattle.rules.proofs.Rivals.{rivals as rivals_by, rival_is}
+use Rattle.rules.proofs.Telling.{telling}
 use Rattle.rules.specs.Octets.{Octets}
 use Rattle.rules.specs.Editions.{known, book_of}
 use Rattle.rules.specs.Table.{rules_of, old_book, row_in, row_of, listed_in, listed, rival_of}
@@ -154,20 +155,18 @@ pairs OldLenient m = record {
   no_name = λ v k. clash (cc (sym (unlisted OldLenient m 0x08 (λ t. t)) ∙ k));
 }
 
-old_alone : (t : ℕ) → t < 256 → (t ≡ 0x02 → ⊥) → (t ≡ 0x04 → ⊥) → rival_of (rules_of OldLenient) t ≡ t
-unfolding old_rivals
-old_alone t h n m =
-    sym (paired_old (old_rivals t) t h refl) ∙ pick_not (t =? 0x02) _ _ (λ x. n (eq_of _ _ x))
-    ∙ pick_not (t =? 0x04) _ _ (λ x. m (eq_of _ _ x))
+old_alone : (t : ℕ) → (t ≡ 0x02 → ⊥) → (t ≡ 0x04 → ⊥) → rivals_by 1 t ≡ t
+unfolding rivals_by
+old_alone t n m = grind (arith, telling)
 
 -- of the old edition's types 02H and 04H alone have a rival: of every other the first counts, whatever stands before it
 pub one_pair : (b : Book) → T (old_book b) → (t : ℕ) → t < 256 → (t ≡ 0x02 → ⊥) → (t ≡ 0x04 → ⊥) →
     rival_of (rules_of b) t ≡ t
-unfolding old_book
+unfolding old_book rules_of
 one_pair PresentStrict k t h n m = absurd k
 one_pair PresentLenient k t h n m = absurd k
-one_pair OldStrict k t h n m = sym (rival_old t) ∙ old_alone t h n m
-one_pair OldLenient k t h n m = old_alone t h n m
+one_pair OldStrict k t h n m = rival_is OldStrict t h ∙ old_alone t n m
+one_pair OldLenient k t h n m = rival_is OldLenient t h ∙ old_alone t n m
 
 -- ---- and they invert each other
 -- an area that holds texts from octet 0 on

@@ -235,6 +235,7 @@ pub fn class_coded(code: u8) -> Class
     Class::try_from(code).unwrap_or(Class::Carried)
 }
 
+// The code of a class, as `From` has it; by this name it is promised (docs/PROMISES.md).
 pub fn code_of(c: Class) -> u8
     ensures { result ≡ class_code c }
 {

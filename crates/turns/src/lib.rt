@@ -126,7 +126,8 @@ fn cut(
     }
 }
 
-// The header of a parameter, with so many before it; its contents follow where they are there.
+// The header of a parameter, with so many before it; its contents follow where they are there. Place, room, sum and count
+// go one by one: a struct of them would be made anew for each call, since all four change there.
 #[cycle(contents_header)]
 fn header(book: Book, m: &&[u8], at: usize, room: u8, sum: u8, count: usize) -> u64
     requires { (at + room ≤ 255) × (3 * count ≤ at) }
