@@ -2,9 +2,8 @@
 -- decide. The measure is the places left.
 -- Assumes nothing.
 use mathlib.Core.Path.{◌≡◌}
-use Prim.Native.Nat.{◌-◌, ◌≤◌}
 use lib.ListN.{drop}
-use Rattle.desk.specs.References.{place_count, places_fit}
+use Rattle.desk.specs.References.{places_fit}
 use Rattle.desk.proofs.places_fit.Given as goal
 
 abbrev pub invariant-loop-i : goal.invariant-loop-i

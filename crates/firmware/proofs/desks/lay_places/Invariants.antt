@@ -1,8 +1,6 @@
 -- `firmware::lay_places` meets its contract. The loop's invariant: the places before i are laid behind the first four
 -- octets. The measure is the places left.
 -- Assumes nothing.
-use Prim.Native.Nat.{◌-◌}
-use Rattle.desk.specs.References.{place_count}
 use Rattle.firmware.proofs.RecordPlaces.{LaidPlaces}
 use Rattle.firmware.proofs.desks.lay_places.Given as goal
 

@@ -1,8 +1,6 @@
 -- `firmware::places_in` meets its contract. The loop's invariant: the places before i are read. The measure is the
 -- places left.
 -- Assumes nothing.
-use Prim.Native.Nat.{◌-◌}
-use Rattle.desk.specs.References.{place_count}
 use Rattle.firmware.proofs.RecordPlaces.{ReadPlaces}
 use Rattle.firmware.proofs.desks.places_in.Given as goal
 

@@ -1,8 +1,6 @@
 -- `firmware::lay_entries` meets its contract. The loop's invariant: the record is that of the entries taken so far,
 -- and the texts laid down are theirs; a text ends where its parameter ends. The measure is the turns left.
 -- Assumes nothing.
-use Prim.Native.Nat.{◌-◌}
-use Rattle.rules.specs.Message.{most}
 use Rattle.rules.specs.Table.{rules_of}
 use Rattle.firmware.proofs.DraftRecord.{Recorded}
 use Rattle.firmware.proofs.drafts.lay_entries.Given as goal
