@@ -2,26 +2,20 @@
 -- Assumes nothing.
 use Rattle.rules.proofs.First.{index_most, found}
 use Rattle.rules.specs.First.{index_of}
-use Rattle.std.proofs.Common.{Option, None}
+use Rattle.std.proofs.Common.{None}
 use Prim.Native.Nat.{ℕ, suc, ◌+◌, ◌-◌, ◌≤◌, ◌<◌}
 use mathlib.Core.Path.{◌≡◌, refl, sym, ◌∙◌, ap, ap₂}
-use mathlib.Core.Bool.{Bool, true, false, not}
+use mathlib.Core.Bool.{Bool, true, false}
 use mathlib.Core.List.{List, [], ◌∷◌}
 use native.Mathlib.Omega.{arith}
-use native.Mathlib.Numerals.{add-one}
-use lib.ListN.{length, length-drop, take, drop, get_or, drop_of_length-le}
-use lib.Seq.{drop-cons, drop-drop, length-take-le}
-use lib.Dec.{T, eqb}
-use Rattle.std.specs.List.{position, position_or_len}
-use Rattle.std.specs.Option.{unwrap_or}
-use Rattle.std.proofs.lemmas.List.Sums.{prefix_len-le-length}
-use Rattle.std.proofs.lemmas.List.Recursion.{is_position_or_len}
+use lib.ListN.{length, length-drop, take, drop, drop_of_length-le}
+use lib.Seq.{drop-drop, length-take-le}
+use lib.Dec.{T}
 use Rattle.rules.specs.Tests.{◌=?◌, pick}
-use Rattle.rules.proofs.Tests.{clash, pick_yes, pick_not, pick_case, both, of_eq, eq_of, le_of}
+use Rattle.rules.proofs.Tests.{clash, pick_yes, pick_not, both, le_of}
 use Rattle.rules.proofs.Returns.{T_of, holds}
 use Rattle.rules.proofs.Telling.{telling, pick_is, eq_is, same_is}
 use Rattle.rules.proofs.Pairwise.{octets_are}
-use Rattle.caption.specs.declared.CallerText.{CallerText}
 use Rattle.caption.specs.Lines.{on_first, lines_of, before, behind, names}
 use Rattle.caption.specs.Caption.{lookup_from, entry_at}
 

@@ -1,7 +1,7 @@
 -- The caption finder gives what is promised: its answer follows the verdict on the octets, then the name, the
 -- directory's line and the caller that count.
 -- Assumes nothing.
-use Rattle.std.proofs.Common.{ℕ, Result, Ok, Err, Option, Some, None}
+use Rattle.std.proofs.Common.{ℕ, Result, Ok, Err, Option, None}
 use Prim.Native.Nat.{ℕ, ◌≤◌}
 use mathlib.Core.Path.{◌≡◌, refl, sym, ◌∙◌, ap, subst}
 use mathlib.Core.Logic.Iff
@@ -34,7 +34,7 @@ use Rattle.caption.specs.declared.Shown.{Shown}
 use Rattle.caption.specs.declared.Shown.TheVariants.{InMessage, InDirectory}
 use Rattle.caption.specs.Told.{told}
 use Rattle.caption.proofs.Told.{told-refused, clear_of}
-use Rattle.caption.specs.Caption.{lookup, by_entry, by_caller, by_name, find_under, find_of, slice_of, part_text, entry_at}
+use Rattle.caption.specs.Caption.{lookup, by_entry, by_caller, by_name, find_under, find_of, slice_of, part_text}
 use Rattle.caption.proofs.Inside.{part_inside}
 use Rattle.caption.specs.Directory.{text_place}
 use Rattle.caption.proofs.Directory.{none_found, first_found, text_stands}

@@ -2,7 +2,7 @@
 -- way (document 02, Q-5 and Q-11).
 -- Assumes nothing.
 use Rattle.rules.specs.First.{index_of}
-use Rattle.std.specs.Prelude.{ℕ, suc, ◌+◌, ◌-◌, ◌≤◌, ◌<◌, ◌≡◌, true, List, [], ◌∷◌, length, take, drop, Result, Ok, Err, Option, Some, None}
+use Rattle.std.specs.Prelude.{ℕ, suc, ◌+◌, List, [], ◌∷◌, length, take, drop, Result, Ok, Err, Option, Some, None}
 use Rattle.rules.specs.Tests.{pick}
 use Rattle.rules.specs.Table.{Rules, rules_of}
 use Rattle.rules.specs.Editions.{known, book_of}

@@ -12,12 +12,12 @@ use lib.ListN.{length, take, drop, drop_of_length-le, get_or, replicate}
 use lib.Seq.{drop-cons}
 use lib.Dec.{T, eqb}
 use Rattle.rules.specs.Tests.{◌≤?◌, ◌=?◌, ◌and◌, pick}
-use Rattle.rules.proofs.Tests.{pick_yes, pick_not, pick_case, both, join, decide, le_of, of_le, not_le, eq_of, of_eq}
+use Rattle.rules.proofs.Tests.{pick_yes, pick_case, both, join, decide, le_of, of_le, not_le, eq_of, of_eq}
 use Rattle.std.specs.List.{list_any, position_or_len}
 use Rattle.std.proofs.lemmas.List.Recursion.{is_position_or_len}
 use Rattle.rules.proofs.Laying.{rest_whole}
 use Rattle.rules.proofs.Telling.{telling, pick_is, eq_is}
-use Rattle.rules.proofs.Returns.{and_t, and_f, yes_eq, no_eq, is_eq}
+use Rattle.rules.proofs.Returns.{and_t, and_f}
 use Rattle.desk.specs.References.{free, held, place_with, absent, may_stand, places_fit}
 use Rattle.desk.specs.Holding.{Fit, Open}
 

@@ -2,7 +2,6 @@
 -- 01, The desk; document 02, Q-5 and Q-6).
 -- Assumes nothing.
 use Rattle.desk.specs.Told.{Settling}
-use Rattle.desk.specs.declared.Outcome.{Outcome}
 use Prim.Native.Nat.{ℕ}
 use mathlib.Core.Path.{◌≡◌, sym, ◌∙◌, ap, subst}
 use mathlib.Core.List.{List, [], ◌∷◌}

@@ -2,7 +2,6 @@
 -- added or removed them.
 -- Assumes nothing.
 use Rattle.desk.specs.Told.{Settling}
-use Rattle.desk.specs.declared.Outcome.{Outcome}
 use Rattle.rules.specs.declared.Fault.{Fault}
 use Rattle.std.specs.Prelude.{ℕ, ◌≡◌, Bool, true, false, ◌↔◌, List, [], ◌∷◌, get_or, T, Result, Ok, Err}
 use Rattle.std.proofs.Math.Option.{Option, none, some}

@@ -1,5 +1,6 @@
 // The desk's record (document 01, The desk; document 02, Q-6): 52 octets, judged before anything else and written
-// whole.
+// whole. C lends it as a slice, whose size is judged once, by `is_record`: so what reads or lays it has the size in its
+// `requires`.
 ghost use Rattle.std.specs.Prelude.{◌≡◌, ◌++◌, ◌≤◌, length, take, drop};
 ghost use Rattle.rules.specs.Laying.{laid};
 ghost use Rattle.desk.specs.References.{place_count};
@@ -59,7 +60,7 @@ pub(crate) fn is_record(cells: &[u8]) -> bool
     cells.len() == DESK && is_desk(cells[0], cells[1], cells[2], cells[3])
 }
 
-// A place: three octets, the low one first.
+// A place: three octets, the low one first, as C has it; no number of Rust has three.
 fn place_in(cells: &[u8]) -> u32
     ensures { result ≡ record_of.place_in cells.now }
 {

@@ -10,7 +10,7 @@ use Rattle.rules.specs.Message.{Message, Parameter, body, octets, LegalMessage, 
 use Rattle.rules.specs.Language.{calls}
 use Rattle.message.specs.Judges.{Judges, verdict_number}
 use Rattle.walker.specs.Told.{told, nothing, refusal, Clear}
-use Rattle.walker.specs.Steps.{next_place, Step, Stepped, given}
+use Rattle.walker.specs.Steps.{next_place, Step, Stepped}
 
 -- of the parameters ps, of which the first begins at `first`, one begins at `at`: behind those before it
 pub record Begins (first : ℕ) (ps : List Parameter) (at : ℕ) : Type 0 where

@@ -62,6 +62,7 @@ returns-in-InDirectory c =
       part = directory_part _ _ o d _ e _ _ f;
       side = ap (λ (r : Result Shown Fault). code_of r c.args.side.now) (sym f ∙ shown);
     }
+
 pub returns-in_default : goal.returns-in_default
 unfolding code_of
 returns-in_default c =

@@ -1,6 +1,5 @@
 -- `desk::put` meets its contract: where no place is the one sought nothing is put.
 -- Assumes nothing.
-use mathlib.Core.Path.{◌≡◌, sym}
 use native.Mathlib.Omega.{arith}
 use lib.Seq.{set_out}
 use Rattle.std.proofs.lemmas.Grind.{common_steps}

@@ -28,8 +28,8 @@ pub loop-found-preserved : goal.loop-found-preserved
 loop-found-preserved c =
     let one = subst (Within (length c.args.message.now)) c.in-Some.ensures.steps c.loop-found.invariant.1 in (
       sym (found_on _ _ _ _ c.if-place-at.false)
-      ∙ sym (ap (walked c.args.at c.loop-found.place) c.in-Some.ensures.steps)
-      ∙ c.loop-found.invariant.0,
+          ∙ sym (ap (walked c.args.at c.loop-found.place) c.in-Some.ensures.steps)
+          ∙ c.loop-found.invariant.0,
       one.1,
     )
 
