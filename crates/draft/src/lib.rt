@@ -35,7 +35,8 @@ pub enum Value {
         start: usize,
         length: usize,
     },
-    // A date whose seconds may have been sent (document 02, Q-4): `second` is the seconds + 1, or 0 where none were.
+    // A date whose seconds may have been sent (document 02, Q-4): `second` is the seconds + 1, or 0 where none were. A
+    // number and no `Option`: `meant`, `spelled` and C's record have it so.
     Moment {
         month: u8,
         day: u8,
