@@ -79,7 +79,10 @@ module _ (e w : ℕ) (d : Desk) (o : List ℕ) where
   named_is x q = go (decide (known e w))
     where
       by : (y : Outcome) (k : ℕ) → y ≡ refused (noted k 0) d → (k ≡ 16) ⊎ (k ≡ 17) → named e y ≡ unnamed y
-      by y k z f = ap (named e) z ∙ ap (λ (i : ℕ). record { edition = i; answer = refused (noted k 0) d }) (editions.names_none k e f) ∙ ap unnamed (sym z)
+      by y k z f =
+          ap (named e) z
+          ∙ ap (λ (i : ℕ). record { edition = i; answer = refused (noted k 0) d }) (editions.names_none k e f)
+          ∙ ap unnamed (sym z)
 
       none : Fit d.places ⊎ (Fit d.places → ⊥) → named e (settled_by_none d) ≡ unnamed (settled_by_none d)
       none (inl f) = by _ 16 (fit_none d f) (inl refl)

@@ -196,8 +196,8 @@ fn ended_of(edition: u8, way: u8, f: Fields, idle: u64) -> Option<Listener>
     }
 }
 
-// What is unused is summed up before the stage is asked for: with the sums in each function octets one by one cost up to
-// 2 in 100 more instructions.
+// What is unused is summed up before the stage is asked for: with the sums in each function octets one by one cost up
+// to 2 in 100 more instructions.
 #[tactic(auto, using(rules::proofs::Telling::telling), unfolding(crate::specs::Record::state_of))]
 fn state_of(edition: u8, way: u8, f: Fields) -> Option<Listener>
     ensures { result ≡ record_of.state_of edition way f }

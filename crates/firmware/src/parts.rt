@@ -9,7 +9,8 @@ ghost use Rattle.firmware.specs.Sizes.{part_size};
 // The octets of a part's record.
 pub(crate) const PART: usize = 24;
 
-// A number in eight octets, the lowest first, over the beginning of what is lent.
+// A number in eight octets, the lowest first, over the beginning of what is lent: the record's octets, each laid where
+// C reads it (include/anthercup.h).
 fn lay_number(cells: &mut [u8], n: usize)
     requires { 8 ≤ list.length cells.old }
     ensures { cells.new ≡ laid (record_of.low_first 8 n) cells.old }

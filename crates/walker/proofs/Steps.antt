@@ -84,7 +84,8 @@ unfolding founds_from found_then
 founds_inside zero o place = tt
 founds_inside (suc turns) o place = go (founds_inside turns o) (parameter_at o place) refl
   where
-    go : ((p : ℕ) → Within (length o) (founds_from turns o p)) → (x : Option Found) → x ≡ parameter_at o place → Within (length o) (found_then x (founds_from turns o))
+    go : ((p : ℕ) → Within (length o) (founds_from turns o p)) → (x : Option Found) → x ≡ parameter_at o place →
+        Within (length o) (found_then x (founds_from turns o))
     go on (Some one) e =
         (found_inside o place _ one.kind one.start one.length e refl, on (one.start + one.length))
     go on None e = tt

@@ -11,20 +11,28 @@ loop-at-init c = refl
 
 pub overflow_sub-result : goal.overflow_sub-result
 overflow_sub-result c =
-    omega (arith, caller_inside _ _ _ c.loop-at-test.true _ (rest_whole c.loop-at.at c.args.directory.now) _ c.line_of-line.ensures (sym c.is_for.ensures ∙ c.if-is_for.true))
+    let rest = rest_whole c.loop-at.at c.args.directory.now in
+    let named = sym c.is_for.ensures ∙ c.if-is_for.true in
+    omega (arith, caller_inside _ _ _ c.loop-at-test.true _ rest _ c.line_of-line.ensures named)
 
 pub overflow_sub-result-then-is_for : goal.overflow_sub-result-then-is_for
 overflow_sub-result-then-is_for c =
-    omega (arith, caller_inside _ _ _ c.loop-at-test.true _ (rest_whole c.loop-at.at c.args.directory.now) _ c.line_of-line.ensures (sym c.is_for.ensures ∙ c.if-is_for.true))
+    let rest = rest_whole c.loop-at.at c.args.directory.now in
+    let named = sym c.is_for.ensures ∙ c.if-is_for.true in
+    omega (arith, caller_inside _ _ _ c.loop-at-test.true _ rest _ c.line_of-line.ensures named)
 
 pub returns-then-is_for : goal.returns-then-is_for
 returns-then-is_for c =
-    sym (entry_here _ _ _ c.loop-at-test.true _ (rest_whole c.loop-at.at c.args.directory.now) _ c.line_of-line.ensures (sym c.is_for.ensures ∙ c.if-is_for.true))
+    let rest = rest_whole c.loop-at.at c.args.directory.now in
+    let named = sym c.is_for.ensures ∙ c.if-is_for.true in
+    sym (entry_here _ _ _ c.loop-at-test.true _ rest _ c.line_of-line.ensures named)
     ∙ c.loop-at.invariant
 
 pub loop-at-preserved : goal.loop-at-preserved
 loop-at-preserved c =
-    sym (entry_on _ _ _ c.loop-at-test.true _ (rest_whole c.loop-at.at c.args.directory.now) _ c.line_of-line.ensures (sym c.is_for.ensures ∙ c.if-is_for.false))
+    let rest = rest_whole c.loop-at.at c.args.directory.now in
+    let named = sym c.is_for.ensures ∙ c.if-is_for.false in
+    sym (entry_on _ _ _ c.loop-at-test.true _ rest _ c.line_of-line.ensures named)
     ∙ c.loop-at.invariant
 
 pub returns : goal.returns

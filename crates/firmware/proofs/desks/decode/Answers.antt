@@ -1,4 +1,4 @@
--- `firmware::decode` meets its contract: each field from its octets.
+-- `firmware::desks::decode` meets its contract: each field from its octets.
 -- Assumes nothing.
 use Rattle.firmware.specs.DeskRecord.{desk_in}
 use Rattle.firmware.proofs.desks.decode.Goals as goal

@@ -1,4 +1,4 @@
--- `firmware::encode` meets its contract: the first four octets are stored, then the places.
+-- `firmware::desks::encode` meets its contract: the first four octets are stored, then the places.
 -- Assumes nothing.
 use mathlib.Core.Path.{◌∙◌}
 use mathlib.Core.List.{◌∷◌, ◌++◌}

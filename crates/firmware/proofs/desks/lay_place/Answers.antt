@@ -1,4 +1,4 @@
--- `firmware::lay_place` meets its contract: the first three octets are stored.
+-- `firmware::desks::lay_place` meets its contract: the first three octets are stored.
 -- Assumes nothing.
 use native.Mathlib.Omega.{arith}
 use lib.ListN.{length-set}

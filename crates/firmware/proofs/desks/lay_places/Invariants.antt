@@ -1,4 +1,4 @@
--- `firmware::lay_places` meets its contract. The loop's invariant: the places before i are laid behind the first four
+-- `firmware::desks::lay_places` meets its contract. The loop's invariant: the places before i are laid behind the first four
 -- octets. The measure is the places left.
 -- Assumes nothing.
 use Rattle.firmware.proofs.RecordPlaces.{LaidPlaces}

@@ -1,4 +1,4 @@
--- `firmware::place_in` meets its contract: by the first three octets.
+-- `firmware::desks::place_in` meets its contract: by the first three octets.
 -- Assumes nothing.
 use Prim.Native.Nat.{◌+◌, ◌*◌}
 use Rattle.firmware.specs.DeskRecord.{place_in}

@@ -1,4 +1,4 @@
--- `firmware::places_in` meets its contract. The loop's invariant: the places before i are read. The measure is the
+-- `firmware::desks::places_in` meets its contract. The loop's invariant: the places before i are read. The measure is the
 -- places left.
 -- Assumes nothing.
 use Rattle.firmware.proofs.RecordPlaces.{ReadPlaces}

@@ -1,4 +1,4 @@
--- `firmware::lay_number` meets its contract: the first eight octets are stored, each by the quotient of the one
+-- `firmware::parts::lay_number` meets its contract: the first eight octets are stored, each by the quotient of the one
 -- before it.
 -- Assumes nothing.
 use native.Mathlib.Omega.{arith}

@@ -1,4 +1,4 @@
--- `firmware::lay_part` meets its contract: side, start and length stand behind one another.
+-- `firmware::parts::lay_part` meets its contract: side, start and length stand behind one another.
 -- Assumes nothing.
 use Rattle.rules.proofs.Laying.{rest_laid}
 use Rattle.firmware.proofs.PartRecord.{part_laid}

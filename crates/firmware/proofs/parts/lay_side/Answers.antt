@@ -1,4 +1,4 @@
--- `firmware::lay_side` meets its contract: the first eight octets are stored.
+-- `firmware::parts::lay_side` meets its contract: the first eight octets are stored.
 -- Assumes nothing.
 use native.Mathlib.Omega.{arith}
 use lib.ListN.{length-set}
