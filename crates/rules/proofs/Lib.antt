@@ -3,6 +3,7 @@
 pub mod Tests
 pub mod Returns
 pub mod Telling
+pub mod First
 pub mod Octets
 pub mod Pairwise
 pub mod Laying

@@ -24,4 +24,5 @@ pub mod Demand3
 pub mod Unique
 pub mod Rows
 pub mod Pairwise
+pub mod First
 pub mod Laying
