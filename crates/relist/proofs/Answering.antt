@@ -2,7 +2,7 @@
 -- An answer that is a message has at most 255 octets of parameters, which then stand in the area, and room for three
 -- more: sealed, they are the octets of the message that the text says.
 -- Assumes nothing.
-use Rattle.std.proofs.Common.{◌≡◌, ℕ, suc, ◌+◌, ◌-◌, ◌≤◌, List, [], length, take, drop, sym, refl, ap, ◌∙◌, subst, arith}
+use Rattle.std.proofs.Common.{◌≡◌, ℕ, suc, ◌+◌, ◌-◌, ◌≤◌, List, [], length, take, drop, sym, refl, ap, ◌∙◌, subst, arith, Result, Ok, Err}
 use Rattle.rules.proofs.Tests.{clash, picked_by, not_le}
 use Rattle.rules.proofs.Returns.{pick_t, pick_f, yes_eq, no_eq}
 use Rattle.rules.specs.Table.{Rules, rules_of}
@@ -10,8 +10,6 @@ use Rattle.rules.specs.declared.Book.TheVariants.{PresentLenient}
 use Rattle.rules.specs.declared.Fault.{Fault}
 use Rattle.rules.specs.Message.{octets}
 use Rattle.rules.specs.Laying.{laid}
-use Rattle.writer.specs.declared.Written.{Written}
-use Rattle.writer.specs.declared.Written.TheVariants as written
 use Rattle.writer.specs.Writing.{sized, unwritten, output_after}
 use Rattle.relist.specs.Relist.{Lined, line_in, taken, kind_in, closed, lined_in, message_for, relisted}
 use Rattle.relist.specs.Reading.{TookRows, Sealed}
@@ -22,7 +20,7 @@ abbrev R : Rules
 R = rules_of PresentLenient
 
 -- ---- what follows the value lines
-closed_fits : (n : ℕ) (t : List ℕ) (l room whole : ℕ) → closed n t l room ≡ written.Message whole →
+closed_fits : (n : ℕ) (t : List ℕ) (l room whole : ℕ) → closed n t l room ≡ Ok whole →
     (l ≤ 255) × (l + 3 ≤ room)
 unfolding closed sized
 closed_fits n t l room whole e =
@@ -39,7 +37,7 @@ closed_fits n t l room whole e =
     Fits = (l ≤ 255) × (l + 3 ≤ room)
 
 -- a refusal leaves the output
-pub untouched : (w : Written) (f : Fault) (o old : List ℕ) → w ≡ written.Declined f → old ≡ output_after w o old
+pub untouched : (w : Result ℕ Fault) (f : Fault) (o old : List ℕ) → w ≡ Err f → old ≡ output_after w o old
 unfolding output_after
 untouched w f o old e = rw e refl
 
@@ -70,14 +68,14 @@ module _ (t : List ℕ) (first : ℕ) (e : first ≡ 0 + length (line_in (drop 0
           subst (λ (s : Lined). TookRows s t area lines)
           (ap (taken R R.rows []) (line_rest t 0 (omega arith) first e)) q
 
-      module _ (room : ℕ) (w : Written) (c : w ≡ closed lines.count (drop lines.at t) lines.size room) where
+      module _ (room : ℕ) (w : Result ℕ Fault) (c : w ≡ closed lines.count (drop lines.at t) lines.size room) where
         pub answered : w ≡ relisted R t room
         unfolding relisted
         answered =
             pick_f _ _ _ _ (no_eq _ _ (λ z. n (kind_is ∙ z)))
             (c ∙ (λ i. closed (took.count i) (took.rest i) (took.size i) room))
 
-        module _ (whole : ℕ) (m : w ≡ written.Message whole) where
+        module _ (whole : ℕ) (m : w ≡ Ok whole) where
           pub message_fits : (lines.size ≤ 255) × (lines.size + 3 ≤ room)
           message_fits = closed_fits lines.count (drop lines.at t) lines.size room whole (sym c ∙ m)
 

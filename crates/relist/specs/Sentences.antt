@@ -9,7 +9,7 @@ use Rattle.rules.specs.Message.{Parameter, Message, body, octets, message_kind, 
 use Rattle.rules.specs.Counting.{counted}
 use Rattle.listing.specs.Listing.{written, message_lines}
 use Rattle.listing.specs.Lists.{Has}
-use Rattle.writer.specs.declared.Writing.{Writing}
+use Rattle.writer.specs.Writing.{Writing}
 use Rattle.writer.specs.Told.{told, success, refusal}
 
 -- ---- valid listings
