@@ -4,6 +4,7 @@ pub mod Tests
 pub mod Returns
 pub mod Telling
 pub mod First
+pub mod Sums
 pub mod Octets
 pub mod Pairwise
 pub mod Laying

@@ -9,7 +9,7 @@ use lib.ListN.{get_or}
 use lib.Dec.{T}
 use Rattle.rules.specs.Tests.{◌=?◌, ◌and◌, ◌or◌, pick, every}
 use Rattle.rules.proofs.Tests.{pick_not, eq_of, both}
-use Rattle.rules.proofs.Returns.{pick_t, pick_f, yes_eq, no_eq, holds, T_of}
+use Rattle.rules.proofs.Returns.{holds, T_of}
 use Rattle.rules.specs.Table.{Row, rules_of, old_book, plain_row, rows01, rows_old, row_in, row_of, listed_in, listed, rowed, class_of, rival_of}
 use Rattle.rules.specs.declared.Class.{Class}
 use Rattle.rules.specs.declared.Book.{Book}

@@ -240,6 +240,18 @@ form_of OldForwarded = CodeValue
 form_of OldUser = CodeValue
 form_of Unlisted = CarriedValue
 
+-- the number of a kind of value: 0 a code, 1 a date, 2 a state with a reference, 3 a text, 4 a carried text, 5 a date
+-- perhaps with seconds, 6 a duration, 7 a first octet with a text
+unfoldable pub form_number : Form → ℕ
+form_number CodeValue = 0
+form_number DateValue = 1
+form_number StateValue = 2
+form_number TextValue = 3
+form_number CarriedValue = 4
+form_number MomentValue = 5
+form_number DurationValue = 6
+form_number MarkedValue = 7
+
 -- ---- how a listing prints a class (What showmsg prints): MM-DD HH:MM; the octets as they are; off or on; a state
 -- and its reference; a number in decimal; two hex digits; not at all, but numbered. Since document 02, Q-4: MM-DD HH:MM
 -- and perhaps :SS; HH:MM:SS; a charge's currency, flags and octets; what a terminal is selected by; hex digits and a

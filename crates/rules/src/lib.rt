@@ -8,7 +8,7 @@ ghost use Rattle.rules.specs.Tests.{◌=?◌, ◌and◌, ◌or◌};
 ghost use Rattle.rules.specs.Pairwise.{same_octets};
 ghost use Rattle.rules.specs.Octets.{reference_of};
 ghost use Rattle.rules.specs.Contents.{within, in_set};
-ghost use Rattle.rules.specs.Table.{rules_of, old_book, listed, rowed, class_of, class_fault, rival_of, form_of, whole, length_fits, row_in, plain_row, rows01, rows_old};
+ghost use Rattle.rules.specs.Table.{rules_of, old_book, listed, rowed, class_of, class_fault, rival_of, form_of, form_number, whole, length_fits, row_in, plain_row, rows01, rows_old};
 ghost use Rattle.rules.specs.Codes.{class_code, class_coded, old_codes, code_in, other_length, ranges};
 ghost use Rattle.rules.specs.declared.Book.TheVariants as book;
 ghost use Rattle.rules.specs.Editions.{known, book_of, known_book, named_by};
@@ -84,18 +84,28 @@ pub const STRICT: u8 = 0;
 
 pub const LENIENT: u8 = 1;
 
-// The kinds of value that a draft holds (document 01, Drafts; document 02, Q-4): the numbers of a date, a code, a state
-// with a reference, a text, a carried text; a date that may have seconds, a duration, a first octet with a text.
-#[derive(Clone, Copy)]
+// The kinds of value that a draft holds (document 01, Drafts; document 02, Q-4), in the order of their numbers: a code, the
+// numbers of a date, a state with a reference, a text, a carried text; a date that may have seconds, a duration, a first
+// octet with a text.
+#[derive(Clone, Copy, PartialEq, Eq)]
 pub enum Form {
-    DateValue,
     CodeValue,
+    DateValue,
     StateValue,
     TextValue,
     CarriedValue,
     MomentValue,
     DurationValue,
     MarkedValue,
+}
+
+impl From<Form> for u8 {
+    ghost from_gives = { λ f k. k ≡ form_number f };
+
+    #[tactic(auto, unfolding(crate::specs::Table::form_number))]
+    fn from(form: Form) -> u8 {
+        form as u8
+    }
 }
 
 // What the next octet is: the message type, the length L, a parameter type or (no room left) the checksum, a

@@ -2,7 +2,6 @@
 pub mod Steps
 pub mod Ways
 pub mod Words
-pub mod Sums
 pub mod Between
 pub mod One
 pub mod Settled

@@ -33,7 +33,7 @@ fn word(number: u8, place: usize, room: u8, sum: u8, parameter: usize) -> u64
 }
 
 // The sum after the octets from a place to another (000, section 2).
-#[tactic(auto, using(crate::proofs::Sums::summing))]
+#[tactic(auto, using(rules::proofs::Sums::summing))]
 fn sum_on(s: &[u8], start: usize, end: usize, sum: u8) -> u8
     requires { (start ≤ end) × (end ≤ long s.now) }
     ensures { result ≡ summed sum (take (end - start) (drop start s.now)) }

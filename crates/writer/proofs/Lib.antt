@@ -1,5 +1,4 @@
 -- The root of the proofs.
-pub mod Sums
 pub mod Told
 pub mod Contents
 pub mod Entries

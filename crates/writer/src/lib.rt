@@ -270,7 +270,7 @@ fn write_by(book: Book, draft: Draft, texts: &[u8], out: &mut [u8]) -> Result<u1
 }
 
 // The sum of octets modulo 256 (000, section 2).
-#[tactic(auto, using(crate::proofs::Sums::summing))]
+#[tactic(auto, using(rules::proofs::Sums::summing))]
 pub fn sum_of(s: &[u8]) -> u8
     ensures { result ≡ total s.now % 256 }
 {
