@@ -4,8 +4,8 @@
 -- Assumes nothing.
 use Rattle.std.proofs.Common.{◌≡◌, ℕ, zero, suc, ◌+◌, ◌-◌, ◌*◌, ◌<◌, ◌≤◌, Bool, T, ◌⊎◌, List, [], ◌∷◌, ◌++◌, length, take, sym, refl, ap, ◌∙◌, subst, ap₂, inl, inr, arith, length-append, length-take-le, take_all, Result}
 use lib.Seq.{take-append-le, take-append-add}
-use Rattle.relist.specs.First.{index_of, index_after}
-use Rattle.rules.specs.Tests.{◌≤?◌, ◌and◌, every}
+use Rattle.rules.specs.First.{index_of}
+use Rattle.rules.specs.Tests.{◌≤?◌, ◌and◌, every, ◌=?◌, pick}
 use Rattle.rules.proofs.Tests.{decide, le_of, not_le, every_head, every_tail}
 use Rattle.rules.specs.Message.{Parameter, octets}
 use Rattle.rules.specs.Table.{Row, rules_of, class_of, style_of, contents_fit, ascii}
@@ -78,11 +78,11 @@ valid_short t v =
 
 -- ---- texts cut short
 unended_take : (n : ℕ) (v : List ℕ) → Unended v → Unended (take n v)
-unfolding index_of index_after
+unfolding index_of pick ◌=?◌
 unended_take zero v u = refl
 unended_take (suc n) [] u = refl
 unended_take (suc n) (x ∷ v) u =
-    ap₂ index_after (none_head 0x0A x v u) (unended_take n v (none_tail 0x0A x v u))
+    ap₂ (λ (q : Bool) (k : ℕ). pick q 0 (suc k)) (none_head 0x0A x v u) (unended_take n v (none_tail 0x0A x v u))
 
 module _ (t : List ℕ) (h : limit < length t) (k : ℕ) (s : SpoiltAt R t k) where
   inside : length s.before < limit

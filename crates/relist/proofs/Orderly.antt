@@ -3,7 +3,7 @@
 -- Assumes nothing.
 use Rattle.std.proofs.Common.{◌≡◌, ℕ, suc, ◌<◌, ◌≤◌, Bool, true, false, T, eqb, ◌⊎◌, List, [], ◌∷◌, ◌++◌, length, sym, refl, ap, ◌∙◌, subst, ap₂, inl, inr, append_assoc, arith}
 use mathlib.Core.Option.{Option, none, some}
-use Rattle.relist.specs.First.{index_of, index_after}
+use Rattle.rules.specs.First.{index_of}
 use Rattle.rules.specs.Tests.{◌≤?◌, ◌=?◌, pick}
 use Rattle.rules.proofs.Tests.{decide, either, eq_of, of_eq, le_of, of_le, pick_yes, picked, clash}
 use Rattle.rules.specs.Table.{Rules, Row, listed_in, listed, class_of, rival_of, contents_fit}
@@ -16,33 +16,33 @@ use Rattle.listing.proofs.Lines.{has_right, has_split}
 use Rattle.listing.proofs.Plain.{Plain}
 use Rattle.relist.specs.Relist.{types_of, among}
 use Rattle.relist.specs.Sentences.{RisingKinds, Orderly}
-use Rattle.relist.proofs.Text.{index_le}
+use Rattle.rules.proofs.First.{index_most}
 use Rattle.relist.proofs.Said.{RowIs, tabled, row_plain}
 use Rattle.relist.proofs.Chosen.{Chosen, said, FirstIs, first_is, last}
 
 -- ---- a type among some
-index_least : (q : Bool) (k n : ℕ) → k ≤ n → T q → suc (index_after q k) ≤ suc n
-unfolding index_after
+index_least : (q : Bool) (k n : ℕ) → k ≤ n → T q → suc (pick q 0 (suc k)) ≤ suc n
+unfolding pick ◌=?◌
 index_least true k n h t = omega arith
 index_least false k n h t = absurd t
 
-index_more : (q : Bool) (k n : ℕ) → suc k ≤ n → suc (index_after q k) ≤ suc n
-unfolding index_after
+index_more : (q : Bool) (k n : ℕ) → suc k ≤ n → suc (pick q 0 (suc k)) ≤ suc n
+unfolding pick ◌=?◌
 index_more true k n h = omega arith
 index_more false k n h = omega arith
 
-index_either : (q : Bool) (k n : ℕ) → suc (index_after q k) ≤ suc n → T q ⊎ (suc k ≤ n)
-unfolding index_after
+index_either : (q : Bool) (k n : ℕ) → suc (pick q 0 (suc k)) ≤ suc n → T q ⊎ (suc k ≤ n)
+unfolding pick ◌=?◌
 index_either true k n h = inl tt
 index_either false k n h = inr (omega arith)
 
 module _ (u k : ℕ) (ks : List ℕ) where
   among_head : k ≡ u → T (among u (k ∷ ks))
   unfolding among index_of ◌=?◌
-  among_head e = of_le _ _ (index_least (eqb k u) (index_of u ks) (length ks) (index_le u ks) (of_eq k u e))
+  among_head e = of_le _ _ (index_least (eqb k u) (index_of u ks) (length ks) (index_most u ks) (of_eq k u e))
 
   among_tail : T (among u ks) → T (among u (k ∷ ks))
-  unfolding among index_of
+  unfolding among index_of ◌=?◌
   among_tail t = of_le _ _ (index_more (eqb k u) (index_of u ks) (length ks) (le_of _ _ t))
 
   among_either : T (among u (k ∷ ks)) → (k ≡ u) ⊎ T (among u ks)

@@ -21,7 +21,7 @@ abbrev Ten : Back → Type 0
 Ten b = (b.length ≤ 10) × (length b.octets ≡ 10)
 
 ten : (s : Style) (t : List ℕ) → Ten (back_of s t)
-unfolding back_of pairs_back head_back one_back switch_back reference_back state_back moment_back terminal_back
+unfolding back_of pairs_back head_back laid one_back switch_back reference_back state_back moment_back terminal_back
 ten clock t = (omega arith, refl)
 ten verbatim t = (omega arith, refl)
 ten switch t = (omega arith, refl)

@@ -1,8 +1,8 @@
 -- The way back from a listing to its message (document 02, Q-1): line by line, each row of the table takes the next
 -- line where that is the row's own. What no row takes must be the last line, and nothing may stand behind it.
 -- Assumes nothing.
-use Rattle.std.specs.Prelude.{ℕ, suc, ◌+◌, ◌-◌, Bool, false, List, [], ◌∷◌, ◌++◌, length, take, drop, Result}
-use Rattle.relist.specs.First.{index_of}
+use Rattle.std.specs.Prelude.{ℕ, suc, ◌+◌, ◌-◌, Bool, false, List, [], ◌∷◌, ◌++◌, length, take, drop, Result, Option, Some, None}
+use Rattle.rules.specs.First.{index_of}
 use Rattle.rules.specs.Tests.{◌≤?◌, ◌=?◌, pick}
 use Rattle.rules.specs.Pairwise.{same_octets}
 use Rattle.rules.specs.Table.{Rules, Row, style_of, class_of, rival_of}
@@ -63,7 +63,13 @@ taken R (r ∷ rs) ps t =
     (pick (comes R r (types_of ps) (line_in t)) (behind t) t)
 
 -- ---- the answer
--- the message type that the first line says, 0 for none
+-- the message type that the first line says
+unfoldable pub kind_said : List ℕ → Option ℕ
+kind_said l =
+    pick (same_octets (line_text (kind_line 0x80)) l) (Some 0x80)
+    (pick (same_octets (line_text (kind_line 0x82)) l) (Some 0x82) None)
+
+-- the same, 0 for none
 unfoldable pub kind_in : List ℕ → ℕ
 kind_in l =
     pick (same_octets (line_text (kind_line 0x80)) l) 0x80 (pick (same_octets (line_text (kind_line 0x82)) l) 0x82 0)

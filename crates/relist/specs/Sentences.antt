@@ -3,7 +3,7 @@
 -- Assumes nothing.
 use Rattle.std.specs.Prelude.{◌≡◌, ℕ, zero, suc, ◌<◌, ◌≤◌, T, ◌⊎◌, ◌↔◌, List, [], ◌∷◌, ◌++◌, length, take, drop}
 use Rattle.std.proofs.Math.Option.{some}
-use Rattle.relist.specs.First.{index_of}
+use Rattle.rules.specs.First.{index_of}
 use Rattle.rules.specs.Table.{Rules}
 use Rattle.rules.specs.Message.{Parameter, Message, body, octets, message_kind, AllLegal, Accepts}
 use Rattle.rules.specs.Counting.{counted}
