@@ -244,10 +244,10 @@ pub write_refuses : (w : ℕ) (d : Draft) (t old : List ℕ) (r : Writing) (out 
     × (out ≡ old)
 write_refuses w d t old r out h f e = go (decide (known d.edition w))
   where
-    fault_of : (x y : Fault) → Err x ≡ Err y → x ≡ y
+    fault_of : (x y : Fault) → ◌≡◌ {A = Result ℕ Fault} (Err x) (Err y) → x ≡ y
     fault_of x y z = cc
 
-    of_noted : (k p : ℕ) → Err (noted k p) ≡ Err f → 11 ≤ k → k ≤ 15 →
+    of_noted : (k p : ℕ) → ◌≡◌ {A = Result ℕ Fault} (Err (noted k p)) (Err f) → 11 ≤ k → k ≤ 15 →
         From 11 15 f.number × (f.parameter ≡ 0)
     of_noted k p z a c =
         let y = fault_of _ _ z in

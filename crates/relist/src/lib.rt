@@ -66,6 +66,8 @@ fn hex_at(text: &[u8], i: usize) -> u8
     ((16 * high + low) % 256) as u8
 }
 
+// The number that the digits from a place on say, modulo 65536. The place counts up by itself: a text may end before
+// it, so the digits are no slice of the text.
 fn number_at(text: &[u8], from: usize) -> u16
     ensures { result ≡ number_at text.now from }
 {
@@ -270,7 +272,8 @@ fn lay_parameter(kind: u8, contents: &[u8], area: &mut [u8], size: usize) -> usi
     end
 }
 
-// Row by row, each takes the next line where that is its own.
+// Row by row, each takes the next line where that is its own. The types so far stay an array with their count beside
+// it: there is no heap for a list that grows.
 fn take_rows(text: &[u8], first: usize, area: &mut [u8]) -> Taken
     requires { (first ≤ list.length text.now) × (list.length area.old ≡ 255) }
     ensures { TookRows (taken (rules_of book.PresentLenient) (rules_of book.PresentLenient).rows [] (list.drop first text.now)) text.now area.new result }
@@ -341,7 +344,7 @@ fn seal(kind: u8, body: &[u8], out: &mut [u8])
     out[1] = n as u8;
     out[2..end].copy_from_slice(body);
     let sum = writer::sum_of(&out[..end]);
-    out[end] = std::num::wrapping_sub_u8(0, sum);
+    out[end] = 0u8.wrapping_sub(sum);
 }
 
 // The message at the output's start, or a refusal; octets after the message stay, and in a refusal all of them.
@@ -360,6 +363,7 @@ fn answer(text: &[u8], out: &mut [u8]) -> Result<u16, Fault>
 
 // The message that a listing says, at the start of the output, or a refusal, which changes nothing; the answer names
 // the present edition.
+#[tactic(auto, unfolding(crate::specs::Relist::relisting, rules::specs::Table::rules_of))]
 pub fn message_of(text: &[u8], out: &mut [u8]) -> Writing
     ensures answer { result ≡ relisting (rules_of book.PresentLenient) text.now (list.length out.old) }
     ensures output { out.new ≡ output_after result.answer (octets (message_for (rules_of book.PresentLenient) text.now)) out.old }

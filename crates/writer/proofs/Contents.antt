@@ -6,19 +6,7 @@ use Rattle.rules.specs.declared.Class.{Class}
 use Rattle.contents.proofs.Fitting.{too_long}
 use Rattle.rules.specs.Table.{contents_fit}
 
-none_there : (v : List ℕ) → length v ≡ 0 → v ≡ []
-none_there [] e = refl
-none_there (x ∷ v) e = absurd (omega (arith, e))
-
 module _ (c : Class) (head text : List ℕ) (r : Bool) where
-  -- one of them is empty
-  pub text_alone : length head ≡ 0 → r ≡ contents_fit c text → r ≡ contents_fit c (head ++ text)
-  text_alone e q = q ∙ ap (λ (v : List ℕ). contents_fit c (v ++ text)) (sym (none_there head e))
-
-  pub head_alone : length text ≡ 0 → r ≡ contents_fit c head → r ≡ contents_fit c (head ++ text)
-  head_alone e q =
-      q ∙ ap (contents_fit c) (sym (append-nil head)) ∙ ap (λ (v : List ℕ). contents_fit c (head ++ v)) (sym (none_there text e))
-
   -- both are laid down in one place
   pub both_there : (old new : List ℕ) → new ≡ laid (head ++ text) old →
       r ≡ contents_fit c (take (length head + length text) new) → r ≡ contents_fit c (head ++ text)

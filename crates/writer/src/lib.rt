@@ -66,6 +66,13 @@ fn spell(v: Value) -> Spelling
             day,
             hour,
             minute,
+        }
+        | Value::Moment {
+            month,
+            day,
+            hour,
+            minute,
+            second: 0,
         } => digits([month, day, hour, minute]),
         Value::Moment {
             month,
@@ -73,13 +80,7 @@ fn spell(v: Value) -> Spelling
             hour,
             minute,
             second,
-        } => {
-            if second == 0 {
-                digits([month, day, hour, minute])
-            } else {
-                digits([month, day, hour, minute, second - 1])
-            }
-        }
+        } => digits([month, day, hour, minute, second - 1]),
         Value::Duration {
             hours,
             minutes,
@@ -167,7 +168,7 @@ fn measure_entries(book: Book, entries: &[Entry], texts: &[u8]) -> Result<usize,
     Ok(size)
 }
 
-// A refusal with its number and place.
+// A refusal with its number, as the record of a refusal has it, and place.
 pub fn refusal(number: u8, place: u16) -> Result<u16, Fault>
     ensures { result ≡ unwritten number place }
 {
@@ -254,7 +255,7 @@ fn put_message(draft: Draft, texts: &[u8], out: &mut [u8], size: u8)
 {
     let end = put_front(draft, texts, out, size);
     let sum = sum_of(&out[..end]);
-    out[end] = std::num::wrapping_sub_u8(0, sum);
+    out[end] = 0u8.wrapping_sub(sum);
 }
 
 // By a book: the message that a draft stands for at the start of the output, or a refusal; octets after the message

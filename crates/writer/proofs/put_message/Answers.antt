@@ -47,4 +47,4 @@ returns c =
       front_fits c.args.draft
           c.args.texts.now _ _ c.requires,
     )) _ _ c.sum_of-sum.ensures (omega arith)
-    c.wrapping_sub_u8.ensures.value
+    (omega arith)
