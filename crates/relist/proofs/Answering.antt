@@ -2,7 +2,7 @@
 -- An answer that is a message has at most 255 octets of parameters, which then stand in the area, and room for three
 -- more: sealed, they are the octets of the message that the text says.
 -- Assumes nothing.
-use Rattle.std.proofs.Common.{◌≡◌, ℕ, suc, ◌+◌, ◌-◌, ◌≤◌, List, [], length, take, drop, sym, refl, ap, ◌∙◌, subst, arith, Result, Ok, Err, Option, Some, None, ◌<◌}
+use Rattle.std.proofs.Common.{◌≡◌, ℕ, suc, ◌+◌, ◌-◌, ◌≤◌, List, [], length, take, drop, sym, refl, ap, ◌∙◌, subst, arith, Result, Ok, Err, Option, Some, None}
 use Rattle.rules.proofs.Tests.{clash, picked_by, pick_yes, pick_not, not_le}
 use Rattle.rules.proofs.Returns.{pick_t, pick_f, yes_eq, no_eq}
 use Rattle.rules.specs.Table.{Rules, rules_of}
@@ -12,7 +12,7 @@ use Rattle.rules.specs.Message.{octets}
 use Rattle.rules.specs.Laying.{laid}
 use Rattle.rules.specs.Refusals.{noted}
 use Rattle.std.specs.Option.{ok_or}
-use Rattle.writer.specs.Writing.{sized, unwritten, output_after}
+use Rattle.writer.specs.Writing.{sized, output_after}
 use Rattle.relist.specs.Relist.{Lined, line_in, taken, kind_said, kind_in, closed, lined_in, message_for, relisted}
 use Rattle.relist.specs.Reading.{TookRows, Sealed}
 use Rattle.relist.specs.declared.Taken.{Taken}
@@ -70,7 +70,8 @@ module _ (t : List ℕ) (first : ℕ) (e : first ≡ 0 + length (line_in (drop 0
       let z : first ≡ first - 0 = omega arith in
       ap (λ (k : ℕ). take k t) z ∙ line_part t 0 (omega arith) first e
 
-  pub no_kind : (x : Option ℕ) (f g : Fault) → x ≡ kind_said (take first t) → f ≡ noted 61 1 → ok_or {T = ℕ} x f ≡ Err g →
+  pub no_kind : (x : Option ℕ) (f g : Fault) → x ≡ kind_said (take first t) → f ≡ noted 61 1 →
+      ok_or {T = ℕ} x f ≡ Err g →
       (room : ℕ) → Err g ≡ relisted R t room
   unfolding relisted
   no_kind (Some k) f g p q r room = clash (cc)
@@ -85,7 +86,9 @@ module _ (t : List ℕ) (first : ℕ) (e : first ≡ 0 + length (line_in (drop 0
         go : (x : Option ℕ) → x ≡ kind_said (take first t) → ok_or x f ≡ Ok kind →
             (kind_in (line_in t) ≡ kind) × (1 ≤ kind)
         go None p o = clash (cc)
-        go (Some k) p o = let s : Some k ≡ Some kind = cc in kind_told (line_in t) kind (sym (p ∙ ap kind_said first_is) ∙ s)
+        go (Some k) p o =
+            let s : Some k ≡ Some kind = cc in
+            kind_told (line_in t) kind (sym (p ∙ ap kind_said first_is) ∙ s)
 
     kind_is : kind ≡ kind_in (line_in t)
     kind_is = sym told.0

@@ -6,7 +6,7 @@
 use Rattle.std.proofs.Common.{◌≡◌, ℕ, suc, ◌+◌, ◌-◌, ◌<◌, ◌≤◌, Bool, true, false, T, List, length, take, drop, sym, refl, ap, ◌∙◌, ap₂, arith, length-append, length-drop, length-take, length-take-le, take_all, drop-drop, [], ◌∷◌, eqb, subst, Option, Some, None}
 use lib.Seq.{take-append_seam, drop-append_seam}
 use Rattle.rules.specs.First.{index_of}
-use Rattle.rules.specs.Tests.{◌≤?◌, ◌and◌, pick}
+use Rattle.rules.specs.Tests.{◌≤?◌, ◌and◌}
 use Rattle.rules.proofs.Tests.{clash}
 use Rattle.rules.proofs.Returns.{pick_t, pick_f, and_t, yes_le, same_truth}
 use Rattle.rules.proofs.Telling.{eq_is, telling}
@@ -48,7 +48,8 @@ among_is u (k ∷ ks) = grind (arith, telling, eq_is k u, among_is u ks)
 module _ (t : List ℕ) (at : ℕ) (i : at ≤ length t) where
   -- where the first line end was found, or that there is none
   module _ (r : List ℕ) (w : r ≡ drop at t) where
-    pub line_ended : (i : ℕ) → position (λ (x : ℕ). x == 0x0A) r ≡ Some i → at + i + 1 ≡ at + length (line_in (drop at t))
+    pub line_ended : (i : ℕ) → position (λ (x : ℕ). x == 0x0A) r ≡ Some i →
+        at + i + 1 ≡ at + length (line_in (drop at t))
     unfolding line_in
     line_ended i e =
         let p = λ (x : ℕ). eqb x 0x0A in
@@ -180,7 +181,9 @@ module _ (i : ℕ) (h : i < row_count) (l area : List ℕ) (n : ℕ)
 module _ (R : Rules) (r : Row) (ks l area : List ℕ) (k : ℕ) (e : k ≡ r.kind) (u : ℕ) (d : u ≡ rival_of R k) (b : Bool)
     (q : b ≡ list_any (λ (x : ℕ). eqb x u) ks) where
   shuts : among (rival_of R r.kind) ks ≡ b
-  shuts = among_is (rival_of R r.kind) ks ∙ ap (λ (u : ℕ). list_any (λ (x : ℕ). eqb x u) ks) (sym (d ∙ ap (rival_of R) e)) ∙ sym q
+  shuts =
+      among_is (rival_of R r.kind) ks
+      ∙ ap (λ (u : ℕ). list_any (λ (x : ℕ). eqb x u) ks) (sym (d ∙ ap (rival_of R) e)) ∙ sym q
 
   -- one of them shuts the row's out
   pub read_shut : b ≡ true → RowRead R r ks l area None

@@ -1,9 +1,8 @@
 -- Texts cut at the first of an octet: what stands before it has none of it, so the cut is where it was put. Of a text
 -- this is its first line, of a line its key.
 -- Assumes nothing.
-use Rattle.std.proofs.Common.{◌≡◌, ℕ, suc, ◌≤◌, Bool, true, false, T, eqb, ◌⊎◌, List, [], ◌∷◌, ◌++◌, ◌<◌, length, get_or, take, drop, sym, refl, ap, ◌∙◌, ap₂, inl, inr, arith, length-append, take-append-drop}
-use lib.ListN.{drop_of_length-le}
-use lib.Seq.{take-append_seam, drop-append_seam, drop-cons}
+use Rattle.std.proofs.Common.{◌≡◌, ℕ, suc, Bool, true, false, T, eqb, ◌⊎◌, List, [], ◌∷◌, ◌++◌, length, take, drop, sym, refl, ap, ◌∙◌, ap₂, inl, inr, arith, length-append, take-append-drop}
+use lib.Seq.{take-append_seam, drop-append_seam}
 use lib.Dec.{eqb_refl}
 use Rattle.rules.specs.First.{index_of}
 use Rattle.rules.specs.Tests.{◌≤?◌, ◌=?◌, pick}

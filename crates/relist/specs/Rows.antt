@@ -18,7 +18,7 @@ use Rattle.rules.specs.Message.{body, octets}
 use Rattle.listing.specs.Numerals.{digits_by, decimal, hex_digit, hex, number_from, hex_value}
 use Rattle.listing.specs.Listing.{half, seconds, coded, lamp_word, state_word, reference, currency, selector_word, selected, clock, identity, moment, duration, charge, terminal, display, printed, line_text, line_of, kind_line, carried_line, says_line}
 use Rattle.writer.specs.Writing.{sized, unwritten}
-use Rattle.relist.specs.Back.{hex_at, number_at, pairs_back, head_back, one_back, switch_back, state_back, reference_back, moment_back, terminal_back, back_of, read_off, back}
+use Rattle.relist.specs.Back.{hex_at, number_at, pairs_back, octets_back, one_back, switch_back, state_back, reference_back, moment_back, terminal_back, back_of, read_off, back}
 use Rattle.relist.specs.Relist.{line_in, behind, value_in, row_contents, row_says, types_of, among, comes, taken, kind_in, closed, lined_in, message_for, relisted}
 use Rattle.rules.specs.declared.Fault.{Fault}
 
@@ -96,5 +96,5 @@ pub record Claim : Type 0 where
       []
 
 pub claim : Claim
-unfolding ascii ◌≤?◌ ◌=?◌ ◌and◌ ◌or◌ pick index_of pairwise within in_set digit pair_fits pairs_fit short_month days month_of columns_fit all_in head_fits dash comma missing units run amount after costs charge_fits terminal_fits blank country_fits extension_fits rules_of row_in row_of class_of rival_of style_of whole body octets total checksum digits_by decimal hex_digit hex number_from hex_value half seconds coded lamp_word state_word reference currency selector_word selected clock identity moment duration charge terminal display printed line_text line_of kind_line carried_line says_line hex_at number_at pairs_back head_back laid one_back switch_back state_back reference_back moment_back terminal_back back_of read_off back line_in behind value_in row_contents row_says types_of among comes taken kind_in sized closed lined_in message_for relisted answers outcomes
+unfolding ascii ◌≤?◌ ◌=?◌ ◌and◌ ◌or◌ pick index_of pairwise within in_set digit pair_fits pairs_fit short_month days month_of columns_fit all_in head_fits dash comma missing units run amount after costs charge_fits terminal_fits blank country_fits extension_fits rules_of row_in row_of class_of rival_of style_of whole body octets total checksum digits_by decimal hex_digit hex number_from hex_value half seconds coded lamp_word state_word reference currency selector_word selected clock identity moment duration charge terminal display printed line_text line_of kind_line carried_line says_line hex_at number_at pairs_back octets_back laid one_back switch_back state_back reference_back moment_back terminal_back back_of read_off back line_in behind value_in row_contents row_says types_of among comes taken kind_in sized closed lined_in message_for relisted answers outcomes
 claim = record { answered = refl; made = refl }

@@ -11,7 +11,7 @@ ghost use Rattle.rules.specs.Message.{octets};
 ghost use Rattle.listing.specs.Numerals.{hex_value};
 ghost use Rattle.listing.specs.Listing.{row_at, row_count};
 ghost use Rattle.writer.specs.Writing.{output_after};
-ghost use Rattle.relist.specs.Back.{hex_at, number_at, pairs_back, head_back, state_back, reference_back, terminal_back, back_of, read_off};
+ghost use Rattle.relist.specs.Back.{hex_at, number_at, pairs_back, octets_back, state_back, reference_back, terminal_back, back_of, read_off};
 ghost use Rattle.relist.specs.Relist.{line_in, taken, kind_said, closed, message_for, relisted, relisting};
 ghost use Rattle.relist.specs.Reading.{longest_value, read_size, Holds, LineRead, RowRead, LaidBehind, TookRows, Sealed};
 
@@ -26,8 +26,8 @@ const VALUE: usize = 264;
 
 const READ: usize = 274;
 
-// What a value says: the first `length` of ten octets, and then the value itself from `from` on. The array stays with its
-// length beside it: there is no heap, and a slice would have nothing that lends it.
+// What a value says: the first `length` of ten octets, and then the value itself from `from` on. The array stays with
+// its length beside it: there is no heap, and a slice would have nothing that lends it.
 #[derive(Clone, Copy)]
 struct Back {
     octets: [u8; 10],
@@ -102,10 +102,10 @@ fn pairs_back(text: &[u8], n: usize) -> Back
 }
 
 // Octets, and the value from a place on.
-#[tactic(auto, unfolding(crate::specs::Back::head_back, rules::specs::Laying::laid))]
-fn head_back<const N: usize>(head: [u8; N], from: usize) -> Back
+#[tactic(auto, unfolding(crate::specs::Back::octets_back, rules::specs::Laying::laid))]
+fn octets_back<const N: usize>(head: [u8; N], from: usize) -> Back
     requires { N ≤ 10 }
-    ensures { result ≡ head_back head.entry from }
+    ensures { result ≡ octets_back head.entry from }
 {
     let mut octets = [0u8; 10];
     octets[..N].copy_from_slice(&head);
@@ -122,7 +122,7 @@ fn state_back(x: u8, text: &[u8], i: usize) -> Back
     ensures { result ≡ state_back x text.now i }
 {
     let [high, low] = number_at(text, i).to_be_bytes();
-    head_back([x, high, low], text.len())
+    octets_back([x, high, low], text.len())
 }
 
 #[tactic(auto, using(rules::proofs::Telling::telling), unfolding(crate::specs::Back::reference_back))]
@@ -141,9 +141,9 @@ fn terminal_back(text: &[u8]) -> Back
     ensures { result ≡ terminal_back text.now }
 {
     match message::octet(text, 0) {
-        b'c' => head_back([1, hex_at(text, 11)], text.len()),
-        b'n' => head_back([2], 7),
-        _ => head_back([3], 11),
+        b'c' => octets_back([1, hex_at(text, 11)], text.len()),
+        b'n' => octets_back([2], 7),
+        _ => octets_back([3], 11),
     }
 }
 
@@ -153,26 +153,26 @@ fn back_of(class: Class, text: &[u8]) -> Back
     ensures { result ≡ back_of (style_of class) text.now }
 {
     match class {
-        Class::Carried | Class::Unlisted => head_back([], text.len()),
+        Class::Carried | Class::Unlisted => octets_back([], text.len()),
         Class::Number
         | Class::Absent
         | Class::Name
         | Class::ShortText
         | Class::Extension
-        | Class::OldNumber => head_back([], 0),
+        | Class::OldNumber => octets_back([], 0),
         Class::Date => pairs_back(text, 8),
         Class::Moment => pairs_back(text, if text.len() == 14 { 10 } else { 8 }),
         Class::Duration => pairs_back(text, 6),
-        Class::Lamp => head_back([if text.len() == 2 { 0xFF } else { 0 }], text.len()),
+        Class::Lamp => octets_back([if text.len() == 2 { 0xFF } else { 0 }], text.len()),
         Class::Identity => reference_back(text),
-        Class::Waiting => head_back([(number_at(text, 0) % 256) as u8], text.len()),
+        Class::Waiting => octets_back([(number_at(text, 0) % 256) as u8], text.len()),
         Class::CallType
         | Class::Forwarded
         | Class::User
         | Class::Service
         | Class::OldForwarded
-        | Class::OldUser => head_back([hex_at(text, 0)], text.len()),
-        Class::Charge => head_back(
+        | Class::OldUser => octets_back([hex_at(text, 0)], text.len()),
+        Class::Charge => octets_back(
             [
                 message::octet(text, 0),
                 message::octet(text, 1),
@@ -182,7 +182,7 @@ fn back_of(class: Class, text: &[u8]) -> Back
             7,
         ),
         Class::Terminal => terminal_back(text),
-        Class::Display => head_back([hex_at(text, 0)], 3),
+        Class::Display => octets_back([hex_at(text, 0)], 3),
     }
 }
 

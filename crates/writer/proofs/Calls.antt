@@ -1,6 +1,6 @@
 -- What a caller makes of what a callee found: of a part of the text area, of how the entries went.
 -- Assumes nothing.
-use Rattle.std.proofs.Common.{◌≡◌, ℕ, ◌+◌, ◌-◌, ◌<◌, ◌≤◌, List, ◌++◌, length, take, drop, sym, ap, ◌∙◌, ap₂, arith, length-take-le, length-append, length-drop, Result, Ok, Bool, T, ◌⊎◌, inl, inr, Option, Some, None}
+use Rattle.std.proofs.Common.{◌≡◌, ℕ, ◌+◌, ◌-◌, ◌<◌, ◌≤◌, List, ◌++◌, length, take, drop, sym, ap, ◌∙◌, arith, length-take-le, length-append, length-drop, Result, Ok, Bool, T, ◌⊎◌, inl, inr, Some, None}
 use Rattle.rules.specs.Message.{most}
 use Rattle.rules.specs.Tests.{◌≤?◌, ◌=?◌, ◌and◌, pick}
 use Rattle.rules.proofs.Tests.{decide, both, le_of, pick_not}

@@ -1,6 +1,6 @@
 -- What the judging of contents in two parts needs, an octet or more and a text.
 -- Assumes nothing.
-use Rattle.std.proofs.Common.{◌≡◌, ℕ, Bool, false, ◌+◌, ◌-◌, ◌<◌, ◌≤◌, List, [], ◌∷◌, ◌++◌, length, take, drop, sym, refl, ap, ◌∙◌, append-nil, arith, length-append, take_at}
+use Rattle.std.proofs.Common.{◌≡◌, ℕ, Bool, false, ◌+◌, ◌-◌, ◌<◌, ◌≤◌, List, ◌++◌, length, take, drop, ap, ◌∙◌, arith, length-append, take_at}
 use Rattle.rules.specs.Laying.{laid}
 use Rattle.rules.specs.declared.Class.{Class}
 use Rattle.contents.proofs.Fitting.{too_long}

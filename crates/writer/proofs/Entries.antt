@@ -1,7 +1,7 @@
 -- What the loop over the entries needs: those before i are legal and take the octets counted, so those from i on
 -- decide.
 -- Assumes nothing.
-use Rattle.std.proofs.Common.{◌≡◌, ℕ, ◌+◌, ◌<◌, ◌≤◌, List, ◌∷◌, length, get_or, take, drop, sym, ap, ◌∙◌, add-one, arith, drop_of_length-le, drop-cons, Option, Some, None, Ok, Err, T, ◌⊎◌, inl, inr}
+use Rattle.std.proofs.Common.{◌≡◌, ℕ, ◌+◌, ◌<◌, ◌≤◌, List, ◌∷◌, length, get_or, drop, sym, ap, ◌∙◌, add-one, arith, drop_of_length-le, drop-cons, Option, Some, None, Ok, Err, T, ◌⊎◌, inl, inr}
 use Rattle.rules.specs.Tests.{pick}
 use Rattle.rules.proofs.Tests.{decide, both, pick_yes, pick_not}
 use Rattle.rules.proofs.Telling.{pick_tells}

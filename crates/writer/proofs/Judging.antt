@@ -1,15 +1,14 @@
 -- Entries judged by the octets that would be written for them are judged by the writer's rule.
 -- Assumes nothing.
-use Rattle.std.proofs.Common.{◌≡◌, ℕ, zero, suc, ◌+◌, ◌-◌, ◌<◌, ◌≤◌, Bool, true, false, T, ◌⊎◌, List, [], ◌∷◌, ◌++◌, length, take, drop, sym, refl, ap, ◌∙◌, subst, ap₂, inl, inr, arith, length-append, Result, Ok, Err, replicate}
+use Rattle.std.proofs.Common.{◌≡◌, ℕ, zero, suc, ◌+◌, ◌<◌, ◌≤◌, Bool, true, false, T, ◌⊎◌, List, [], ◌∷◌, ◌++◌, length, take, drop, sym, refl, ap, ◌∙◌, subst, inl, inr, arith, length-append, Result, Ok, Err, replicate}
 use lib.Seq.{take-append_seam}
 use Rattle.rules.specs.Tests.{◌≤?◌, ◌=?◌, ◌and◌, pick}
-use Rattle.rules.proofs.Tests.{decide, both, le_of, of_le, eq_of, of_eq, pick_yes, pick_not}
+use Rattle.rules.proofs.Tests.{decide, le_of, of_le, pick_yes, pick_not}
 use Rattle.rules.specs.Table.{Rules, class_of, form_of, contents_fit}
 use Rattle.rules.specs.Laying.{laid}
-use Rattle.rules.proofs.ContentLaw.{lawful}
 use Rattle.rules.specs.Message.{body}
-use Rattle.draft.specs.Meaning.{form_number, kind_of, form_is, tens, ones, seconds_said, spelled}
-use Rattle.draft.specs.Draft.{meaning_of, inside, parameter_of, parameters_of, used}
+use Rattle.draft.specs.Meaning.{form_number, kind_of, form_is, seconds_said, spelled}
+use Rattle.draft.specs.Draft.{meaning_of, parameter_of, parameters_of, used}
 use Rattle.draft.specs.Same.{flat_of}
 use Rattle.draft.proofs.Alike.{inside_flat}
 use Rattle.draft.specs.declared.Value.{Value}

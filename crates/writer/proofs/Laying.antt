@@ -1,14 +1,13 @@
 -- What laying down needs: a copy behind two octets, a parameter behind those before it in the output's rest, the
 -- checksum behind them all.
 -- Assumes nothing.
-use Rattle.std.proofs.Common.{◌≡◌, ℕ, zero, suc, ◌+◌, ◌-◌, ◌%◌, ◌<◌, ◌≤◌, T, List, [], ◌∷◌, ◌++◌, length, get_or, take, drop, set, sym, refl, ap, ◌∙◌, ap₂, append_assoc, append-nil, add-one, arith, length-append, length-drop, length-set, take-append-drop, length-take, length-take-le, take_all, drop-cons, take-suc, take-take, drop-drop, take_at}
+use Rattle.std.proofs.Common.{◌≡◌, ℕ, zero, suc, ◌+◌, ◌-◌, ◌%◌, ◌<◌, ◌≤◌, T, List, [], ◌∷◌, ◌++◌, length, get_or, take, drop, set, sym, refl, ap, ◌∙◌, ap₂, append_assoc, append-nil, add-one, arith, length-append, length-drop, length-set, take-append-drop, length-take, length-take-le, take_all, drop-cons, take-suc, drop-drop, take_at}
 use lib.Seq.{set-append_seam}
 use borrow.Rule.Slice.PartMut.{put_mid, mid_of, same_len_mid}
 use Rattle.rules.specs.Tests.{every}
 use Rattle.rules.proofs.Tests.{both, le_of}
 use Rattle.rules.specs.Octets.{total, checksum}
-use Rattle.rules.proofs.Octets.{total-append}
-use Rattle.rules.specs.Message.{Message, body, front, octets, most}
+use Rattle.rules.specs.Message.{Message, body, front, octets}
 use Rattle.rules.specs.Laying.{laid, laid_at}
 use Rattle.rules.proofs.Laying.{laid_then, rest_laid, part_is, part_over}
 use Rattle.draft.specs.Draft.{inside, all_inside, parameter_of, parameters_of, used, message_of}
@@ -241,7 +240,8 @@ checksum_is : (n sum r : ℕ) → sum ≡ n % 256 → r < 256 → (r + sum) % 25
 unfolding checksum
 checksum_is n sum r e l q = omega arith
 
-pub set_behind : (v old : List ℕ) (x : ℕ) → length v < length old → set (laid v old) (length v) x ≡ laid (v ++ x ∷ []) old
+pub set_behind : (v old : List ℕ) (x : ℕ) → length v < length old →
+    set (laid v old) (length v) x ≡ laid (v ++ x ∷ []) old
 unfolding laid
 set_behind v old x h =
     let d = drop-cons old (length v) 0 h in

@@ -150,7 +150,8 @@ module _ (book : Book) where
         made_is _ a m (pick_not _ _ _ (λ t. omega (arith, le_of _ _ t))
         ∙ pick_not _ _ _ (λ t. omega (arith, le_of _ _ t)))
 
-    pub answer_iff : (x : Result ℕ Fault) → (x ≡ write_of (rules_of book) d texts room) ↔ Went (rules_of book) d texts room x
+    pub answer_iff : (x : Result ℕ Fault) →
+        (x ≡ write_of (rules_of book) d texts room) ↔ Went (rules_of book) d texts room x
     answer_iff x = (λ e. subst (Went (rules_of book) d texts room) (sym e) reason, answer x)
 
   apart : (a b : Told) → a ≡ b → (a.number ≡ b.number → ⊥) → ⊥
@@ -252,7 +253,8 @@ module _ (book : Book) where
     over w e (inl h) = given w e _ (many_entries h.0 h.1)
     over w e (inr h) = given w e _ (too_long h.0 h.1.0 h.1.1)
 
-    pub answers : (w : Result ℕ Fault) → w ≡ write_of (rules_of book) d texts room → Answers (rules_of book) d texts room w
+    pub answers : (w : Result ℕ Fault) → w ≡ write_of (rules_of book) d texts room →
+        Answers (rules_of book) d texts room w
     unfolding told
     answers w e =
         let r = (answer_iff d texts room w).0 e in

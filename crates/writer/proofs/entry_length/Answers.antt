@@ -1,6 +1,6 @@
 -- `writer::entry_length` meets its contract: the kind of value, and then the contents.
 -- Assumes nothing.
-use Rattle.std.proofs.Common.{◌≡◌, refl, arith}
+use Rattle.std.proofs.Common.{refl, arith}
 use Rattle.rules.proofs.Laying.{part_is}
 use Rattle.rules.proofs.Telling.{telling}
 use Rattle.writer.proofs.Judging.{head_few, padded_take, padded_long}

@@ -1,8 +1,7 @@
 -- `writer::judge` meets its contract: of the entries it answers what came of measuring them.
 -- Assumes nothing.
-use Rattle.std.proofs.Common.{◌≡◌, length, sym, ap, ◌∙◌, Err, arith, rules}
+use Rattle.std.proofs.Common.{sym, ap, ◌∙◌, Err, arith, rules}
 use Rattle.std.proofs.lemmas.Result.{err_from_is_err_and}
-use Rattle.rules.specs.Message.{most}
 use Rattle.rules.proofs.Telling.{telling}
 use Rattle.writer.specs.Writing.{write_of}
 use Rattle.writer.proofs.Judging.{on_measure}

@@ -1,6 +1,5 @@
 -- `writer::laid_fit` meets its contract: what is too long fits nowhere; else the octets laid down are judged.
 -- Assumes nothing.
-use Rattle.std.proofs.Common.{sym, arith, length-take-le}
 use Rattle.writer.proofs.Contents.{both_there, both_long}
 use Rattle.writer.proofs.laid_fit.Goals as goal
 

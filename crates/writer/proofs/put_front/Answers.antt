@@ -1,7 +1,7 @@
 -- `writer::put_front` meets its contract. The loop's invariant: i entries are laid down behind the first two octets
 -- of the output. The measure is what is left.
 -- Assumes nothing.
-use Rattle.std.proofs.Common.{arith, rules, length-set}
+use Rattle.std.proofs.Common.{arith, length-set}
 use Rattle.draft.specs.declared.Entry.{Entry}
 use Rattle.draft.specs.declared.Value.TheVariants.{Date}
 use Rattle.writer.proofs.Laying.{wrote_none, wrote_length, wrote_room, wrote_small, wrote_asked, wrote_more, wrote_end}
