@@ -9,7 +9,6 @@ use Rattle.rules.specs.First.{index_of}
 use Rattle.rules.specs.Tests.{◌≤?◌, ◌and◌}
 use Rattle.rules.proofs.Tests.{clash}
 use Rattle.rules.proofs.Returns.{pick_t, pick_f, and_t, yes_le, same_truth}
-use Rattle.rules.proofs.Telling.{eq_is, telling}
 use Rattle.rules.specs.Table.{Rules, Row, rules_of, class_of, rival_of, style_of}
 use Rattle.rules.specs.declared.Class.{Class}
 use Rattle.rules.specs.declared.Book.TheVariants.{PresentLenient}
@@ -25,7 +24,7 @@ use Rattle.std.specs.List.{position, position_or_len, list_any}
 use Rattle.std.specs.Bool.{◌==◌}
 use Rattle.std.specs.Option.{unwrap_or}
 use Rattle.std.proofs.lemmas.Grind.{common_steps}
-use Rattle.relist.proofs.Text.{line_split}
+use Rattle.relist.proofs.Text.{line_split, among_is}
 use Rattle.relist.proofs.Said.{says_fit, says_text}
 
 -- ---- a place that `position` finds, or that it finds none
@@ -37,12 +36,6 @@ no_place p l e = sym (placed p l) ∙ ap (λ (x : Option ℕ). unwrap_or x (leng
 
 place_in : (p : ℕ → Bool) (l : List ℕ) (i : ℕ) → position p l ≡ Some i → i < length l
 place_in p l i e = grind (arith, common_steps, e)
-
--- a type is among others where one is it
-among_is : (u : ℕ) (ks : List ℕ) → among u ks ≡ list_any (λ (x : ℕ). eqb x u) ks
-unfolding among index_of
-among_is u [] = grind (arith, telling)
-among_is u (k ∷ ks) = grind (arith, telling, eq_is k u, among_is u ks)
 
 -- ---- a line by its places
 module _ (t : List ℕ) (at : ℕ) (i : at ≤ length t) where

@@ -5,11 +5,13 @@ use Rattle.std.proofs.Common.{◌≡◌, ℕ, suc, Bool, true, false, T, eqb, �
 use lib.Seq.{take-append_seam, drop-append_seam}
 use lib.Dec.{eqb_refl}
 use Rattle.rules.specs.First.{index_of}
-use Rattle.rules.specs.Tests.{◌≤?◌, ◌=?◌, pick}
+use Rattle.rules.specs.Tests.{◌≤?◌, ◌=?◌, ◌or◌, pick}
 use Rattle.rules.proofs.Tests.{every_head, every_tail, le_of, eq_of}
 use Rattle.rules.proofs.Returns.{holds}
+use Rattle.rules.proofs.Telling.{eq_is, telling}
+use Rattle.std.specs.List.{list_any}
 use Rattle.listing.proofs.Characters.{plain}
-use Rattle.relist.specs.Relist.{line_in, behind}
+use Rattle.relist.specs.Relist.{line_in, behind, among}
 use Rattle.relist.specs.Sentences.{Unended}
 
 -- ---- octets before the first of one
@@ -108,3 +110,15 @@ plain_unended (x ∷ l) p = go (eqb x 0x0A) refl (plain_unended l (every_tail (�
               (every_head (λ (x : ℕ). 0x20 ≤? x) x l p),
         ))
     go false e u = rw (sym e) (ap suc u)
+
+-- ---- a type among others
+-- it is the first of them, or among the later ones
+pub among_cons : (u k : ℕ) (ks : List ℕ) → among u (k ∷ ks) ≡ ((k =? u) or among u ks)
+unfolding among index_of
+among_cons u k ks = grind (arith, telling)
+
+-- one of them is it
+pub among_is : (u : ℕ) (ks : List ℕ) → among u ks ≡ list_any (λ (x : ℕ). eqb x u) ks
+unfolding among index_of
+among_is u [] = grind (arith, telling)
+among_is u (k ∷ ks) = grind (arith, telling, eq_is k u, among_is u ks)
