@@ -15,7 +15,6 @@ use rules::{Fault, Form, MOST};
 use std::io;
 use std::io::{Read, Write};
 use walker::{Stepped, Walker};
-use writer::Written;
 
 // The most octets that a message has, and the most that its texts have (document 01, The message).
 const LONGEST: usize = 258;
@@ -222,13 +221,13 @@ fn say_write(
     let edition = writing.edition;
     let answer = writing.answer;
     match answer {
-        Written::Message { size } => {
+        Ok(size) => {
             let n = size as usize;
             if n <= LONGEST {
                 say_written(out, way, edition, message, draft, texts, &area[..n])?;
             }
         }
-        Written::Declined { fault } => {
+        Err(fault) => {
             say_fault(out, b"write ", fault)?;
             say_edition(out, edition)?;
         }

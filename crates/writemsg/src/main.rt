@@ -8,7 +8,6 @@ use draft::{Draft, Entry, Value};
 use rules::Fault;
 use std::io;
 use std::io::Write;
-use writer::Written;
 
 fn digit(n: u8) -> u8 {
     if n < 10 { 48 + n } else { 55 + n % 16 }
@@ -44,13 +43,13 @@ fn show_in(
     let writing = writer::write(way, d, texts, area);
     let answer = writing.answer;
     match answer {
-        Written::Message { size } => {
+        Ok(size) => {
             let n = size as usize;
             if n <= area.len() {
                 print_octets(out, &area[..n])?;
             }
         }
-        Written::Declined { fault } => print_fault(out, fault)?,
+        Err(fault) => print_fault(out, fault)?,
     }
     print_edition(out, writing.edition)
 }
