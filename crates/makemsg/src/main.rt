@@ -6,7 +6,6 @@
 use rules::Fault;
 use std::io;
 use std::io::Write;
-use writer::Written;
 
 // The most octets that are read of a listing, and the most that a message has (document 01, The message).
 const TEXT: usize = 8192;
@@ -23,11 +22,11 @@ fn make(out: &mut impl Write, text: &[u8]) -> io::Result<()> {
     let writing = relist::message_of(text, &mut message);
     let answer = writing.answer;
     match answer {
-        Written::Message { size } => {
+        Ok(size) => {
             let n = size as usize;
             out.write_all(&message[..n])
         }
-        Written::Declined { fault } => say_fault(out, fault),
+        Err(fault) => say_fault(out, fault),
     }
 }
 

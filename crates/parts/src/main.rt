@@ -14,7 +14,6 @@ use std::io;
 use std::io::{Read, Write};
 use streams::Hex;
 use walker::Stepped;
-use writer::Written;
 
 // The most octets that a message has, and the most that its texts have (document 01, The message).
 const LONGEST: usize = 258;
@@ -182,13 +181,13 @@ fn say_write(out: &mut impl Write, case: Case<'_>, draft: Draft, texts: &[u8]) -
     let edition = writing.edition;
     let answer = writing.answer;
     match answer {
-        Written::Message { size } => {
+        Ok(size) => {
             let n = size as usize;
             if n <= LONGEST {
                 say_written(out, case, edition, draft, texts, &area[..n])?;
             }
         }
-        Written::Declined { fault } => {
+        Err(fault) => {
             say_fault(out, "write ", fault)?;
             say_edition(out, edition)?;
         }

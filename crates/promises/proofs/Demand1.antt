@@ -13,7 +13,7 @@ use mathlib.Core.Bool.{Bool}
 use mathlib.Core.Logic.{◌⊎◌, inl, inr, ◌↔◌}
 use mathlib.Core.List.{List}
 use mathlib.Core.Option.{Option, none, some}
-use Rattle.std.proofs.Common.{Result, Ok, Err}
+use Rattle.std.proofs.Common.{Result, Ok, Err, ℕ}
 use native.Mathlib.Omega.{arith}
 use lib.ListN.{length, get_or}
 use lib.Dec.{T}
@@ -56,9 +56,7 @@ use Rattle.reader.specs.Told.{told}
 use Rattle.reader.specs.Reads.{read_number, Reads}
 use Rattle.reader.proofs.Area.{refused_fitting}
 use Rattle.reader.proofs.Promised as reader
-use Rattle.writer.specs.declared.Writing.{Writing}
-use Rattle.writer.specs.declared.Written.{Written}
-use Rattle.writer.specs.declared.Written.TheVariants.{Declined}
+use Rattle.writer.specs.Writing.{Writing}
 use Rattle.writer.specs.Reasons.{Went, kind_is_none, no_entries, many_entries, bad_entry, too_long, too_tight, fits}
 use Rattle.writer.proofs.Reasons.{answer_iff}
 use Rattle.writer.proofs.Promised as writer
@@ -232,28 +230,28 @@ fits_refuses b o old w h q f e =
 
 -- a listing that comes back: 61, 62 or 15, in no parameter, and the output stays
 pub message_of_refuses : (t old : List ℕ) (w : Writing) (out : List ℕ) → relist.MessageOfGives t old w out →
-    (f : Fault) → w.answer ≡ Declined f →
+    (f : Fault) → w.answer ≡ Err f →
     (((f.number ≡ 61) ⊎ (f.number ≡ 62) ⊎ (f.number ≡ 15)) × (f.parameter ≡ 0)) × (out ≡ old)
 message_of_refuses t old w out h f e = relist.refuses t old w out h f e
 
 -- the writer: 11 to 15, in no parameter; or 16 at 0, where the draft's edition or the way is unknown; the output stays
 pub write_refuses : (w : ℕ) (d : Draft) (t old : List ℕ) (r : Writing) (out : List ℕ) →
-    writer.WriteGives w d t old r out → (f : Fault) → r.answer ≡ Declined f →
+    writer.WriteGives w d t old r out → (f : Fault) → r.answer ≡ Err f →
     ((T (known d.edition w) × From 11 15 f.number × (f.parameter ≡ 0)) ⊎ Unknown d.edition w f)
     × (out ≡ old)
 write_refuses w d t old r out h f e = go (decide (known d.edition w))
   where
-    fault_of : (x y : Fault) → Declined x ≡ Declined y → x ≡ y
+    fault_of : (x y : Fault) → ◌≡◌ {A = Result ℕ Fault} (Err x) (Err y) → x ≡ y
     fault_of x y z = cc
 
-    of_noted : (k p : ℕ) → Declined (noted k p) ≡ Declined f → 11 ≤ k → k ≤ 15 →
+    of_noted : (k p : ℕ) → ◌≡◌ {A = Result ℕ Fault} (Err (noted k p)) (Err f) → 11 ≤ k → k ≤ 15 →
         From 11 15 f.number × (f.parameter ≡ 0)
     of_noted k p z a c =
         let y = fault_of _ _ z in
         let n = ap (λ (v : Fault). v.number) y in
         ((omega arith, omega arith), sym (ap (λ (v : Fault). v.parameter) y))
 
-    went : (x : Written) → Went (rules_of (writer.book_for d w)) d t (length old) x → x ≡ Declined f →
+    went : (x : Result ℕ Fault) → Went (rules_of (writer.book_for d w)) d t (length old) x → x ≡ Err f →
         From 11 15 f.number × (f.parameter ≡ 0)
     went x (kind_is_none n) z = of_noted _ _ z (omega arith) (omega arith)
     went x (no_entries k n) z = of_noted _ _ z (omega arith) (omega arith)

@@ -35,9 +35,8 @@ use Rattle.reader.specs.declared.Reading.{Reading}
 use Rattle.reader.specs.Reads.{texts, ReadsBy}
 use Rattle.reader.proofs.Promised as reader
 use Rattle.reader.proofs.Told.{drafted_as}
-use Rattle.writer.specs.declared.Writing.{Writing}
+use Rattle.writer.specs.Writing.{Writing}
 use Rattle.writer.specs.Told as tells
-use Rattle.writer.specs.declared.Written.TheVariants as written
 use Rattle.writer.specs.Reasons.{WritesBy}
 use Rattle.writer.proofs.Promised as writer
 use Rattle.listing.specs.declared.ListingText.{ListingText}
@@ -181,7 +180,7 @@ module _ (w : ℕ) (d : Draft) (area to : List ℕ) (x : Writing) (out : List �
   Back v =
       T (known v w) → LegalMessage (rules_of (book_of v w)) m → d ≡ draft_of (rules_of (book_of v w)) m →
       (rest : List ℕ) → area ≡ texts (rules_of (book_of v w)) m ++ rest →
-      (x.answer ≡ written.Message (length (octets m))) × (out ≡ laid (octets m) to)
+      (x.answer ≡ Ok (length (octets m))) × (out ≡ laid (octets m) to)
 
   back : (e : ℕ) → d.edition ≡ e → Back e
   back e z = subst Back z (λ t l q rest y. writer.writes_back w d area to x out k t m l rest q y p)
@@ -193,7 +192,7 @@ pub read_written : (e w : ℕ) → T (known e w) → (o old : List ℕ) (r : Rea
     (to : List ℕ) (x : Writing) (out : List ℕ) → writer.WriteGives w r.draft area to x out →
     (m : Message) → LegalMessage (rules_of (book_of e w)) m → octets m ≡ o →
     length (texts (rules_of (book_of e w)) m) ≤ length old → length o ≤ length to →
-    (x.answer ≡ written.Message (length o)) × (out ≡ laid o to)
+    (x.answer ≡ Ok (length o)) × (out ≡ laid o to)
 read_written e w t o old r area h to x out k m l q n p =
     let i = (unique_in (book_of e w)).octets o (m, l, q) in
     let g = drafted_as (reader.reads e w o old r area h t i) m l q n in
@@ -202,12 +201,12 @@ read_written e w t o old r area h to x out k m l q n p =
     ((reader.reading e w o old r area h i).names t).1 t l (ap (λ (y : Reading). y.draft) g.0)
     (drop (length (texts (rules_of (book_of e w)) m)) old)
     (g.1 ∙ laid_area (texts (rules_of (book_of e w)) m) old) in
-    (z.0 ∙ ap (λ (v : List ℕ). written.Message (length v)) q, z.1 ∙ ap (λ (v : List ℕ). laid v to) q)
+    (z.0 ∙ ap (λ (v : List ℕ). Ok (length v)) q, z.1 ∙ ap (λ (v : List ℕ). laid v to) q)
 
 -- a draft that the writer takes, written and read again by its edition and one way with room for its texts, is the
 -- same draft
 pub written_read : (w : ℕ) (d : Draft) (t old : List ℕ) (x : Writing) (n : ℕ) (out : List ℕ) →
-    T (known d.edition w) → writer.WriteGives w d t old x out → x.answer ≡ written.Message n →
+    T (known d.edition w) → writer.WriteGives w d t old x out → x.answer ≡ Ok n →
     (before : List ℕ) (r : Reading) (area : List ℕ) →
     reader.ReadGives d.edition w (take n out) before r area →
     length (texts (rules_of (book_of d.edition w)) (message_of d t)) ≤ length before →

@@ -44,7 +44,7 @@ use Rattle.draft.proofs.Promised as draft
 use Rattle.reader.specs.declared.Reading.{Reading}
 use Rattle.reader.specs.Told as read
 use Rattle.reader.proofs.Promised as reader
-use Rattle.writer.specs.declared.Writing.{Writing}
+use Rattle.writer.specs.Writing.{Writing}
 use Rattle.writer.specs.Told as written
 use Rattle.writer.proofs.Promised as writer
 use Rattle.desk.specs.declared.Desk.{Desk}

@@ -41,7 +41,7 @@ use Rattle.draft.specs.Meaning.{kind_of, form_is, tens, ones, seconds_said, spel
 use Rattle.draft.specs.Draft.{meaning_of, inside, parameter_of, parameters_of, message_of}
 use Rattle.draft.specs.declared.Value.TheVariants.{Date, Moment, Marked}
 use Rattle.draft.specs.declared.Draft.{Draft}
-use Rattle.writer.specs.declared.Writing.{Writing}
+use Rattle.writer.specs.Writing.{Writing}
 use Rattle.writer.specs.Told.{Told, told, success, refusal}
 use Rattle.writer.specs.Writing.{legal_entry, legal_before, sized, measured_of, write_of, write_in}
 use Rattle.writer.specs.Rows.{one}

@@ -52,7 +52,7 @@ use Rattle.reader.specs.Told as read
 use Rattle.reader.specs.Reads.{read_number, Reads, ReadsBy}
 use Rattle.reader.proofs.Promised as reader
 use Rattle.reader.proofs.Ways.{same_read, same_area_in}
-use Rattle.writer.specs.declared.Writing.{Writing}
+use Rattle.writer.specs.Writing.{Writing}
 use Rattle.writer.specs.Told as written
 use Rattle.writer.specs.Reasons.{Makes, entry_at, Asked, Writes}
 use Rattle.writer.proofs.Promised as writer

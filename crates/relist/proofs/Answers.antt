@@ -1,6 +1,6 @@
 -- What is answered to any text, over the sentences: each answer exactly where they say so; and they allow one outcome.
 -- Assumes nothing.
-use Rattle.std.proofs.Common.{◌≡◌, ℕ, suc, ◌+◌, ◌<◌, ◌≤◌, T, ◌⊎◌, List, ◌++◌, length, take, drop, sym, refl, ap, ◌∙◌, subst, ap₂, inl, inr, arith, take-append-drop, take_at, drop_at}
+use Rattle.std.proofs.Common.{◌≡◌, ℕ, suc, ◌+◌, ◌<◌, ◌≤◌, T, ◌⊎◌, List, ◌++◌, length, take, drop, sym, refl, ap, ◌∙◌, subst, ap₂, inl, inr, arith, take-append-drop, take_at, drop_at, Result, Ok, Err}
 use Rattle.rules.specs.Tests.{◌≤?◌}
 use Rattle.rules.proofs.Tests.{decide, le_of, not_le, of_le, pick_yes, pick_not, clash}
 use Rattle.rules.specs.Message.{Message, body, octets, Accepts}
@@ -8,9 +8,7 @@ use Rattle.rules.proofs.Sizes.{octets-length}
 use Rattle.rules.specs.Laying.{laid}
 use Rattle.rules.specs.Refusals.{noted}
 use Rattle.rules.specs.declared.Fault.{Fault}
-use Rattle.writer.specs.declared.Written.{Written}
-use Rattle.writer.specs.declared.Written.TheVariants.{Message as Wrote, Declined}
-use Rattle.writer.specs.declared.Writing.{Writing}
+use Rattle.writer.specs.Writing.{Writing}
 use Rattle.writer.specs.Writing.{sized, unwritten, output_after}
 use Rattle.writer.specs.Told.{Told, told, success}
 use Rattle.writer.proofs.Told.{unwritten_is, message_is}
@@ -22,19 +20,19 @@ use Rattle.relist.proofs.One.{spoilt_valid, spoilt_one, says_one}
 use Rattle.relist.proofs.RoundTrips.{said_accepted}
 
 -- ---- answers told apart
-abbrev number_of : Written → ℕ
-number_of (Wrote n) = 0
-number_of (Declined f) = f.number
+abbrev number_of : Result ℕ Fault → ℕ
+number_of (Ok n) = 0
+number_of (Err f) = f.number
 
-abbrev value_of : Written → ℕ
-value_of (Wrote n) = n
-value_of (Declined f) = f.place
+abbrev value_of : Result ℕ Fault → ℕ
+value_of (Ok n) = n
+value_of (Err f) = f.place
 
 -- ---- what a valid listing is answered
 data Fit (l room : ℕ) : Type 0 where
   over : 256 ≤ l → sized 62 l room ≡ unwritten 62 0 → Fit l room
   short : l ≤ 255 → room < l + 3 → sized 62 l room ≡ unwritten 15 (l + 3) → Fit l room
-  fits : l ≤ 255 → l + 3 ≤ room → sized 62 l room ≡ Wrote (l + 3) → Fit l room
+  fits : l ≤ 255 → l + 3 ≤ room → sized 62 l room ≡ Ok (l + 3) → Fit l room
 
 fit : (l room : ℕ) → Fit l room
 unfolding sized
@@ -50,7 +48,7 @@ fit l room = go (decide (256 ≤? l)) (decide (suc room ≤? l + 3))
         (pick_not _ _ _ a ∙ pick_not _ _ _ b)
 
 module _ (t : List ℕ) (room : ℕ) where
-  abbrev answer : Written
+  abbrev answer : Result ℕ Fault
   answer = relisted R t room
 
   -- ---- 61
@@ -95,7 +93,7 @@ module _ (t : List ℕ) (room : ℕ) where
         says_answer m t s room ∙ pick_not _ _ _ (λ x. let z = le_of _ _ x in omega arith)
         ∙ pick_yes _ _ _ (of_le _ _ (let z : suc room ≤ l + 3 = omega arith in z))
 
-    is_message : l ≤ 255 → l + 3 ≤ room → answer ≡ Wrote (l + 3)
+    is_message : l ≤ 255 → l + 3 ≤ room → answer ≡ Ok (l + 3)
     unfolding sized
     is_message h g =
         says_answer m t s room ∙ pick_not _ _ _ (λ x. let z = le_of _ _ x in omega arith)
@@ -123,7 +121,7 @@ module _ (t : List ℕ) (room : ℕ) where
           let z = ap value_of (sym e ∙ is_15 m s h g) in (m, s, h, z ∙ sym (octets-length m), omega arith)
       go m s (fits h g q) = absurd (omega (arith, ap number_of (sym e ∙ is_message m s h g)))
 
-  to_message : (n : ℕ) → answer ≡ Wrote n →
+  to_message : (n : ℕ) → answer ≡ Ok n →
       (m : Message) × Says R m t × (length (body m.parameters) ≤ 255) × (n ≡ length (octets m)) × (n ≤ room)
   to_message n e = let w = said (λ x. absurd (omega (arith, sym x ∙ ap number_of e))) in go w.0 w.1 (fit _ room)
     where
@@ -152,7 +150,7 @@ module _ (t : List ℕ) (room : ℕ) where
 abbrev pub Refusal : Fault → Type 0
 Refusal f = ((f.number ≡ 61) ⊎ (f.number ≡ 62) ⊎ (f.number ≡ 15)) × (f.parameter ≡ 0)
 
-pub refusals : (t : List ℕ) (room : ℕ) (f : Fault) → relisted R t room ≡ Declined f → Refusal f
+pub refusals : (t : List ℕ) (room : ℕ) (f : Fault) → relisted R t room ≡ Err f → Refusal f
 refusals t room f e = go (reads t room)
   where
     is : (k p : ℕ) → relisted R t room ≡ unwritten k p → (k ≡ 61) ⊎ (k ≡ 62) ⊎ (k ≡ 15) → Refusal f
@@ -168,46 +166,46 @@ refusals t room f e = go (reads t room)
     go (valid m s) = of_fit m s (fit _ room)
     go (spoilt j q s) = is 61 j q (inl refl)
 
-number-told : (w : Written) → (told w).number ≡ number_of w
+number-told : (w : Result ℕ Fault) → (told w).number ≡ number_of w
 unfolding told
-number-told (Wrote n) = refl
-number-told (Declined f) = refl
+number-told (Ok n) = refl
+number-told (Err f) = refl
 
-that_size : (w : Written) (n k : ℕ) → w ≡ Wrote k → told w ≡ success n → w ≡ Wrote n
+that_size : (w : Result ℕ Fault) (n k : ℕ) → w ≡ Ok k → told w ≡ success n → w ≡ Ok n
 unfolding told
-that_size w n k q e = q ∙ ap Wrote (ap (λ (a : Told). a.size) (sym (ap told q) ∙ e))
+that_size w n k q e = q ∙ ap Ok (ap (λ (a : Told). a.size) (sym (ap told q) ∙ e))
 
-no_size : (w : Written) (n k p : ℕ) → 1 ≤ k → w ≡ unwritten k p → told w ≡ success n → w ≡ Wrote n
+no_size : (w : Result ℕ Fault) (n k p : ℕ) → 1 ≤ k → w ≡ unwritten k p → told w ≡ success n → w ≡ Ok n
 unfolding told
 no_size w n k p h q e = absurd (omega (arith, ap (λ (a : Told). a.number) (sym (ap told q) ∙ e)))
 
 -- with a refusal the output stays
-kept : (w : Written) (o old : List ℕ) → 1 ≤ (told w).number → output_after w o old ≡ old
+kept : (w : Result ℕ Fault) (o old : List ℕ) → 1 ≤ (told w).number → output_after w o old ≡ old
 unfolding told output_after
-kept (Wrote n) o old h = absurd (omega arith)
-kept (Declined f) o old h = refl
+kept (Ok n) o old h = absurd (omega arith)
+kept (Err f) o old h = refl
 
 -- ---- all of it
 module _ (t old : List ℕ) where
   abbrev room : ℕ
   room = length old
 
-  abbrev given : Written
+  abbrev given : Result ℕ Fault
   given = relisted R t room
 
   abbrev new : List ℕ
   new = output_after given (octets (message_for R t)) old
 
   -- a size is that of a message
-  a_message : (n : ℕ) → told given ≡ success n → given ≡ Wrote n
+  a_message : (n : ℕ) → told given ≡ success n → given ≡ Ok n
   a_message n e = go (reads t room)
     where
-      of_fit : (m : Message) → Says R m t → Fit (length (body m.parameters)) room → given ≡ Wrote n
+      of_fit : (m : Message) → Says R m t → Fit (length (body m.parameters)) room → given ≡ Ok n
       of_fit m s (over x q) = no_size given n 62 0 (omega arith) (is_62 t room m s x) e
       of_fit m s (short x g q) = no_size given n 15 _ (omega arith) (is_15 t room m s x g) e
       of_fit m s (fits x g q) = that_size given n _ (is_message t room m s x g) e
 
-      go : Read t room → given ≡ Wrote n
+      go : Read t room → given ≡ Ok n
       go (valid m s) = of_fit m s (fit _ room)
       go (spoilt j q s) = no_size given n 61 j (omega arith) q e
 
@@ -220,7 +218,7 @@ module _ (t old : List ℕ) where
       let l : length (body m.parameters) ≤ 255 =
       subst (λ (x : Message). length (body x.parameters) ≤ 255) (says_one t w.0 m w.1 s) w.2 in
       let q : new ≡ octets m ++ drop (length (octets m)) old =
-      ap (λ (w : Written). output_after w (octets (message_for R t)) old) g
+      ap (λ (w : Result ℕ Fault). output_after w (octets (message_for R t)) old) g
       ∙ ap (λ (x : Message). laid (octets x) old) (says_message m t s) in
       let b : take n new ≡ octets m =
       ap (take n) q ∙ take_at (octets m) (drop (length (octets m)) old) n (sym d) in
@@ -254,7 +252,7 @@ module _ (t old : List ℕ) where
           (λ e. to_message t room n (a_message n e)),
           (λ x. ap told
               (is_message t room x.0 x.1 x.2 (let z = octets-length x.0 in omega (arith, x.3, x.4))
-              ∙ ap Wrote (sym (octets-length x.0) ∙ sym x.3))),
+              ∙ ap Ok (sym (octets-length x.0) ∙ sym x.3))),
         );
         lays = returned;
         numbers = λ h. subst (λ (x : ℕ). (x ≡ 61) ⊎ (x ≡ 62) ⊎ (x ≡ 15)) (sym (number-told given))
@@ -263,7 +261,7 @@ module _ (t old : List ℕ) where
       }
 
 -- a message lies within the output
-pub message_within : (t : List ℕ) (room : ℕ) (w : Writing) (n : ℕ) → w ≡ relisting R t room → w.answer ≡ Wrote n →
+pub message_within : (t : List ℕ) (room : ℕ) (w : Writing) (n : ℕ) → w ≡ relisting R t room → w.answer ≡ Ok n →
     n ≤ room
 unfolding relisting
 message_within t room w n e m = (to_message t room n (sym (ap (λ (x : Writing). x.answer) e) ∙ m)).4
@@ -303,10 +301,10 @@ module _ (t old : List ℕ) (w w' : Writing) (out out' : List ℕ) (r : Relists 
         both_keep : (k p : ℕ) → 1 ≤ k → relisted R t (length old) ≡ unwritten k p → out ≡ out'
         both_keep k p h e =
             let n : (x : Writing) (y : List ℕ) → Relists R t old x y → 1 ≤ (told x.answer).number =
-            λ x y z. subst (λ (a : Written). 1 ≤ (told a).number) (sym (answer_is t old x y z ∙ e)) h in
+            λ x y z. subst (λ (a : Result ℕ Fault). 1 ≤ (told a).number) (sym (answer_is t old x y z ∙ e)) h in
             r.keeps (n w out r) ∙ sym (r'.keeps (n w' out' r'))
 
-        both_lay : (m : Message) (n : ℕ) → Says R m t → relisted R t (length old) ≡ Wrote n → out ≡ out'
+        both_lay : (m : Message) (n : ℕ) → Says R m t → relisted R t (length old) ≡ Ok n → out ≡ out'
         both_lay m n s e =
             let a = r.lays m n s (ap told (answer_is t old w out r ∙ e)) in
             let b = r'.lays m n s (ap told (answer_is t old w' out' r' ∙ e)) in
@@ -319,7 +317,7 @@ module _ (t old : List ℕ) (w w' : Writing) (out out' : List ℕ) (r : Relists 
         of_fit m s (short x g q) = both_keep 15 _ (omega arith) (is_15 t _ m s x g)
         of_fit m s (fits x g q) = both_lay m _ s (is_message t _ m s x g)
 
-        go : (x : Written) → x ≡ relisted R t (length old) → Read t (length old) → out ≡ out'
+        go : (x : Result ℕ Fault) → x ≡ relisted R t (length old) → Read t (length old) → out ≡ out'
         go x e (valid m s) = of_fit m s (fit _ _)
         go x e (spoilt k q s) = both_keep 61 k (omega arith) q
 

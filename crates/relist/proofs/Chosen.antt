@@ -3,7 +3,7 @@
 -- lines of a choice and the last line, it gives just this choice.
 -- Assumes nothing.
 use Rattle.std.proofs.Common.{◌≡◌, ℕ, suc, ◌≤◌, Bool, true, false, T, ◌⊎◌, List, [], ◌∷◌, ◌++◌, length, drop, sym, refl, ap, ◌∙◌, subst, ap₂, inl, inr, append_assoc, append-nil, arith, length-append, length-drop}
-use Rattle.relist.specs.First.{index_of}
+use Rattle.rules.specs.First.{index_of}
 use Rattle.rules.specs.Tests.{◌≤?◌, pick}
 use Rattle.rules.proofs.Tests.{both, decide, pick_yes, pick_not, pick_case}
 use Rattle.rules.proofs.Pairwise.{octets_self}

@@ -2,10 +2,10 @@
 -- has a line of at most 17 + 264 + 2 octets. So of a longer text the lines that begin a valid listing lie in these
 -- octets, and what spoils it does so in them, or has no line end there.
 -- Assumes nothing.
-use Rattle.std.proofs.Common.{◌≡◌, ℕ, zero, suc, ◌+◌, ◌-◌, ◌*◌, ◌<◌, ◌≤◌, Bool, T, ◌⊎◌, List, [], ◌∷◌, ◌++◌, length, take, sym, refl, ap, ◌∙◌, subst, ap₂, inl, inr, arith, length-append, length-take-le, take_all}
+use Rattle.std.proofs.Common.{◌≡◌, ℕ, zero, suc, ◌+◌, ◌-◌, ◌*◌, ◌<◌, ◌≤◌, Bool, T, ◌⊎◌, List, [], ◌∷◌, ◌++◌, length, take, sym, refl, ap, ◌∙◌, subst, ap₂, inl, inr, arith, length-append, length-take-le, take_all, Result}
 use lib.Seq.{take-append-le, take-append-add}
-use Rattle.relist.specs.First.{index_of, index_after}
-use Rattle.rules.specs.Tests.{◌≤?◌, ◌and◌, every}
+use Rattle.rules.specs.First.{index_of}
+use Rattle.rules.specs.Tests.{◌≤?◌, ◌and◌, every, ◌=?◌, pick}
 use Rattle.rules.proofs.Tests.{decide, le_of, not_le, every_head, every_tail}
 use Rattle.rules.specs.Message.{Parameter, octets}
 use Rattle.rules.specs.Table.{Row, rules_of, class_of, style_of, contents_fit, ascii}
@@ -13,7 +13,6 @@ use Rattle.listing.specs.Listing.{Line, line_text, written, line_of, row_count_l
 use Rattle.listing.proofs.Longest.{line_long, kind_short, end_short}
 use Rattle.listing.proofs.Values.{value, surplus_most}
 use Rattle.contents.proofs.Fitting.{fits_short}
-use Rattle.writer.specs.declared.Written.{Written}
 use Rattle.writer.specs.Writing.{unwritten, output_after}
 use Rattle.relist.specs.Relist.{message_for, relisted, relisting, limit}
 use Rattle.relist.specs.Sentences.{Valid, Unended, Spoils, missing, unended, wrong, SpoiltAt}
@@ -24,6 +23,7 @@ use Rattle.relist.proofs.Said.{tested}
 use Rattle.relist.proofs.Valid.{R, first, says_text}
 use Rattle.relist.proofs.Spoilt.{Read, valid, spoilt, reads}
 use Rattle.relist.proofs.Answers.{from_61}
+use Rattle.rules.specs.declared.Fault.{Fault}
 
 -- ---- how long a valid listing is
 abbrev short : Row → Bool
@@ -78,11 +78,11 @@ valid_short t v =
 
 -- ---- texts cut short
 unended_take : (n : ℕ) (v : List ℕ) → Unended v → Unended (take n v)
-unfolding index_of index_after
+unfolding index_of pick ◌=?◌
 unended_take zero v u = refl
 unended_take (suc n) [] u = refl
 unended_take (suc n) (x ∷ v) u =
-    ap₂ index_after (none_head 0x0A x v u) (unended_take n v (none_tail 0x0A x v u))
+    ap₂ (λ (q : Bool) (k : ℕ). pick q 0 (suc k)) (none_head 0x0A x v u) (unended_take n v (none_tail 0x0A x v u))
 
 module _ (t : List ℕ) (h : limit < length t) (k : ℕ) (s : SpoiltAt R t k) where
   inside : length s.before < limit
@@ -161,7 +161,7 @@ module _ (t : List ℕ) where
       go (inl y) = ap (λ (x : List ℕ). relisting R x room) (take_all limit t (le_of _ _ y))
       go (inr x) =
           let b = both_spoilt t (not_le _ _ x) in
-          ap (λ (w : Written). record { edition = R.edition; answer = w }) (b.front room ∙ sym (b.all room))
+          ap (λ (w : Result ℕ Fault). record { edition = R.edition; answer = w }) (b.front room ∙ sym (b.all room))
 
   pub enough_output : (old : List ℕ) →
       output_after (relisted R (take limit t) (length old)) (octets (message_for R (take limit t))) old ≡
@@ -176,5 +176,5 @@ module _ (t : List ℕ) where
       go (inl y) = ap after (take_all limit t (le_of _ _ y))
       go (inr x) =
           let b = both_spoilt t (not_le _ _ x) in
-          ap (λ (w : Written). output_after w (octets (message_for R (take limit t))) old) (b.front (length old))
-          ∙ sym (ap (λ (w : Written). output_after w (octets (message_for R t)) old) (b.all (length old)))
+          ap (λ (w : Result ℕ Fault). output_after w (octets (message_for R (take limit t))) old) (b.front (length old))
+          ∙ sym (ap (λ (w : Result ℕ Fault). output_after w (octets (message_for R t)) old) (b.all (length old)))

@@ -1,7 +1,7 @@
 -- A text that is spoilt is no valid listing, it is spoilt at one line alone, and a valid listing says one message.
 -- Assumes nothing.
 use Rattle.std.proofs.Common.{◌≡◌, ℕ, ◌<◌, T, ◌⊎◌, List, [], ◌∷◌, ◌++◌, length, sym, ap, ◌∙◌, subst, inl, inr, append_assoc, append-nil, arith, length-append}
-use Rattle.relist.specs.First.{index_of}
+use Rattle.rules.specs.First.{index_of}
 use Rattle.rules.specs.Tests.{◌≤?◌}
 use Rattle.rules.proofs.Tests.{decide, le_of, not_le}
 use Rattle.rules.specs.Message.{Message}

@@ -3,9 +3,9 @@
 -- Assumes nothing.
 use Rattle.std.proofs.Common.{◌≡◌, ℕ, suc, ◌<◌, ◌≤◌, Bool, true, false, T, eqb, ◌⊎◌, List, [], ◌∷◌, ◌++◌, length, sym, refl, ap, ◌∙◌, subst, ap₂, inl, inr, append_assoc, arith}
 use mathlib.Core.Option.{Option, none, some}
-use Rattle.relist.specs.First.{index_of, index_after}
+use Rattle.rules.specs.First.{index_of}
 use Rattle.rules.specs.Tests.{◌≤?◌, ◌=?◌, pick}
-use Rattle.rules.proofs.Tests.{decide, either, eq_of, of_eq, le_of, of_le, pick_yes, picked, clash}
+use Rattle.rules.proofs.Tests.{decide, either, eq_of, of_eq, le_of, of_le, pick_yes, picked, clash, left, right}
 use Rattle.rules.specs.Table.{Rules, Row, listed_in, listed, class_of, rival_of, contents_fit}
 use Rattle.rules.specs.Message.{Parameter, Message, AllLegal, message_kind}
 use Rattle.rules.specs.Counting.{first_of, counted, carried_in, NoneOf}
@@ -16,42 +16,25 @@ use Rattle.listing.proofs.Lines.{has_right, has_split}
 use Rattle.listing.proofs.Plain.{Plain}
 use Rattle.relist.specs.Relist.{types_of, among}
 use Rattle.relist.specs.Sentences.{RisingKinds, Orderly}
-use Rattle.relist.proofs.Text.{index_le}
+use Rattle.rules.proofs.First.{index_most}
+use Rattle.relist.proofs.Text.{among_cons}
 use Rattle.relist.proofs.Said.{RowIs, tabled, row_plain}
 use Rattle.relist.proofs.Chosen.{Chosen, said, FirstIs, first_is, last}
 
 -- ---- a type among some
-index_least : (q : Bool) (k n : ℕ) → k ≤ n → T q → suc (index_after q k) ≤ suc n
-unfolding index_after
-index_least true k n h t = omega arith
-index_least false k n h t = absurd t
-
-index_more : (q : Bool) (k n : ℕ) → suc k ≤ n → suc (index_after q k) ≤ suc n
-unfolding index_after
-index_more true k n h = omega arith
-index_more false k n h = omega arith
-
-index_either : (q : Bool) (k n : ℕ) → suc (index_after q k) ≤ suc n → T q ⊎ (suc k ≤ n)
-unfolding index_after
-index_either true k n h = inl tt
-index_either false k n h = inr (omega arith)
-
 module _ (u k : ℕ) (ks : List ℕ) where
   among_head : k ≡ u → T (among u (k ∷ ks))
-  unfolding among index_of ◌=?◌
-  among_head e = of_le _ _ (index_least (eqb k u) (index_of u ks) (length ks) (index_le u ks) (of_eq k u e))
+  among_head e = subst T (sym (among_cons u k ks)) (left _ _ (of_eq k u e))
 
   among_tail : T (among u ks) → T (among u (k ∷ ks))
-  unfolding among index_of
-  among_tail t = of_le _ _ (index_more (eqb k u) (index_of u ks) (length ks) (le_of _ _ t))
+  among_tail t = subst T (sym (among_cons u k ks)) (right _ _ t)
 
   among_either : T (among u (k ∷ ks)) → (k ≡ u) ⊎ T (among u ks)
-  unfolding among index_of ◌=?◌
-  among_either t = go (index_either (eqb k u) (index_of u ks) (length ks) (le_of _ _ t))
+  among_either t = go (either _ _ (subst T (among_cons u k ks) t))
     where
-      go : T (eqb k u) ⊎ (suc (index_of u ks) ≤ length ks) → (k ≡ u) ⊎ T (suc (index_of u ks) ≤? length ks)
+      go : T (k =? u) ⊎ T (among u ks) → (k ≡ u) ⊎ T (among u ks)
       go (inl e) = inl (eq_of k u e)
-      go (inr h) = inr (of_le _ _ h)
+      go (inr h) = inr h
 
 -- ---- types below one, and from one on
 abbrev Below : ℕ → List Parameter → Type 0

@@ -1,7 +1,7 @@
 -- What the promise of `message_of` says of any text, over the written rules; and, with that of `listing`, there and
 -- back (demand 2).
 -- Assumes nothing.
-use Rattle.std.proofs.Common.{◌≡◌, ℕ, ◌≤◌, List, length, take, sym, refl, ap, ◌∙◌, subst, arith}
+use Rattle.std.proofs.Common.{◌≡◌, ℕ, ◌≤◌, List, length, take, sym, refl, ap, ◌∙◌, subst, arith, Result, Err}
 use mathlib.Core.Option.{some}
 use Rattle.rules.specs.Message.{Parameter, Message, octets, LegalMessage}
 use Rattle.rules.proofs.Sizes.{octets-length}
@@ -11,9 +11,7 @@ use Rattle.listing.specs.Listing.{listing_of}
 use Rattle.listing.specs.Lists.{Has}
 use Rattle.listing.proofs.Promised.{ListingGives, shown, lists}
 use Rattle.rules.specs.declared.Fault.{Fault}
-use Rattle.writer.specs.declared.Written.{Written}
-use Rattle.writer.specs.declared.Written.TheVariants.{Declined}
-use Rattle.writer.specs.declared.Writing.{Writing}
+use Rattle.writer.specs.Writing.{Writing}
 use Rattle.writer.specs.Writing.{output_after}
 use Rattle.writer.specs.Told.{told, success, refusal}
 use Rattle.relist.specs.Relist.{message_for, relisted, relisting, limit}
@@ -56,12 +54,12 @@ module _ (t old : List ℕ) (w : Writing) (out : List ℕ) (h : MessageOfGives t
       ∙ said_listing t m.0 m.1 m.2
 
   -- a refusal has one of three numbers, names no parameter, and leaves the output
-  pub refuses : (f : Fault) → w.answer ≡ Declined f → Refusal f × (out ≡ old)
+  pub refuses : (f : Fault) → w.answer ≡ Err f → Refusal f × (out ≡ old)
   unfolding relisting output_after
   refuses f e =
-      let q : relisted R t (length old) ≡ Declined f = sym (ap (λ (x : Writing). x.answer) answer_is) ∙ e in (
+      let q : relisted R t (length old) ≡ Err f = sym (ap (λ (x : Writing). x.answer) answer_is) ∙ e in (
         refusals t (length old) f q,
-        output_is ∙ ap (λ (x : Written). output_after x (octets (message_for R t)) old) q,
+        output_is ∙ ap (λ (x : Result ℕ Fault). output_after x (octets (message_for R t)) old) q,
       )
 
   -- 258 octets are always enough

@@ -3,12 +3,12 @@
 -- of 264 octets at most and two octets more: so no line of another length is the row's, and what stands between its
 -- marks is the value.
 -- Assumes nothing.
-use Rattle.std.proofs.Common.{◌≡◌, ℕ, suc, ◌+◌, ◌-◌, ◌<◌, ◌≤◌, Bool, true, false, T, List, length, take, drop, sym, refl, ap, ◌∙◌, ap₂, arith, length-append, length-drop, length-take, length-take-le, take_all, drop-drop}
+use Rattle.std.proofs.Common.{◌≡◌, ℕ, suc, ◌+◌, ◌-◌, ◌<◌, ◌≤◌, Bool, true, false, T, List, length, take, drop, sym, refl, ap, ◌∙◌, ap₂, arith, length-append, length-drop, length-take, length-take-le, take_all, drop-drop, [], ◌∷◌, eqb, subst, Option, Some, None}
 use lib.Seq.{take-append_seam, drop-append_seam}
-use Rattle.relist.specs.First.{index_of}
-use Rattle.rules.specs.Tests.{◌≤?◌, ◌and◌, pick}
+use Rattle.rules.specs.First.{index_of}
+use Rattle.rules.specs.Tests.{◌≤?◌, ◌and◌}
 use Rattle.rules.proofs.Tests.{clash}
-use Rattle.rules.proofs.Returns.{pick_t, pick_f, and_t, yes_le, no_le, T_of, holds, same_truth}
+use Rattle.rules.proofs.Returns.{pick_t, pick_f, and_t, yes_le, same_truth}
 use Rattle.rules.specs.Table.{Rules, Row, rules_of, class_of, rival_of, style_of}
 use Rattle.rules.specs.declared.Class.{Class}
 use Rattle.rules.specs.declared.Book.TheVariants.{PresentLenient}
@@ -18,28 +18,49 @@ use Rattle.listing.proofs.Values.{value, surplus_most}
 use Rattle.listing.proofs.Longest.{line_long}
 use Rattle.relist.specs.Back.{back_of, read_off, back}
 use Rattle.relist.specs.Relist.{line_in, behind, value_in, row_contents, row_says, among, comes}
-use Rattle.relist.specs.Reading.{longest_value, Holds, LineRead, RowRead}
-use Rattle.relist.proofs.Text.{index_le, line_split}
+use Rattle.relist.specs.Reading.{longest_value, Holds, Reads, LineRead, RowRead}
+use Rattle.rules.proofs.First.{index_is, placed}
+use Rattle.std.specs.List.{position, position_or_len, list_any}
+use Rattle.std.specs.Bool.{◌==◌}
+use Rattle.std.specs.Option.{unwrap_or}
+use Rattle.std.proofs.lemmas.Grind.{common_steps}
+use Rattle.relist.proofs.Text.{line_split, among_is}
 use Rattle.relist.proofs.Said.{says_fit, says_text}
+
+-- ---- a place that `position` finds, or that it finds none
+at_place : (p : ℕ → Bool) (l : List ℕ) (i : ℕ) → position p l ≡ Some i → position_or_len p l ≡ i
+at_place p l i e = sym (placed p l) ∙ ap (λ (x : Option ℕ). unwrap_or x (length l)) e
+
+no_place : (p : ℕ → Bool) (l : List ℕ) → position p l ≡ None → position_or_len p l ≡ length l
+no_place p l e = sym (placed p l) ∙ ap (λ (x : Option ℕ). unwrap_or x (length l)) e
+
+place_in : (p : ℕ → Bool) (l : List ℕ) (i : ℕ) → position p l ≡ Some i → i < length l
+place_in p l i e = grind (arith, common_steps, e)
 
 -- ---- a line by its places
 module _ (t : List ℕ) (at : ℕ) (i : at ≤ length t) where
-  -- where the first line end was found
-  module _ (r : ℕ) (e : r ≡ at + index_of 0x0A (drop at t)) where
-    pub line_ended : r < length t → r + 1 ≡ at + length (line_in (drop at t))
+  -- where the first line end was found, or that there is none
+  module _ (r : List ℕ) (w : r ≡ drop at t) where
+    pub line_ended : (i : ℕ) → position (λ (x : ℕ). x == 0x0A) r ≡ Some i →
+        at + i + 1 ≡ at + length (line_in (drop at t))
     unfolding line_in
-    line_ended h =
-        let d = length-drop at t in
-        let n = length-take-le (suc (index_of 0x0A (drop at t))) (drop at t) (omega arith) in
-        omega arith
+    line_ended i e =
+        let p = λ (x : ℕ). eqb x 0x0A in
+        let e' : position p (drop at t) ≡ Some i = ap (position p) (sym w) ∙ e in
+        let k : index_of 0x0A (drop at t) ≡ i = index_is 0x0A (drop at t) ∙ at_place p (drop at t) i e' in
+        let n =
+        length-take-le (suc (index_of 0x0A (drop at t))) (drop at t) (omega (arith, k, place_in p (drop at t) i e')) in
+        omega (arith, n, k)
 
-    pub line_unended : length t ≤ r → r ≡ at + length (line_in (drop at t))
+    pub line_unended : position (λ (x : ℕ). x == 0x0A) r ≡ None → length t ≡ at + length (line_in (drop at t))
     unfolding line_in
-    line_unended h =
+    line_unended e =
+        let p = λ (x : ℕ). eqb x 0x0A in
+        let k : index_of 0x0A (drop at t) ≡ length (drop at t) =
+        index_is 0x0A (drop at t) ∙ no_place p (drop at t) (ap (position p) (sym w) ∙ e) in
         let d = length-drop at t in
-        let k = index_le 0x0A (drop at t) in
-        let n = ap length (take_all (suc (index_of 0x0A (drop at t))) (drop at t) (omega arith)) in
-        omega arith
+        let n = ap length (take_all (suc (index_of 0x0A (drop at t))) (drop at t) (omega (arith, k))) in
+        omega (arith, n, d)
 
   -- it ends there
   module _ (end : ℕ) (e : end ≡ at + length (line_in (drop at t))) where
@@ -69,11 +90,6 @@ module _ (t : List ℕ) (at : ℕ) (i : at ≤ length t) where
 -- ---- a line that a row says
 module _ (R : Rules) (r : Row) (l : List ℕ) (s : T (row_says R r l)) where
   -- its contents
-  pub says_some : 1 ≤ length (row_contents R r l)
-  says_some =
-      (lawful (class_of R r.kind)).least _
-      ((lawful (class_of R r.kind)).fit_length (row_contents R r l) (says_fit R r l s))
-
   pub says_few : length (row_contents R r l) ≤ 253
   says_few =
       (lawful (class_of R r.kind)).most _
@@ -106,17 +122,21 @@ held_inside v area n h = omega (arith, h.long, ap length h.octets, length-take n
 pub held_long : (v area : List ℕ) (n : ℕ) → Holds v area n → n ≡ length (take n area)
 held_long v area n h = h.long ∙ ap length (sym h.octets)
 
-module _ (R : Rules) (r : Row) (l area : List ℕ) where
-  -- nothing, of a line that is not the row's
-  pub read_none : (T (row_says R r l) → ⊥) → LineRead R r l area 0
-  read_none n =
-      let f = same_truth (row_says R r l) false n (λ x. absurd x) in
-      record { size = pick_f _ _ _ _ f refl; holds = λ e. clash (cc) }
+-- nothing, where the test fails
+reads_none : (b : Bool) (v area : List ℕ) → b ≡ false → Reads b v area None
+reads_none b v area f = record { size = pick_f _ _ _ _ f refl; holds = λ e. clash (cc) }
 
-  pub read_some : (n : ℕ) → T (row_says R r l) → Holds (row_contents R r l) area n → LineRead R r l area n
-  read_some n t h =
-      let f = same_truth (row_says R r l) true (λ _. tt) (λ _. t) in
-      record { size = pick_t _ _ _ _ f h.long; holds = λ _. h.octets }
+reads_some : (b : Bool) (v area : List ℕ) (n : ℕ) → b ≡ true → Holds v area n → Reads b v area (Some n)
+reads_some b v area n f h =
+    record {
+      size = pick_t _ _ _ _ f (ap Some h.long);
+      holds = λ _. ap (λ (k : ℕ). take k area) (sym h.long) ∙ h.octets;
+    }
+
+module _ (R : Rules) (r : Row) (l area : List ℕ) where
+  -- of a line that is not the row's
+  pub read_none : (T (row_says R r l) → ⊥) → LineRead R r l area None
+  read_none n = reads_none _ _ _ (same_truth (row_says R r l) false n (λ x. absurd x))
 
   -- the contents that the value says in the class of the row's type
   module _ (k : ℕ) (e : k ≡ length r.key) (c : Class) (d : c ≡ class_of R r.kind) where
@@ -144,37 +164,27 @@ module _ (i : ℕ) (h : i < row_count) (l area : List ℕ) (n : ℕ)
       e ∙ sym (and_t _ _ _ (yes_le (suc i) row_count (omega arith)) refl)
       ∙ ap (λ (v : List ℕ). says_line (rules_of PresentLenient) (row_at i) v l) q.octets
 
-  pub read_says : b ≡ true → LineRead (rules_of PresentLenient) (row_at i) l area n
-  read_says t = read_some (rules_of PresentLenient) (row_at i) l area n (T_of _ (sym tested ∙ t)) q
+  pub read_says : b ≡ true → LineRead (rules_of PresentLenient) (row_at i) l area (Some n)
+  read_says t = reads_some _ _ _ n (sym tested ∙ t) q
 
-  pub read_not : b ≡ false → LineRead (rules_of PresentLenient) (row_at i) l area 0
-  read_not f =
-      read_none (rules_of PresentLenient) (row_at i) l area
-      (λ t. let s = holds (row_says (rules_of PresentLenient) (row_at i) l) t in clash (cc (tested)))
+  pub read_not : b ≡ false → LineRead (rules_of PresentLenient) (row_at i) l area None
+  read_not f = reads_none _ _ _ (sym tested ∙ f)
 
 -- ---- behind the lines of some types
-module _ (R : Rules) (r : Row) (ks l area : List ℕ) (k : ℕ) (e : k ≡ r.kind) (u : ℕ) (d : u ≡ rival_of R k) (f : ℕ)
-    (q : f ≡ 0 + index_of u (drop 0 ks)) where
-  first : f ≡ index_of (rival_of R r.kind) ks
-  first =
-      let z : 0 + index_of u ks ≡ index_of u ks = omega arith in
-      q ∙ z ∙ ap (λ (w : ℕ). index_of w ks) (d ∙ ap (rival_of R) e)
+module _ (R : Rules) (r : Row) (ks l area : List ℕ) (k : ℕ) (e : k ≡ r.kind) (u : ℕ) (d : u ≡ rival_of R k) (b : Bool)
+    (q : b ≡ list_any (λ (x : ℕ). eqb x u) ks) where
+  shuts : among (rival_of R r.kind) ks ≡ b
+  shuts =
+      among_is (rival_of R r.kind) ks
+      ∙ ap (λ (u : ℕ). list_any (λ (x : ℕ). eqb x u) ks) (sym (d ∙ ap (rival_of R) e)) ∙ sym q
 
   -- one of them shuts the row's out
-  pub read_shut : f < length ks → RowRead R r ks l area 0
-  unfolding comes among
-  read_shut h =
-      let o = sym (pick_t _ _ _ _ (yes_le (suc (index_of (rival_of R r.kind) ks)) (length ks) (omega (arith, first)))
-      refl) in
-      record { size = pick_f _ _ _ _ o refl; holds = λ t. clash (cc (o)) }
+  pub read_shut : b ≡ true → RowRead R r ks l area None
+  unfolding comes
+  read_shut t = reads_none _ _ _ (sym (pick_t _ _ _ _ (shuts ∙ t) refl))
 
   -- or none does
-  pub read_open : length ks ≤ f → (n : ℕ) → LineRead R r l area n → RowRead R r ks l area n
-  unfolding comes among
-  read_open h n w =
-      let o = sym (pick_f _ _ _ _ (no_le (suc (index_of (rival_of R r.kind) ks)) (length ks) (omega (arith, first)))
-      refl) in
-      record {
-        size = w.size ∙ ap (λ (b : Bool). pick b (length (row_contents R r l)) 0) (sym o);
-        holds = λ t. w.holds (sym o ∙ t);
-      }
+  pub read_open : b ≡ false → (n : Option ℕ) → LineRead R r l area n → RowRead R r ks l area n
+  unfolding comes
+  read_open f n w =
+      subst (λ (b : Bool). Reads b (row_contents R r l) area n) (pick_f _ _ _ _ (shuts ∙ f) refl) w

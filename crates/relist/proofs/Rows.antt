@@ -2,7 +2,7 @@
 -- what all rows make of the whole text. The next row takes the next line exactly where it says contents, of which
 -- there is one octet at least; the types, the count and the octets of the parameters grow by its own.
 -- Assumes nothing.
-use Rattle.std.proofs.Common.{◌≡◌, ℕ, ◌+◌, ◌-◌, ◌*◌, ◌<◌, ◌≤◌, Bool, T, ◌⊎◌, List, [], ◌∷◌, ◌++◌, length, take, drop, set, sym, refl, ap, ◌∙◌, subst, ap₂, inl, inr, append-nil, add-one, arith, length-append, length-set, drop_of_length-le, length-take-le, drop-cons, take-suc-set}
+use Rattle.std.proofs.Common.{◌≡◌, ℕ, ◌+◌, ◌-◌, ◌*◌, ◌<◌, ◌≤◌, Bool, T, ◌⊎◌, List, [], ◌∷◌, ◌++◌, length, take, drop, set, sym, refl, ap, ◌∙◌, subst, ap₂, inl, inr, append-nil, add-one, arith, length-append, length-set, drop_of_length-le, length-take-le, drop-cons, take-suc-set, Option, Some, None}
 use Rattle.rules.specs.Tests.{pick}
 use Rattle.rules.proofs.Tests.{decide, pick_yes, pick_not}
 use Rattle.rules.proofs.Returns.{holds}
@@ -13,7 +13,7 @@ use Rattle.rules.proofs.Unlisted.{body-append}
 use Rattle.listing.specs.Listing.{no_row, row_at, row_count, row_count_lem}
 use Rattle.relist.specs.Relist.{line_in, behind, row_contents, row_says, types_of, comes, row_parameter, Lined, taken}
 use Rattle.relist.specs.Reading.{RowRead, LaidBehind, TookRows}
-use Rattle.relist.proofs.Reading.{line_within, line_part, line_rest, says_some, says_few}
+use Rattle.relist.proofs.Reading.{line_within, line_part, line_rest, says_few}
 use Rattle.relist.proofs.Said.{comes_both}
 
 abbrev R : Rules
@@ -95,7 +95,7 @@ module _ (t : List ℕ) (first : ℕ) (area kinds : List ℕ) (at count size i :
   kinds_long = sym (length-take-le count kinds (omega (arith, w.few, w.below, w.room)))
 
   -- the next row read the next line
-  module _ (h : i < row_count) (end : ℕ) (e : end ≡ at + length (line_in (drop at t))) (n : ℕ) (new : List ℕ)
+  module _ (h : i < row_count) (end : ℕ) (e : end ≡ at + length (line_in (drop at t))) (n : Option ℕ) (new : List ℕ)
       (q : RowRead R (row_at i) (take count kinds) (take (end - at) (drop at t)) new n) where
     abbrev line : List ℕ
     line = line_in (drop at t)
@@ -112,24 +112,16 @@ module _ (t : List ℕ) (first : ℕ) (area kinds : List ℕ) (at count size i :
     says : T comes_now → T (row_says R (row_at i) line)
     says c = (comes_both R (row_at i) line (types_of w.parameters) c).1
 
-    comes_long : T comes_now → n ≡ length (row_contents R (row_at i) line)
+    comes_long : T comes_now → n ≡ Some (length (row_contents R (row_at i) line))
     comes_long c = read.size ∙ pick_yes _ _ _ c
 
-    not_comes : (T comes_now → ⊥) → n ≡ 0
+    not_comes : (T comes_now → ⊥) → n ≡ None
     not_comes c = read.size ∙ pick_not _ _ _ c
 
-    -- few octets
-    pub read_few : n ≤ 253
-    read_few = go (decide comes_now)
-      where
-        go : T comes_now ⊎ (T comes_now → ⊥) → n ≤ 253
-        go (inl c) = omega (arith, comes_long c, says_few R (row_at i) line (says c))
-        go (inr c) = omega (arith, not_comes c)
-
-    -- none: it took no line
-    pub took_none : n ≤ 0 → AfterRows t first area kinds at count size (i + 1)
+    -- it took no line
+    pub took_none : n ≡ None → AfterRows t first area kinds at count size (i + 1)
     took_none z =
-        let c : T comes_now → ⊥ = λ c. omega (arith, comes_long c, says_some R (row_at i) line (says c)) in
+        let c : T comes_now → ⊥ = λ c. let s = comes_long c in cc in
         record {
           parameters = w.parameters;
           goes = w.goes ∙ leaves i h w.parameters (drop at t) c;
@@ -145,28 +137,35 @@ module _ (t : List ℕ) (first : ℕ) (area kinds : List ℕ) (at count size i :
           whole = w.whole;
         }
 
-    -- some: it took the line, and its parameter stands behind the others
-    module _ (o : 0 < n) where
+    -- it took the line, and its parameter stands behind the others
+    module _ (m : ℕ) (o : n ≡ Some m) where
       taken_by : T comes_now
       taken_by = go (decide comes_now)
         where
           go : T comes_now ⊎ (T comes_now → ⊥) → T comes_now
           go (inl c) = c
-          go (inr c) = absurd (omega (arith, not_comes c))
+          go (inr c) = let s = not_comes c in cc
+
+      m_long : m ≡ length (row_contents R (row_at i) line)
+      m_long = let s = comes_long taken_by in cc
+
+      -- few octets
+      pub read_few : m ≤ 253
+      read_few = omega (arith, m_long, says_few R (row_at i) line (says taken_by))
 
       abbrev more : Parameter
       more = next i h w.parameters (drop at t)
 
-      contents : take n new ≡ more.contents
-      contents = read.holds (holds comes_now taken_by)
+      contents : take m new ≡ more.contents
+      contents = ap (λ (k : ℕ). take k new) m_long ∙ read.holds (holds comes_now taken_by)
 
       pub took_more : (kind : ℕ) → kind ≡ (row_at i).kind → (last : List ℕ) (to : ℕ) →
-          LaidBehind kind (take n new) area size last to → length last ≡ length area →
+          LaidBehind kind (take m new) area size last to → length last ≡ length area →
           AfterRows t first last (set kinds count kind) end (count + 1) to (i + 1)
       unfolding types_of
-      took_more kind k last to l m =
+      took_more kind k last to l p =
           let ps = w.parameters in
-          let b : body (ps ++ more ∷ []) ≡ body ps ++ kind ∷ length (take n new) ∷ take n new =
+          let b : body (ps ++ more ∷ []) ≡ body ps ++ kind ∷ length (take m new) ∷ take m new =
           body-append ps (more ∷ [])
           ∙ ap (λ (x : List ℕ). body ps ++ x)
           (body_one more ∙ ap₂ (λ (x : ℕ) (v : List ℕ). x ∷ length v ∷ v) (sym k) (sym contents)) in
@@ -176,7 +175,7 @@ module _ (t : List ℕ) (first : ℕ) (area kinds : List ℕ) (at count size i :
             l.ends,
             w.long,
             ap length b,
-            length-append (body ps) (kind ∷ length (take n new) ∷ take n new),
+            length-append (body ps) (kind ∷ length (take m new) ∷ take m new),
           ) in
           record {
             parameters = ps ++ more ∷ [];
@@ -196,13 +195,13 @@ module _ (t : List ℕ) (first : ℕ) (area kinds : List ℕ) (at count size i :
               w.small,
               read_few,
               ap length contents,
-              comes_long taken_by,
+              m_long,
             );
             front = λ z. l.front (omega (arith, w.whole))
-                ∙ ap (λ (x : List ℕ). x ++ kind ∷ length (take n new) ∷ take n new) (w.front (omega (arith, l.ends)))
+                ∙ ap (λ (x : List ℕ). x ++ kind ∷ length (take m new) ∷ take m new) (w.front (omega (arith, l.ends)))
                 ∙ sym b;
             room = length-set kinds count kind ∙ w.room;
-            whole = m ∙ w.whole;
+            whole = p ∙ w.whole;
           }
 
   -- ---- after all rows

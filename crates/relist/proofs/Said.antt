@@ -2,7 +2,7 @@
 -- contents, and by no row with another key. Rows have keys of characters without `=`, each its own.
 -- Assumes nothing.
 use Rattle.std.proofs.Common.{◌≡◌, ℕ, suc, ◌+◌, ◌-◌, ◌≤◌, Bool, true, false, T, List, [], ◌∷◌, ◌++◌, length, take, drop, sym, refl, ap, ◌∙◌, subst, ap₂, append_assoc, arith, length-append, take_at, drop_at}
-use Rattle.relist.specs.First.{index_of, index_after}
+use Rattle.rules.specs.First.{index_of}
 use Rattle.rules.specs.Tests.{◌or◌, ◌≤?◌, ◌=?◌, ◌and◌, pick, every}
 use Rattle.rules.proofs.Tests.{both, join, eq_of, le_of, pick_yes, pick_case}
 use Rattle.rules.specs.Pairwise.{pairwise, same_octets}
@@ -55,7 +55,7 @@ tabled R n [] = true
 tabled R n (r ∷ rs) = n ≤? r.kind and (row_test R r and (other r.key rs and tabled R (suc r.kind) rs))
 
 pub tested : T (tabled (rules_of PresentLenient) 0 (rules_of PresentLenient).rows)
-unfolding tabled row_test other shown plain every listed listed_in class_of row_of row_in style_of rules_of ascii index_of index_after pairwise pick ◌≤?◌ ◌=?◌ ◌and◌ ◌or◌
+unfolding tabled row_test other shown plain every listed listed_in class_of row_of row_in style_of rules_of ascii index_of pairwise pick ◌≤?◌ ◌=?◌ ◌and◌ ◌or◌
 tested = tt
 
 -- what a test of a row tells
@@ -180,5 +180,5 @@ module _ (R : Rules) (r : Row) (q : RowIs R r) where
 
 -- the last line
 pub carried_cut : index_of 0x3D (carried_line 0).key ≡ length (carried_line 0).key
-unfolding carried_line index_of index_after ascii
+unfolding carried_line index_of pick ◌=?◌ ascii
 carried_cut = refl

@@ -12,7 +12,7 @@ use Rattle.rules.specs.Laying.{laid, laid_at}
 use Rattle.rules.proofs.Laying.{laid_front, laid_then, rest_whole, part_over}
 use Rattle.rules.specs.Table.{Style, clock, verbatim, switch, reference, decimal, hex, numbered, moment, duration, charge, terminal, display}
 use Rattle.writer.proofs.Laying.{sealed}
-use Rattle.relist.specs.Back.{pairs_back, head_back, one_back, switch_back, state_back, reference_back, moment_back, terminal_back, back_of, read_off}
+use Rattle.relist.specs.Back.{pairs_back, octets_back, one_back, switch_back, state_back, reference_back, moment_back, terminal_back, back_of, read_off}
 use Rattle.relist.specs.Reading.{Holds, LaidBehind, Sealed}
 use Rattle.relist.specs.declared.Back.{Back}
 
@@ -21,7 +21,7 @@ abbrev Ten : Back → Type 0
 Ten b = (b.length ≤ 10) × (length b.octets ≡ 10)
 
 ten : (s : Style) (t : List ℕ) → Ten (back_of s t)
-unfolding back_of pairs_back head_back one_back switch_back reference_back state_back moment_back terminal_back
+unfolding back_of pairs_back octets_back laid one_back switch_back reference_back state_back moment_back terminal_back
 ten clock t = (omega arith, refl)
 ten verbatim t = (omega arith, refl)
 ten switch t = (omega arith, refl)

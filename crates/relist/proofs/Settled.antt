@@ -6,7 +6,7 @@ use Rattle.rules.specs.Message.{octets}
 use Rattle.rules.specs.Table.{rules_of}
 use Rattle.rules.specs.declared.Book.TheVariants.{PresentLenient}
 use Rattle.writer.specs.Writing.{output_after}
-use Rattle.writer.specs.declared.Writing.{Writing}
+use Rattle.writer.specs.Writing.{Writing}
 use Rattle.relist.specs.Relist.{message_for}
 use Rattle.relist.proofs.message_of.Reads as message_of
 

@@ -9,6 +9,7 @@ use Rattle.rules.specs.Tests.{◌=?◌, pick}
 use Rattle.rules.proofs.Tests.{clash, both, either, le_of, eq_of, of_eq, decide, pick_yes, pick_not, picked_by}
 use Rattle.rules.specs.Pairwise.{same_octets}
 use Rattle.rules.proofs.Pairwise.{octets_are, octets_self}
+use Rattle.rules.specs.Laying.{laid}
 use Rattle.rules.specs.Octets.{Octets}
 use Rattle.rules.proofs.Octets.{octet_at}
 use Rattle.rules.specs.Contents.{Range, within, in_set, only, columns_fit}
@@ -23,7 +24,7 @@ use Rattle.listing.specs.Numerals.{decimal, hex, number_from}
 use Rattle.listing.proofs.Numerals.{decimal_says, hex_digit_says}
 use Rattle.listing.specs.Listing.{half, seconds, coded, lamp_word, state_word, reference, currency, selector_word, selected, clock, identity, moment, duration, charge, terminal, display, printed}
 use Rattle.listing.proofs.Pieces.{with_seconds, no_seconds, is_connection, is_number, is_subaddress, is_code, is_digits}
-use Rattle.relist.specs.Back.{hex_at, number_at, pairs_back, head_back, one_back, switch_back, state_back, reference_back, moment_back, terminal_back, back_of, read_off, back, unprinted}
+use Rattle.relist.specs.Back.{hex_at, number_at, pairs_back, octets_back, one_back, switch_back, state_back, reference_back, moment_back, terminal_back, back_of, read_off, back, unprinted}
 
 -- ---- any text
 -- a text that is read back prints as it was, in every style
@@ -114,13 +115,13 @@ module _ (v : List ℕ) where
 
 -- ---- words
 lamp_said : (x : ℕ) → T (in_set lamp_set x) → back switch (lamp_word x) ≡ x ∷ []
-unfolding back read_off back_of switch_back one_back head_back pick ◌=?◌ lamp_word ascii
+unfolding back read_off back_of switch_back one_back octets_back laid pick ◌=?◌ lamp_word ascii
 lamp_said x = among 0x00 _ x (λ e. rw e) (among 0xFF _ x (λ e. rw e) (nowhere x))
 
 -- a state and its reference, behind any word
 word_said : (w : List ℕ) (x n : ℕ) → n < 65536 →
     read_off (state_back x (w ++ decimal n) (length w)) (w ++ decimal n) ≡ x ∷ n / 256 ∷ n % 256 ∷ []
-unfolding read_off state_back head_back
+unfolding read_off state_back octets_back laid
 word_said w x n h =
     ap₂ (λ (m : ℕ) (r : List ℕ). x ∷ m / 256 ∷ m % 256 ∷ r) (decimal_number w n h) (drop-length (w ++ decimal n))
 
@@ -146,7 +147,7 @@ module _ (v : List ℕ) (o : Octets v) where
       ∙ ap₂ (λ (b c : ℕ). get_or v 0 0 ∷ b ∷ c ∷ []) (omega arith) (omega arith) ∙ first_all v 3 e
 
   decimal_back_lem : length v ≡ 1 → back decimal_style (decimal (get_or v 0 0)) ≡ v
-  unfolding back read_off back_of one_back head_back
+  unfolding back read_off back_of one_back octets_back laid
   decimal_back_lem e =
       let l = octet_at v o 0 in
       ap₂ (λ (m : ℕ) (r : List ℕ). m % 256 ∷ r) (decimal_number [] (get_or v 0 0) (omega arith))
@@ -154,17 +155,17 @@ module _ (v : List ℕ) (o : Octets v) where
       ∙ ap (λ (x : ℕ). x ∷ []) (omega arith) ∙ first_all v 1 e
 
   hex-back : length v ≡ 1 → back hex_style (hex (get_or v 0 0)) ≡ v
-  unfolding back read_off back_of one_back head_back hex
+  unfolding back read_off back_of one_back octets_back laid hex
   hex-back e = ap (λ (x : ℕ). x ∷ []) (hex_octet (get_or v 0 0) (octet_at v o 0)) ∙ first_all v 1 e
 
   charge_back_lem : 4 ≤ length v → back charge_style (charge v) ≡ v
-  unfolding back read_off back_of head_back hex_at charge currency coded hex ascii
+  unfolding back read_off back_of octets_back laid hex_at charge currency coded hex ascii
   charge_back_lem h =
       ap (λ (f : ℕ). get_or v 0 0 ∷ get_or v 1 0 ∷ get_or v 2 0 ∷ f ∷ drop 4 v) (hex_octet (get_or v 3 0) (octet_at v o 3))
       ∙ first_rest v 4 h
 
   display-back : 1 ≤ length v → back display_style (display v) ≡ v
-  unfolding back read_off back_of head_back hex_at display coded hex ascii
+  unfolding back read_off back_of octets_back laid hex_at display coded hex ascii
   display-back = head_is v _ (sym (hex_octet (get_or v 0 0) (octet_at v o 0)))
 
 -- ---- what a terminal is selected by
@@ -205,7 +206,7 @@ unfolding terminal
 parts_back v a b d e r = ap₂ (λ (a b : List ℕ). back terminal_style (a ++ b)) (sym d) (sym e) ∙ r
 
 terminal_back_lem : (v : List ℕ) → Octets v → 1 ≤ length v → Selects v → back terminal_style (terminal v) ≡ v
-unfolding back read_off back_of terminal_back head_back hex_at pick ◌=?◌ hex ascii
+unfolding back read_off back_of terminal_back octets_back laid hex_at pick ◌=?◌ hex ascii
 terminal_back_lem v o h (connection d e) =
     parts_back v _ _ (is_connection _ d) (is_code v d)
     (ap₂ (λ (a b : ℕ). a ∷ b ∷ []) (sym d) (hex_octet (get_or v 1 0) (octet_at v o 1)) ∙ first_all v 2 e)
@@ -222,7 +223,7 @@ Returns c = (v : List ℕ) → T (contents_fit c v) → back (style_of c) (print
 
 -- classes as they are
 same_value : (c : Class) → style_of c ≡ verbatim → Returns c
-unfolding back read_off back_of head_back printed
+unfolding back read_off back_of octets_back laid printed
 same_value c e v t = subst (λ (s : Style). back s (printed s v) ≡ v) (sym e) refl
 
 -- classes in two hex digits

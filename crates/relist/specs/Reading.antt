@@ -1,6 +1,6 @@
 -- For the code: what its parts leave behind, in the words of the way back.
 -- Assumes nothing.
-use Rattle.std.specs.Prelude.{◌≡◌, ℕ, ◌+◌, ◌≤◌, true, List, ◌∷◌, ◌++◌, length, take, drop}
+use Rattle.std.specs.Prelude.{◌≡◌, ℕ, ◌+◌, ◌≤◌, Bool, true, Option, Some, None, List, ◌∷◌, ◌++◌, length, take, drop}
 use Rattle.rules.specs.Tests.{pick}
 use Rattle.rules.specs.Table.{Rules, Row}
 use Rattle.rules.specs.Message.{Message, body, octets}
@@ -21,15 +21,18 @@ pub record Holds (v area : List ℕ) (n : ℕ) : Type 0 where
   pub long : n ≡ length v
   pub octets : take n area ≡ v
 
--- what a line says by a row stands in the area: so many octets, 0 where it is not the row's
-pub record LineRead (R : Rules) (r : Row) (l : List ℕ) (area : List ℕ) (n : ℕ) : Type 0 where
-  pub size : n ≡ pick (row_says R r l) (length (row_contents R r l)) 0
-  pub holds : row_says R r l ≡ true → take n area ≡ row_contents R r l
+-- where a test says so, octets stand in the area: so many
+pub record Reads (b : Bool) (v area : List ℕ) (n : Option ℕ) : Type 0 where
+  pub size : n ≡ pick b (Some (length v)) None
+  pub holds : b ≡ true → take (length v) area ≡ v
 
--- what a line says by a row that may take it stands in the area: so many octets, 0 where it is not the row's
-pub record RowRead (R : Rules) (r : Row) (ks l : List ℕ) (area : List ℕ) (n : ℕ) : Type 0 where
-  pub size : n ≡ pick (comes R r ks l) (length (row_contents R r l)) 0
-  pub holds : comes R r ks l ≡ true → take n area ≡ row_contents R r l
+-- what a line says by a row, where it is the row's
+abbrev pub LineRead : Rules → Row → List ℕ → List ℕ → Option ℕ → Type 0
+LineRead R r l area n = Reads (row_says R r l) (row_contents R r l) area n
+
+-- what a line says by a row that may take it
+abbrev pub RowRead : Rules → Row → List ℕ → List ℕ → List ℕ → Option ℕ → Type 0
+RowRead R r ks l area n = Reads (comes R r ks l) (row_contents R r l) area n
 
 -- a parameter was put behind others as far as the area goes
 pub record LaidBehind (kind : ℕ) (v old : List ℕ) (size : ℕ) (new : List ℕ) (end : ℕ) : Type 0 where

@@ -1,17 +1,17 @@
 -- The way back from a listing to its message (document 02, Q-1): line by line, each row of the table takes the next
 -- line where that is the row's own. What no row takes must be the last line, and nothing may stand behind it.
 -- Assumes nothing.
-use Rattle.std.specs.Prelude.{ℕ, suc, ◌+◌, ◌-◌, Bool, false, List, [], ◌∷◌, ◌++◌, length, take, drop}
-use Rattle.relist.specs.First.{index_of}
+use Rattle.std.specs.Prelude.{ℕ, suc, ◌+◌, ◌-◌, Bool, false, List, [], ◌∷◌, ◌++◌, length, take, drop, Result, Option, Some, None}
+use Rattle.rules.specs.First.{index_of}
 use Rattle.rules.specs.Tests.{◌≤?◌, ◌=?◌, pick}
 use Rattle.rules.specs.Pairwise.{same_octets}
 use Rattle.rules.specs.Table.{Rules, Row, style_of, class_of, rival_of}
 use Rattle.rules.specs.Message.{Parameter, Message, body}
 use Rattle.listing.specs.Listing.{line_text, kind_line, carried_line, says_line}
-use Rattle.writer.specs.declared.Written.{Written}
-use Rattle.writer.specs.declared.Writing.{Writing}
+use Rattle.writer.specs.Writing.{Writing}
 use Rattle.writer.specs.Writing.{unwritten, sized}
 use Rattle.relist.specs.Back.{back}
+use Rattle.rules.specs.declared.Fault.{Fault}
 
 -- ---- the lines of a text
 -- its first line, with the line end; all of it, where there is none
@@ -63,14 +63,20 @@ taken R (r ∷ rs) ps t =
     (pick (comes R r (types_of ps) (line_in t)) (behind t) t)
 
 -- ---- the answer
--- the message type that the first line says, 0 for none
+-- the message type that the first line says
+unfoldable pub kind_said : List ℕ → Option ℕ
+kind_said l =
+    pick (same_octets (line_text (kind_line 0x80)) l) (Some 0x80)
+    (pick (same_octets (line_text (kind_line 0x82)) l) (Some 0x82) None)
+
+-- the same, 0 for none
 unfoldable pub kind_in : List ℕ → ℕ
 kind_in l =
     pick (same_octets (line_text (kind_line 0x80)) l) 0x80 (pick (same_octets (line_text (kind_line 0x82)) l) 0x82 0)
 
 -- n value lines, then the last line, which needs one of them at least, and then nothing; parameters of l octets, over
 -- 255 of which are 62
-unfoldable pub closed : ℕ → List ℕ → ℕ → ℕ → Written
+unfoldable pub closed : ℕ → List ℕ → ℕ → ℕ → Result ℕ Fault
 closed n t l room =
     pick (n =? 0) (unwritten 61 2)
     (pick (same_octets (line_text (carried_line 0)) (line_in t))
@@ -86,7 +92,7 @@ unfoldable pub message_for : Rules → List ℕ → Message
 message_for R t = record { kind = kind_in (line_in t); parameters = (lined_in R t).parameters }
 
 -- what is answered where the output has so much room
-unfoldable pub relisted : Rules → List ℕ → ℕ → Written
+unfoldable pub relisted : Rules → List ℕ → ℕ → Result ℕ Fault
 relisted R t room =
     pick (kind_in (line_in t) =? 0) (unwritten 61 1)
     (closed (length (lined_in R t).parameters) (lined_in R t).rest (length (body (lined_in R t).parameters)) room)

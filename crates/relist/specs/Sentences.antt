@@ -3,13 +3,13 @@
 -- Assumes nothing.
 use Rattle.std.specs.Prelude.{◌≡◌, ℕ, zero, suc, ◌<◌, ◌≤◌, T, ◌⊎◌, ◌↔◌, List, [], ◌∷◌, ◌++◌, length, take, drop}
 use Rattle.std.proofs.Math.Option.{some}
-use Rattle.relist.specs.First.{index_of}
+use Rattle.rules.specs.First.{index_of}
 use Rattle.rules.specs.Table.{Rules}
 use Rattle.rules.specs.Message.{Parameter, Message, body, octets, message_kind, AllLegal, Accepts}
 use Rattle.rules.specs.Counting.{counted}
 use Rattle.listing.specs.Listing.{written, message_lines}
 use Rattle.listing.specs.Lists.{Has}
-use Rattle.writer.specs.declared.Writing.{Writing}
+use Rattle.writer.specs.Writing.{Writing}
 use Rattle.writer.specs.Told.{told, success, refusal}
 
 -- ---- valid listings

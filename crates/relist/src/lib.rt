@@ -3,22 +3,20 @@
 // 255 octets of parameters, 15 for an output that is too short. Everything is judged before anything is written.
 #![tactic(auto)]
 
-ghost use Rattle.std.specs.Prelude.{◌≡◌, ◌+◌, ◌-◌, ◌<◌, ◌≤◌, [], ◌∷◌, ◌++◌};
+ghost use Rattle.std.specs.Prelude.{◌≡◌, ◌+◌, ◌<◌, ◌≤◌, ◌==◌, [], position};
 ghost use Rattle.std.proofs.Math.ListN as list;
 ghost use Rattle.rules.specs.Table.{rules_of, style_of};
-ghost use Rattle.rules.specs.Table as style;
 ghost use Rattle.rules.specs.declared.Book.TheVariants as book;
 ghost use Rattle.rules.specs.Message.{octets};
 ghost use Rattle.listing.specs.Numerals.{hex_value};
 ghost use Rattle.listing.specs.Listing.{row_at, row_count};
 ghost use Rattle.writer.specs.Writing.{output_after};
-ghost use Rattle.relist.specs.First.{index_of};
-ghost use Rattle.relist.specs.Back.{hex_at, number_at, pairs_back, head_back, one_back, switch_back, state_back, reference_back, moment_back, terminal_back, back_of, read_off};
-ghost use Rattle.relist.specs.Relist.{line_in, taken, kind_in, closed, message_for, relisted, relisting};
+ghost use Rattle.relist.specs.Back.{hex_at, number_at, pairs_back, octets_back, state_back, reference_back, terminal_back, back_of, read_off};
+ghost use Rattle.relist.specs.Relist.{line_in, taken, kind_said, closed, message_for, relisted, relisting};
 ghost use Rattle.relist.specs.Reading.{longest_value, read_size, Holds, LineRead, RowRead, LaidBehind, TookRows, Sealed};
 
-use rules::{Book, Class};
-use writer::{Writing, Written};
+use rules::{Book, Class, Fault, Named};
+use writer::Writing;
 
 // The octets of parameters that a message holds.
 const BODY: usize = 255;
@@ -28,7 +26,8 @@ const VALUE: usize = 264;
 
 const READ: usize = 274;
 
-// What a value says: the first `length` of ten octets, and then the value itself from `from` on.
+// What a value says: the first `length` of ten octets, and then the value itself from `from` on. The array stays with
+// its length beside it: there is no heap, and a slice would have nothing that lends it.
 #[derive(Clone, Copy)]
 struct Back {
     octets: [u8; 10],
@@ -46,18 +45,18 @@ struct Taken {
 
 // ---- octets read off a value
 
-fn above_zero(x: u8) -> u8
-    ensures { result ≡ x - 48 }
-{
-    if x < 48 { 0 } else { x - 48 }
-}
-
+#[tactic(auto, using(rules::proofs::Telling::telling), unfolding(listing::specs::Numerals::hex_value))]
 fn hex_value(x: u8) -> u8
     ensures { result ≡ hex_value x }
 {
-    if x <= 57 { above_zero(x) } else { x - 55 }
+    if x <= b'9' {
+        x.saturating_sub(b'0')
+    } else {
+        x - 55
+    }
 }
 
+#[tactic(auto, using(rules::proofs::Telling::telling), unfolding(crate::specs::Back::hex_at))]
 fn hex_at(text: &[u8], i: usize) -> u8
     requires { i ≤ 11 }
     ensures { result ≡ hex_at text.now i }
@@ -67,17 +66,20 @@ fn hex_at(text: &[u8], i: usize) -> u8
     ((16 * high + low) % 256) as u8
 }
 
+// The number that the digits from a place on say, modulo 65536. The place counts up by itself: a text may end before
+// it, so the digits are no slice of the text.
 fn number_at(text: &[u8], from: usize) -> u16
     ensures { result ≡ number_at text.now from }
 {
     let mut number: u32 = 0;
     for i in from..text.len() {
-        number = (10 * number + above_zero(text[i]) as u32) % 65536;
+        number = (10 * number + text[i].saturating_sub(b'0') as u32) % 65536;
     }
     number as u16
 }
 
 // Two octets and a mark, again and again: the first n octets of ten.
+#[tactic(auto, unfolding(crate::specs::Back::pairs_back))]
 fn pairs_back(text: &[u8], n: usize) -> Back
     ensures { result ≡ pairs_back text.now n }
 {
@@ -99,126 +101,88 @@ fn pairs_back(text: &[u8], n: usize) -> Back
     }
 }
 
-// The first n of four octets, and the value from a place on.
-fn head_back(a: u8, b: u8, c: u8, d: u8, n: usize, from: usize) -> Back
-    ensures { result ≡ head_back a b c d n from }
+// Octets, and the value from a place on.
+#[tactic(auto, unfolding(crate::specs::Back::octets_back, rules::specs::Laying::laid))]
+fn octets_back<const N: usize>(head: [u8; N], from: usize) -> Back
+    requires { N ≤ 10 }
+    ensures { result ≡ octets_back head.entry from }
 {
+    let mut octets = [0u8; 10];
+    octets[..N].copy_from_slice(&head);
     Back {
-        octets: [a, b, c, d, 0, 0, 0, 0, 0, 0],
-        length: n,
+        octets,
+        length: N,
         from,
     }
 }
 
-fn one_back(x: u8, text: &[u8]) -> Back
-    ensures { result ≡ one_back x text.now }
-{
-    head_back(x, 0, 0, 0, 1, text.len())
-}
-
-fn switch_back(text: &[u8]) -> Back
-    ensures { result ≡ switch_back text.now }
-{
-    if text.len() == 2 {
-        one_back(0xFF, text)
-    } else {
-        one_back(0, text)
-    }
-}
-
+// A state, and its reference, high octet first.
+#[tactic(auto, unfolding(crate::specs::Back::state_back))]
 fn state_back(x: u8, text: &[u8], i: usize) -> Back
     ensures { result ≡ state_back x text.now i }
 {
-    let reference = number_at(text, i);
-    let high = (reference / 256) as u8;
-    let low = (reference % 256) as u8;
-    head_back(x, high, low, 0, 3, text.len())
+    let [high, low] = number_at(text, i).to_be_bytes();
+    octets_back([x, high, low], text.len())
 }
 
+#[tactic(auto, using(rules::proofs::Telling::telling), unfolding(crate::specs::Back::reference_back))]
 fn reference_back(text: &[u8]) -> Back
     ensures { result ≡ reference_back text.now }
 {
-    let third = message::octet(text, 2);
-    if third == b' ' {
-        state_back(0xFF, text, 3)
-    } else if third == b'f' {
-        state_back(0, text, 4)
-    } else {
-        state_back(0x55, text, 6)
+    match message::octet(text, 2) {
+        b' ' => state_back(0xFF, text, 3),
+        b'f' => state_back(0, text, 4),
+        _ => state_back(0x55, text, 6),
     }
 }
 
-fn decimal_back(text: &[u8]) -> Back
-    ensures { result ≡ back_of style.decimal text.now }
-{
-    let number = number_at(text, 0);
-    one_back((number % 256) as u8, text)
-}
-
-fn moment_back(text: &[u8]) -> Back
-    ensures { result ≡ moment_back text.now }
-{
-    if text.len() == 14 {
-        pairs_back(text, 10)
-    } else {
-        pairs_back(text, 8)
-    }
-}
-
-fn charge_back(text: &[u8]) -> Back
-    ensures { result ≡ back_of style.charge text.now }
-{
-    head_back(
-        message::octet(text, 0),
-        message::octet(text, 1),
-        message::octet(text, 2),
-        hex_at(text, 4),
-        4,
-        7,
-    )
-}
-
+#[tactic(auto, using(rules::proofs::Telling::telling), unfolding(crate::specs::Back::terminal_back))]
 fn terminal_back(text: &[u8]) -> Back
     ensures { result ≡ terminal_back text.now }
 {
-    let first = message::octet(text, 0);
-    if first == b'c' {
-        head_back(1, hex_at(text, 11), 0, 0, 2, text.len())
-    } else if first == b'n' {
-        head_back(2, 0, 0, 0, 1, 7)
-    } else {
-        head_back(3, 0, 0, 0, 1, 11)
+    match message::octet(text, 0) {
+        b'c' => octets_back([1, hex_at(text, 11)], text.len()),
+        b'n' => octets_back([2], 7),
+        _ => octets_back([3], 11),
     }
 }
 
 // What a value says in the style of a class.
+#[tactic(auto, using(rules::proofs::Telling::telling), unfolding(crate::specs::Back::back_of, crate::specs::Back::one_back, crate::specs::Back::switch_back, crate::specs::Back::moment_back, rules::specs::Table::style_of))]
 fn back_of(class: Class, text: &[u8]) -> Back
     ensures { result ≡ back_of (style_of class) text.now }
 {
     match class {
-        Class::Carried => head_back(0, 0, 0, 0, 0, text.len()),
+        Class::Carried | Class::Unlisted => octets_back([], text.len()),
+        Class::Number
+        | Class::Absent
+        | Class::Name
+        | Class::ShortText
+        | Class::Extension
+        | Class::OldNumber => octets_back([], 0),
         Class::Date => pairs_back(text, 8),
-        Class::Number => head_back(0, 0, 0, 0, 0, 0),
-        Class::Absent => head_back(0, 0, 0, 0, 0, 0),
-        Class::Name => head_back(0, 0, 0, 0, 0, 0),
-        Class::Lamp => switch_back(text),
-        Class::Identity => reference_back(text),
-        Class::CallType => one_back(hex_at(text, 0), text),
-        Class::Waiting => decimal_back(text),
-        Class::Forwarded => one_back(hex_at(text, 0), text),
-        Class::User => one_back(hex_at(text, 0), text),
-        Class::ShortText => head_back(0, 0, 0, 0, 0, 0),
-        Class::Moment => moment_back(text),
-        Class::Charge => charge_back(text),
+        Class::Moment => pairs_back(text, if text.len() == 14 { 10 } else { 8 }),
         Class::Duration => pairs_back(text, 6),
+        Class::Lamp => octets_back([if text.len() == 2 { 0xFF } else { 0 }], text.len()),
+        Class::Identity => reference_back(text),
+        Class::Waiting => octets_back([(number_at(text, 0) % 256) as u8], text.len()),
+        Class::CallType
+        | Class::Forwarded
+        | Class::User
+        | Class::Service
+        | Class::OldForwarded
+        | Class::OldUser => octets_back([hex_at(text, 0)], text.len()),
+        Class::Charge => octets_back(
+            [
+                message::octet(text, 0),
+                message::octet(text, 1),
+                message::octet(text, 2),
+                hex_at(text, 4),
+            ],
+            7,
+        ),
         Class::Terminal => terminal_back(text),
-        Class::Display => head_back(hex_at(text, 0), 0, 0, 0, 1, 3),
-        Class::Service => one_back(hex_at(text, 0), text),
-        Class::Extension => head_back(0, 0, 0, 0, 0, 0),
-        Class::OldNumber => head_back(0, 0, 0, 0, 0, 0),
-        Class::OldForwarded => one_back(hex_at(text, 0), text),
-        Class::OldUser => one_back(hex_at(text, 0), text),
-        Class::Unlisted => head_back(0, 0, 0, 0, 0, text.len()),
+        Class::Display => octets_back([hex_at(text, 0)], 3),
     }
 }
 
@@ -231,73 +195,66 @@ fn lay_contents(class: Class, value: &[u8], out: &mut [u8]) -> usize
 {
     let back = back_of(class, value);
     let n = back.length;
-    let from = back.from;
-    let octets = back.octets;
-    out[..n].copy_from_slice(&octets[..n]);
-    if from < value.len() {
-        let end = n + (value.len() - from);
-        out[n..end].copy_from_slice(&value[from..]);
+    out[..n].copy_from_slice(&back.octets[..n]);
+    if back.from < value.len() {
+        let end = n + (value.len() - back.from);
+        out[n..end].copy_from_slice(&value[back.from..]);
         end
     } else {
         n
     }
 }
 
-// What a line says by a row, laid down: how many octets, 0 where it is not the row's.
-fn line_length(i: usize, line: &[u8], out: &mut [u8]) -> usize
+// What a line says by a row, laid down: how many octets, where it is the row's.
+fn line_length(i: usize, line: &[u8], out: &mut [u8]) -> Option<usize>
     requires { (i < row_count) × (list.length out.old ≡ read_size) }
     ensures { LineRead (rules_of book.PresentLenient) (row_at i) line.now out.new result }
 {
     let start = listing::key_length(i) + 1;
     if line.len() <= start {
-        return 0;
+        return None;
     }
     let end = line.len() - 1;
     if VALUE < end - start {
-        return 0;
+        return None;
     }
     let class = rules::class_of(Book::PresentLenient, listing::kind_at(i));
     let n = lay_contents(class, &line[start..end], out);
     if listing::says(i, &out[..n], line) {
-        n
+        Some(n)
     } else {
-        0
+        None
     }
-}
-
-// Where an octet first stands from a place on; where the text ends, if nowhere.
-fn find(text: &[u8], from: usize, octet: u8) -> usize
-    requires { from ≤ list.length text.now }
-    ensures { result ≡ from + index_of octet (list.drop from text.now) }
-{
-    for i in from..text.len() {
-        if text[i] == octet {
-            return i;
-        }
-    }
-    text.len()
 }
 
 // The same where lines of these types stand before it.
-fn row_length(i: usize, line: &[u8], kinds: &[u8], out: &mut [u8]) -> usize
+fn row_length(i: usize, line: &[u8], kinds: &[u8], out: &mut [u8]) -> Option<usize>
     requires { (i < row_count) × (list.length out.old ≡ read_size) }
     ensures { RowRead (rules_of book.PresentLenient) (row_at i) kinds.now line.now out.new result }
 {
     let rival = rules::rival_of(Book::PresentLenient, listing::kind_at(i));
-    if find(kinds, 0, rival) < kinds.len() {
-        0
-    } else {
-        line_length(i, line, out)
+    if kinds.contains(&rival) {
+        return None;
     }
+    line_length(i, line, out)
 }
 
-// Where the line that begins at a place ends, with its line end.
+// Where an octet first stands.
+fn place_of(octet: u8, text: &[u8]) -> Option<usize>
+    ensures { result ≡ position (λ x. x == octet) text.now }
+{
+    text.iter().position(|&x| x == octet)
+}
+
+// Where the line that begins at a place ends, with its line end; where the text ends, if the line has none.
 fn line_end(text: &[u8], at: usize) -> usize
     requires { at ≤ list.length text.now }
     ensures { result ≡ at + list.length (line_in (list.drop at text.now)) }
 {
-    let end = find(text, at, b'\n');
-    if end < text.len() { end + 1 } else { end }
+    match place_of(b'\n', &text[at..]) {
+        Some(i) => at + i + 1,
+        None => text.len(),
+    }
 }
 
 // A parameter behind those before it, as far as the area goes: where it ends, or would end.
@@ -315,7 +272,8 @@ fn lay_parameter(kind: u8, contents: &[u8], area: &mut [u8], size: usize) -> usi
     end
 }
 
-// Row by row, each takes the next line where that is its own.
+// Row by row, each takes the next line where that is its own. The types so far stay an array with their count beside
+// it: there is no heap for a list that grows.
 fn take_rows(text: &[u8], first: usize, area: &mut [u8]) -> Taken
     requires { (first ≤ list.length text.now) × (list.length area.old ≡ 255) }
     ensures { TookRows (taken (rules_of book.PresentLenient) (rules_of book.PresentLenient).rows [] (list.drop first text.now)) text.now area.new result }
@@ -328,10 +286,9 @@ fn take_rows(text: &[u8], first: usize, area: &mut [u8]) -> Taken
     for i in 0..listing::ROWS {
         let end = line_end(text, at);
         let kind = listing::kind_at(i);
-        let n = row_length(i, &text[at..end], &kinds[..count], &mut contents);
-        if n == 0 {
+        let Some(n) = row_length(i, &text[at..end], &kinds[..count], &mut contents) else {
             continue;
-        }
+        };
         kinds[count] = kind;
         size = lay_parameter(kind, &contents[..n], area, size);
         at = end;
@@ -342,39 +299,38 @@ fn take_rows(text: &[u8], first: usize, area: &mut [u8]) -> Taken
 
 // ---- the answer
 
-// The message type that the first line says, 0 for none.
-fn kind_in(line: &[u8]) -> u8
-    ensures { result ≡ kind_in line.now }
+// The message type that the first line says.
+#[tactic(auto, using(rules::proofs::Telling::telling), unfolding(crate::specs::Relist::kind_said))]
+fn kind_in(line: &[u8]) -> Option<u8>
+    ensures { result ≡ kind_said line.now }
 {
     if listing::says_kind(0x80, line) {
-        0x80
+        Some(0x80)
     } else if listing::says_kind(0x82, line) {
-        0x82
+        Some(0x82)
     } else {
-        0
+        None
     }
 }
 
 // What follows the value lines: the last line, and nothing behind it.
-fn close(text: &[u8], lines: Taken, room: usize) -> Written
+#[tactic(auto, using(rules::proofs::Telling::telling), unfolding(crate::specs::Relist::closed))]
+fn close(text: &[u8], lines: Taken, room: usize) -> Result<u16, Fault>
     requires { (lines.at ≤ list.length text.now) × (lines.count ≤ row_count) }
     ensures { result ≡ closed lines.count (list.drop lines.at text.now) lines.size room }
 {
-    let at = lines.at;
     let count = lines.count as u16;
     if count == 0 {
         return writer::refusal(61, 2);
     }
-    let end = line_end(text, at);
-    if listing::says_end(&text[at..end]) {
-        if end < text.len() {
-            writer::refusal(61, count + 3)
-        } else {
-            writer::with_room(62, lines.size, room)
-        }
-    } else {
-        writer::refusal(61, count + 2)
+    let end = line_end(text, lines.at);
+    if !listing::says_end(&text[lines.at..end]) {
+        return writer::refusal(61, count + 2);
     }
+    if end < text.len() {
+        return writer::refusal(61, count + 3);
+    }
+    writer::with_room(62, lines.size, room)
 }
 
 // The message of a type and its parameters' octets, at the output's start.
@@ -388,39 +344,31 @@ fn seal(kind: u8, body: &[u8], out: &mut [u8])
     out[1] = n as u8;
     out[2..end].copy_from_slice(body);
     let sum = writer::sum_of(&out[..end]);
-    out[end] = std::num::wrapping_sub_u8(0, sum);
+    out[end] = 0u8.wrapping_sub(sum);
 }
 
 // The message at the output's start, or a refusal; octets after the message stay, and in a refusal all of them.
-fn answer(text: &[u8], out: &mut [u8]) -> Written
+fn answer(text: &[u8], out: &mut [u8]) -> Result<u16, Fault>
     ensures answer { result ≡ relisted (rules_of book.PresentLenient) text.now (list.length out.old) }
     ensures output { out.new ≡ output_after result (octets (message_for (rules_of book.PresentLenient) text.now)) out.old }
 {
     let first = line_end(text, 0);
-    let kind = kind_in(&text[..first]);
-    if kind == 0 {
-        return writer::refusal(61, 1);
-    }
+    let kind = kind_in(&text[..first]).ok_or(rules::noted(61, 1))?;
     let mut area = [0u8; BODY];
     let lines = take_rows(text, first, &mut area);
-    let size = lines.size;
-    let written = close(text, lines, out.len());
-    match written {
-        Written::Message { size: whole } => {
-            seal(kind, &area[..size], out);
-            Written::Message { size: whole }
-        }
-        Written::Declined { fault } => Written::Declined { fault },
-    }
+    let whole = close(text, lines, out.len())?;
+    seal(kind, &area[..lines.size], out);
+    Ok(whole)
 }
 
 // The message that a listing says, at the start of the output, or a refusal, which changes nothing; the answer names
 // the present edition.
+#[tactic(auto, unfolding(crate::specs::Relist::relisting, rules::specs::Table::rules_of))]
 pub fn message_of(text: &[u8], out: &mut [u8]) -> Writing
     ensures answer { result ≡ relisting (rules_of book.PresentLenient) text.now (list.length out.old) }
     ensures output { out.new ≡ output_after result.answer (octets (message_for (rules_of book.PresentLenient) text.now)) out.old }
 {
-    Writing {
+    Named {
         edition: rules::PRESENT,
         answer: answer(text, out),
     }

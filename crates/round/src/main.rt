@@ -8,7 +8,6 @@ use rules::Fault;
 use std::io;
 use std::io::{Read, Write};
 use streams::Hex;
-use writer::Written;
 
 // The most octets that an area has, and the most that a text has.
 const ROOM: usize = 300;
@@ -49,8 +48,8 @@ fn show(out: &mut impl Write, text: &[u8], area: &mut [u8]) -> io::Result<()> {
     let writing = relist::message_of(text, area);
     let answer = writing.answer;
     match answer {
-        Written::Message { size } => say_message(out, size as usize, area, text),
-        Written::Declined { fault } => say_fault(out, fault, area),
+        Ok(size) => say_message(out, size as usize, area, text),
+        Err(fault) => say_fault(out, fault, area),
     }
 }
 

@@ -8,7 +8,6 @@ use draft::{Draft, Entry, Value};
 use rules::Fault;
 use std::io;
 use std::io::Write;
-use writer::Written;
 
 // Octets as two capital hex digits and a space each.
 fn print_octets(out: &mut impl Write, octets: &[u8]) -> io::Result<()> {
@@ -32,13 +31,13 @@ fn show_in(
     let writing = writer::write(way, d, texts, area);
     let answer = writing.answer;
     match answer {
-        Written::Message { size } => {
+        Ok(size) => {
             let n = size as usize;
             if n <= area.len() {
                 print_octets(out, &area[..n])?;
             }
         }
-        Written::Declined { fault } => print_fault(out, fault)?,
+        Err(fault) => print_fault(out, fault)?,
     }
     writeln!(out, "edition {}", writing.edition)
 }

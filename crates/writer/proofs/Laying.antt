@@ -1,14 +1,13 @@
 -- What laying down needs: a copy behind two octets, a parameter behind those before it in the output's rest, the
 -- checksum behind them all.
 -- Assumes nothing.
-use Rattle.std.proofs.Common.{◌≡◌, ℕ, zero, suc, ◌+◌, ◌-◌, ◌%◌, ◌<◌, ◌≤◌, T, List, [], ◌∷◌, ◌++◌, length, get_or, take, drop, set, sym, refl, ap, ◌∙◌, ap₂, append_assoc, append-nil, add-one, arith, length-append, length-drop, length-set, take-append-drop, length-take, length-take-le, take_all, drop-cons, take-suc, take-take, drop-drop, take_at}
+use Rattle.std.proofs.Common.{◌≡◌, ℕ, zero, suc, ◌+◌, ◌-◌, ◌%◌, ◌<◌, ◌≤◌, T, List, [], ◌∷◌, ◌++◌, length, get_or, take, drop, set, sym, refl, ap, ◌∙◌, ap₂, append_assoc, append-nil, add-one, arith, length-append, length-drop, length-set, take-append-drop, length-take, length-take-le, take_all, drop-cons, take-suc, drop-drop, take_at}
 use lib.Seq.{set-append_seam}
 use borrow.Rule.Slice.PartMut.{put_mid, mid_of, same_len_mid}
 use Rattle.rules.specs.Tests.{every}
 use Rattle.rules.proofs.Tests.{both, le_of}
 use Rattle.rules.specs.Octets.{total, checksum}
-use Rattle.rules.proofs.Octets.{total-append}
-use Rattle.rules.specs.Message.{Message, body, front, octets, most}
+use Rattle.rules.specs.Message.{Message, body, front, octets}
 use Rattle.rules.specs.Laying.{laid, laid_at}
 use Rattle.rules.proofs.Laying.{laid_then, rest_laid, part_is, part_over}
 use Rattle.draft.specs.Draft.{inside, all_inside, parameter_of, parameters_of, used, message_of}
@@ -18,8 +17,8 @@ use Rattle.draft.specs.declared.Flat.{Flat}
 use Rattle.draft.specs.declared.Entry.{Entry}
 use Rattle.draft.specs.declared.Draft.{Draft}
 use Rattle.writer.specs.Writing.{contents_of}
-use Rattle.writer.specs.Judging.{spelling_of, head_of}
-use Rattle.writer.proofs.Judging.{spelled_head, contents_are}
+use Rattle.writer.specs.Judging.{padded, head_of}
+use Rattle.writer.proofs.Judging.{padded_take, contents_are}
 use Rattle.writer.specs.declared.Spelling.{Spelling}
 use Rattle.writer.specs.Laying.{LaidParameter, parameter_octets, Puttable, Layable}
 
@@ -63,14 +62,14 @@ module _ (old head text : List ℕ) (kind : ℕ) where
 
 -- ---- the parameter of an entry, by its value laid flat
 module _ (texts : List ℕ) (e : Entry) (f : Flat) (q : f ≡ flat_of e.value) (s : Spelling)
-    (z : s ≡ spelling_of e.value) (room : ℕ) (p : Puttable e texts room) where
+    (z : s ≡ padded (head_of e.value)) (room : ℕ) (p : Puttable e texts room) where
   -- the octets spelled, and its text by start and end
   abbrev in_two : List ℕ
   in_two = take s.length s.octets ++ take (f.start + f.length - f.start) (drop f.start texts)
 
   two_are : in_two ≡ contents_of texts e
   two_are =
-      ap₂ (λ (v w : List ℕ). v ++ w) (spelled_head s e.value z) (part_is texts f.start f.length)
+      ap₂ (λ (v w : List ℕ). v ++ w) (padded_take s (head_of e.value) z) (part_is texts f.start f.length)
       ∙ ap (λ (f : Flat). head_of e.value ++ take f.length (drop f.start texts)) q
       ∙ contents_are texts e.value
 
@@ -122,47 +121,38 @@ module _ (es : List Entry) (texts : List ℕ) (i : ℕ) (z : Entry) (l : i < len
       ∙ body-append texts (take i es) (get_or es i z ∷ [])
       ∙ ap (λ (t : List ℕ). body_of texts (take i es) ++ t) (one_body texts (get_or es i z))
 
-  body_less : (n : ℕ) → i < n →
-      length (body_of texts (take i es)) + length (parameter_octets texts (get_or es i z)) ≤ length
-      (body_of texts (take n es))
-  body_less n h =
-      let a : body_of texts (take n es) ≡ body_of texts (take (i + 1) (take n es))
-      ++ body_of texts (drop (i + 1) (take n es)) =
-      ap (body_of texts) (sym (take-append-drop (i + 1) (take n es))) ∙ body-append texts _ _ in
-      let b : take (i + 1) (take n es) ≡ take (i + 1) es = take-take (i + 1) n es (omega arith) in
-      let d : length (body_of texts (take n es)) ≡ length
-      (body_of texts (take (i + 1) es) ++ body_of texts (drop (i + 1) (take n es))) =
-      ap length a ∙ ap (λ (t : List Entry). length (body_of texts t ++ body_of texts (drop (i + 1) (take n es)))) b in
+  body_less : length (body_of texts (take i es)) + length (parameter_octets texts (get_or es i z)) ≤ length
+      (body_of texts es)
+  body_less =
+      let a : body_of texts es ≡ body_of texts (take (i + 1) es) ++ body_of texts (drop (i + 1) es) =
+      ap (body_of texts) (sym (take-append-drop (i + 1) es)) ∙ body-append texts _ _ in
       omega (
         arith,
-        d,
-        length-append (body_of texts (take (i + 1) es)) (body_of texts (drop (i + 1) (take n es))),
+        ap length a,
+        length-append (body_of texts (take (i + 1) es)) (body_of texts (drop (i + 1) es)),
         ap length body_more,
         length-append (body_of texts (take i es)) (parameter_octets texts (get_or es i z)),
       )
 
-inside_at : (texts : List ℕ) (es : List Entry) (n i : ℕ) (z : Entry) → i < n → i < length es →
-    T (all_inside texts (take n es)) → T (inside texts (get_or es i z).value)
+inside_at : (texts : List ℕ) (es : List Entry) (i : ℕ) (z : Entry) → i < length es → T (all_inside texts es) →
+    T (inside texts (get_or es i z).value)
 unfolding all_inside every
-inside_at texts [] n i z h l a = absurd (let q : i < 0 = l in omega arith)
-inside_at texts (e ∷ es) zero i z h l a = absurd (let q : i < 0 = h in omega arith)
-inside_at texts (e ∷ es) (suc n) zero z h l a = (both _ _ a).0
-inside_at texts (e ∷ es) (suc n) (suc i) z h l a =
-    inside_at texts es n i z (let q : suc i < suc n = h in omega arith)
-    (let q : suc i < suc (length es) = l in omega arith) (both _ _ a).1
+inside_at texts [] i z l a = absurd (let q : i < 0 = l in omega arith)
+inside_at texts (e ∷ es) zero z l a = (both _ _ a).0
+inside_at texts (e ∷ es) (suc i) z l a =
+    inside_at texts es i z (let q : suc i < suc (length es) = l in omega arith) (both _ _ a).1
 
 -- i entries are laid down behind the first two octets of the output
-pub record Wrote (n : ℕ) (es : List Entry) (texts first out : List ℕ) (at i : ℕ) : Type 0 where
-  pub below : i ≤ n
+pub record Wrote (es : List Entry) (texts first out : List ℕ) (at i : ℕ) : Type 0 where
   pub at_is : at ≡ 2 + length (body_of texts (take i es))
   pub out_is : out ≡ laid (take 2 first ++ body_of texts (take i es)) first
   pub long : length out ≡ length first
 
-pub wrote_none : (n : ℕ) (es : List Entry) (texts first : List ℕ) → 2 ≤ length first → Wrote n es texts first first 2 0
+pub wrote_none : (es : List Entry) (texts first : List ℕ) → 2 ≤ length first → Wrote es texts first first 2 0
 unfolding laid body parameters_of
-wrote_none n es texts [] h = absurd (let z : 2 ≤ 0 = h in omega arith)
-wrote_none n es texts (x ∷ []) h = absurd (let z : 2 ≤ 1 = h in omega arith)
-wrote_none n es texts (x ∷ y ∷ zs) h = record { below = omega arith; at_is = refl; out_is = refl; long = refl }
+wrote_none es texts [] h = absurd (let z : 2 ≤ 0 = h in omega arith)
+wrote_none es texts (x ∷ []) h = absurd (let z : 2 ≤ 1 = h in omega arith)
+wrote_none es texts (x ∷ y ∷ zs) h = record { at_is = refl; out_is = refl; long = refl }
 
 -- the first two octets are the message type and L
 header_laid : (old v : List ℕ) (kind l : ℕ) → 2 ≤ length old →
@@ -177,59 +167,57 @@ abbrev headed : Draft → List ℕ → ℕ → List ℕ
 headed d old l = set (set old 0 d.kind) 1 l
 
 module _ (d : Draft) (texts old : List ℕ) (l : ℕ) (p : Layable d texts (length old) l)
-    (full : length d.entries ≡ most) (out : List ℕ) (at i : ℕ)
-    (w : Wrote d.count d.entries texts (headed d old l) out at i) where
+    (out : List ℕ) (at i : ℕ) (w : Wrote (used d) texts (headed d old l) out at i) where
   headed_long : length (headed d old l) ≡ length old
   headed_long = simp length-set
 
-  pub wrote_end : d.count ≤ i →
+  pub wrote_end : length (used d) ≤ i →
       (out ≡ laid (front (message_of d texts)) old) × (at ≡ length (front (message_of d texts)))
   unfolding message_of
   wrote_end h =
-      let q : i ≡ d.count = omega (arith, w.below) in (
+      let t : take i (used d) ≡ used d = take_all i (used d) h in (
         w.out_is
-            ∙ ap (λ (k : ℕ). laid (take 2 (headed d old l) ++ body_of texts (take k d.entries)) (headed d old l)) q
+            ∙ ap (λ (es : List Entry). laid (take 2 (headed d old l) ++ body_of texts es) (headed d old l)) t
             ∙ header_laid old (body_of texts (used d)) d.kind l (omega (arith, p.fits))
             ∙ ap (λ (k : ℕ). laid (d.kind ∷ k ∷ body_of texts (used d)) old) (sym p.size),
-        omega (arith, w.at_is, ap (λ (k : ℕ). length (body_of texts (take k d.entries))) q),
+        omega (arith, w.at_is, ap (λ (es : List Entry). length (body_of texts es)) t),
       )
 
   pub wrote_length : length out ≡ length old
   wrote_length = w.long ∙ headed_long
 
-  module _ (z : Entry) (h : i < d.count) where
-    in_body : length (body_of texts (take i d.entries)) + length
-        (parameter_octets texts (get_or d.entries i z)) ≤ length (body_of texts (used d))
-    in_body = body_less d.entries texts i z (omega (arith, p.few)) d.count h
+  module _ (z : Entry) (h : i < length (used d)) where
+    in_body : length (body_of texts (take i (used d))) + length
+        (parameter_octets texts (get_or (used d) i z)) ≤ length (body_of texts (used d))
+    in_body = body_less (used d) texts i z h
 
-    pub wrote_room : at + length (parameter_octets texts (get_or d.entries i z)) + 1 ≤ length out
+    pub wrote_room : at + length (parameter_octets texts (get_or (used d) i z)) + 1 ≤ length out
     wrote_room = omega (arith, in_body, w.at_is, wrote_length, p.size, p.fits)
 
-    pub wrote_small : at + length (parameter_octets texts (get_or d.entries i z)) ≤ 257
+    pub wrote_small : at + length (parameter_octets texts (get_or (used d) i z)) ≤ 257
     wrote_small = omega (arith, in_body, w.at_is, p.size, p.short)
 
-    pub wrote_asked : Puttable (get_or d.entries i z) texts (length (take (length out - at) (drop at out)))
+    pub wrote_asked : Puttable (get_or (used d) i z) texts (length (take (length out - at) (drop at out)))
     unfolding parameter_octets
     wrote_asked =
         record {
           fits = simp (length-take, length-drop) (omega (arith, wrote_room));
           short = omega (arith, in_body, p.size, p.short);
-          lies = inside_at texts d.entries d.count i z h (omega (arith, p.few)) p.lie;
+          lies = inside_at texts (used d) i z h p.lie;
         }
 
     pub wrote_more : (last : List ℕ) (r : ℕ) →
-        (last ≡ laid (parameter_octets texts (get_or d.entries i z)) (take (length out - at) (drop at out)))
-        × (r ≡ length (parameter_octets texts (get_or d.entries i z))) →
+        (last ≡ laid (parameter_octets texts (get_or (used d) i z)) (take (length out - at) (drop at out)))
+        × (r ≡ length (parameter_octets texts (get_or (used d) i z))) →
         length last ≡ length (mid_of at (length out - at) out) →
-        Wrote d.count d.entries texts (headed d old l) (put_mid at (length out - at) out last) (at + r) (i + 1)
+        Wrote (used d) texts (headed d old l) (put_mid at (length out - at) out last) (at + r) (i + 1)
     wrote_more last r e k =
-        let m = body_more d.entries texts i z (omega (arith, p.few)) in
-        let b = body_of texts (take i d.entries) in
-        let o = parameter_octets texts (get_or d.entries i z) in
+        let m = body_more (used d) texts i z h in
+        let b = body_of texts (take i (used d)) in
+        let o = parameter_octets texts (get_or (used d) i z) in
         let f = headed d old l in
         let t : length (take 2 f) ≡ 2 = length-take-le 2 f (omega (arith, p.fits, headed_long)) in
         record {
-          below = omega arith;
           at_is = omega (arith, w.at_is, e.1, ap length m, length-append b o);
           out_is = rest_laid o out last at e.0
               ∙ ap₂ (laid_at o)
@@ -252,7 +240,8 @@ checksum_is : (n sum r : ℕ) → sum ≡ n % 256 → r < 256 → (r + sum) % 25
 unfolding checksum
 checksum_is n sum r e l q = omega arith
 
-set_behind : (v old : List ℕ) (x : ℕ) → length v < length old → set (laid v old) (length v) x ≡ laid (v ++ x ∷ []) old
+pub set_behind : (v old : List ℕ) (x : ℕ) → length v < length old →
+    set (laid v old) (length v) x ≡ laid (v ++ x ∷ []) old
 unfolding laid
 set_behind v old x h =
     let d = drop-cons old (length v) 0 h in
@@ -275,16 +264,3 @@ module _ (m : Message) (old out : List ℕ) (end : ℕ) (q : (out ≡ laid (fron
       ∙ ap (λ (k : ℕ). set (laid v old) k r) q.1
       ∙ set_behind v old r (omega (arith, q.1))
       ∙ ap (λ (x : ℕ). laid (v ++ x ∷ []) old) c
-
--- ---- the sum of the octets before i
-pub sum_more : (s : List ℕ) (i sum r : ℕ) → sum ≡ total (take i s) % 256 → i < length s →
-    r ≡ (sum + get_or s i 0) % 256 → r ≡ total (take (i + 1) s) % 256
-unfolding total
-sum_more s i sum r e h q =
-    let t : total (take (i + 1) s) ≡ total (take i s) + (get_or s i 0 + 0) =
-    ap (λ (k : ℕ). total (take k s)) (add-one i) ∙ ap total (take-suc s i 0 h)
-    ∙ total-append (take i s) (get_or s i 0 ∷ []) in
-    omega arith
-
-pub sum_all : (s : List ℕ) (i : ℕ) → length s ≤ i → total (take i s) % 256 ≡ total s % 256
-sum_all s i h = ap (λ (l : List ℕ). total l % 256) (take_all i s h)

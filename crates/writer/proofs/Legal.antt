@@ -1,6 +1,6 @@
 -- Which entries make a legal parameter, which drafts are written, and that what is written is accepted.
 -- Assumes nothing.
-use Rattle.std.proofs.Common.{◌≡◌, ℕ, suc, ◌+◌, ◌<◌, ◌≤◌, T, ◌⊎◌, ◌↔◌, List, [], ◌∷◌, length, refl, ap, ◌∙◌, inl, inr, arith, length-take}
+use Rattle.std.proofs.Common.{◌≡◌, ℕ, suc, ◌+◌, ◌<◌, ◌≤◌, T, ◌⊎◌, ◌↔◌, List, [], ◌∷◌, length, refl, ap, ◌∙◌, inl, inr, arith, length-take, Ok}
 use native.Mathlib.Nat.{min-le_left}
 use Rattle.rules.specs.Tests.{◌≤?◌, ◌and◌, pick, every}
 use Rattle.rules.proofs.Tests.{decide, both, join, le_of, of_le, eq_of, of_eq, pick_yes, pick_not, picked_by, clash, not_zero}
@@ -14,7 +14,6 @@ use Rattle.draft.specs.declared.Entry.{Entry}
 use Rattle.draft.specs.declared.Draft.{Draft}
 use Rattle.writer.specs.Reasons.{Makes, length_of}
 use Rattle.writer.specs.Writing.{legal_entry, legal_before, sized, measured_of, write_of}
-use Rattle.writer.specs.declared.Written.TheVariants.{Message}
 
 -- a test that fails
 pub at_most : (a b : ℕ) → (T (suc b ≤? a) → ⊥) → a ≤ b
@@ -92,7 +91,7 @@ pub record Writable (R : Rules) (d : Draft) (texts : List ℕ) (room : ℕ) : Ty
 
 module _ (R : Rules) (d : Draft) (texts : List ℕ) (room : ℕ) where
   -- then it writes
-  pub writes : Writable R d texts room → write_of R d texts room ≡ Message (length_of d texts + 3)
+  pub writes : Writable R d texts room → write_of R d texts room ≡ Ok (length_of d texts + 3)
   unfolding write_of measured_of sized
   writes w =
       pick_yes _ _ _ w.kind
@@ -103,7 +102,7 @@ module _ (R : Rules) (d : Draft) (texts : List ℕ) (room : ℕ) where
       ∙ pick_not _ _ _ (λ t. omega (arith, le_of _ _ t, w.fits))
 
   -- and else it does not
-  pub written : (n : ℕ) → write_of R d texts room ≡ Message n → Writable R d texts room × (n ≡ length_of d texts + 3)
+  pub written : (n : ℕ) → write_of R d texts room ≡ Ok n → Writable R d texts room × (n ≡ length_of d texts + 3)
   unfolding write_of measured_of sized
   written n e =
       picked_by _ _ _ _ _ e

@@ -4,6 +4,7 @@ pub mod Contents
 pub mod Entries
 pub mod Calls
 pub mod Laying
+pub mod Pairs
 pub mod Settled
 pub mod Promised
 pub mod One

@@ -1,15 +1,14 @@
 -- The sentences on writing leave one answer and one output: every draft goes one of the seven ways, and each way has
 -- its answer; a message and the octets behind it make up the output.
 -- Assumes nothing.
-use Rattle.std.proofs.Common.{◌≡◌, ℕ, zero, suc, ◌+◌, ◌<◌, ◌≤◌, Bool, T, ◌⊎◌, List, ◌++◌, length, sym, refl, ap, ◌∙◌, subst, ap₂, inl, inr, arith, take-append-drop}
+use Rattle.std.proofs.Common.{◌≡◌, ℕ, zero, suc, ◌+◌, ◌<◌, ◌≤◌, Bool, T, ◌⊎◌, List, ◌++◌, length, sym, refl, ap, ◌∙◌, subst, ap₂, inl, inr, arith, take-append-drop, Result}
 use Rattle.rules.specs.Tests.{◌=?◌, ◌≤?◌}
 use Rattle.rules.proofs.Tests.{decide, le_of, eq_of, of_eq, not_zero}
 use Rattle.rules.specs.Table.{Rules, rules_of}
 use Rattle.rules.specs.Editions.{known, book_of}
 use Rattle.rules.specs.Message.{message_kind, most}
 use Rattle.draft.specs.declared.Draft.{Draft}
-use Rattle.writer.specs.declared.Writing.{Writing}
-use Rattle.writer.specs.declared.Written.{Written}
+use Rattle.writer.specs.Writing.{Writing}
 use Rattle.writer.specs.Told.{told, success}
 use Rattle.writer.proofs.Told.{unwritten_is, message_is}
 use Rattle.writer.specs.Writing.{legal_entry}
@@ -17,6 +16,7 @@ use Rattle.writer.specs.Reasons.{Makes, entry_at, length_of, AllMake, FirstBad, 
 use Rattle.writer.specs.Reasons.{Answers, Writes, WritesBy, Went, kind_is_none, no_entries, many_entries, bad_entry}
 use Rattle.writer.specs.Reasons.{too_long, too_tight, fits}
 use Rattle.writer.proofs.Legal.{at_most, makes_iff}
+use Rattle.rules.specs.declared.Fault.{Fault}
 
 -- a test passes, or it fails
 abbrev Decided : Bool → Type 0
@@ -45,7 +45,7 @@ module _ (R : Rules) (d : Draft) (texts : List ℕ) where
 
   module _ (room : ℕ) where
     abbrev Way : Type 0
-    Way = (x : Written) × Went R d texts room x
+    Way = (x : Result ℕ Fault) × Went R d texts room x
 
     -- every draft goes one of the seven ways
     way : Way
@@ -72,7 +72,7 @@ module _ (R : Rules) (d : Draft) (texts : List ℕ) where
         go (inr n) = (_, kind_is_none n)
 
     -- and each has its answer
-    went_is : (w : Written) → Answers R d texts room w → (x : Written) → Went R d texts room x → w ≡ x
+    went_is : (w : Result ℕ Fault) → Answers R d texts room w → (x : Result ℕ Fault) → Went R d texts room x → w ≡ x
     went_is w A x (kind_is_none n) = unwritten_is w _ _ (omega arith) ((A.eleven 0).1 (refl, n))
     went_is w A x (no_entries k z) = unwritten_is w _ _ (omega arith) ((A.fourteen 0).1 (refl, (k, z)))
     went_is w A x (many_entries k m) = unwritten_is w _ _ (omega arith) ((A.thirteen 0).1 (refl, inl (k, m)))
@@ -82,10 +82,10 @@ module _ (R : Rules) (d : Draft) (texts : List ℕ) where
     went_is w A x (fits a m l r) = message_is w _ (omega arith) ((A.message _).1 (refl, (a, (m, (l, r)))))
 
     -- a message, or a number
-    abbrev Answered : Written → Type 0
+    abbrev Answered : Result ℕ Fault → Type 0
     Answered x = ((n : ℕ) × (told x ≡ success n)) ⊎ (1 ≤ (told x).number)
 
-    answered : (x : Written) → Went R d texts room x → Answered x
+    answered : (x : Result ℕ Fault) → Went R d texts room x → Answered x
     unfolding told
     answered x (kind_is_none n) = inr (omega arith)
     answered x (no_entries k z) = inr (omega arith)
@@ -96,11 +96,11 @@ module _ (R : Rules) (d : Draft) (texts : List ℕ) where
     answered x (fits a m l r) = inl (_, refl)
 
     -- a draft with its text area and the room in the output have one answer
-    pub answers_one : (w v : Written) → Answers R d texts room w → Answers R d texts room v → w ≡ v
+    pub answers_one : (w v : Result ℕ Fault) → Answers R d texts room w → Answers R d texts room v → w ≡ v
     answers_one w v A B = went_is w A _ way.1 ∙ sym (went_is v B _ way.1)
 
   -- and with the output one output
-  pub writes_one : (old : List ℕ) (w : Written) (new : List ℕ) (v : Written) (after : List ℕ) →
+  pub writes_one : (old : List ℕ) (w : Result ℕ Fault) (new : List ℕ) (v : Result ℕ Fault) (after : List ℕ) →
       Writes R d texts old w new → Writes R d texts old v after → (w ≡ v) × (new ≡ after)
   writes_one old w new v after A B =
       let e = answers_one (length old) w v A.answers B.answers in
@@ -117,8 +117,8 @@ module _ (R : Rules) (d : Draft) (texts : List ℕ) where
           let y = a.stays ∙ sym b.stays in
           sym (take-append-drop n new) ∙ ap₂ ◌++◌ x y ∙ take-append-drop n after
       go (inr l) d =
-          A.keeps (subst (λ (x : Written). 1 ≤ (told x).number) (sym is) l)
-          ∙ sym (B.keeps (subst (λ (x : Written). 1 ≤ (told x).number) (sym (d ∙ is)) l))
+          A.keeps (subst (λ (x : Result ℕ Fault). 1 ≤ (told x).number) (sym is) l)
+          ∙ sym (B.keeps (subst (λ (x : Result ℕ Fault). 1 ≤ (told x).number) (sym (d ∙ is)) l))
 
 -- by the draft's edition and any way, one answer, one edition named and one output
 pub writes_by_one : (w : ℕ) (d : Draft) (texts old : List ℕ) (r : Writing) (new : List ℕ) (s : Writing)

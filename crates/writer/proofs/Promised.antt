@@ -1,6 +1,6 @@
 -- What the promise of `write` says of any draft with its text area and any output, over the written rules.
 -- Assumes nothing.
-use Rattle.std.proofs.Common.{◌≡◌, ℕ, ◌≤◌, T, ◌⊎◌, List, ◌++◌, length, take, drop, sym, refl, ap, ◌∙◌, subst, ap₂, inl, inr, arith, take_at, drop_at}
+use Rattle.std.proofs.Common.{◌≡◌, ℕ, ◌≤◌, T, ◌⊎◌, List, ◌++◌, length, take, drop, sym, refl, ap, ◌∙◌, subst, ap₂, inl, inr, arith, take_at, drop_at, Result, Ok, Err}
 use Rattle.rules.proofs.Tests.{decide, pick_yes, pick_not}
 use Rattle.rules.specs.Editions.{edition, known, book_of}
 use Rattle.rules.proofs.Editions.{book_edition, edition_of_lem}
@@ -21,9 +21,7 @@ use Rattle.writer.proofs.Legal.{written, message_legal}
 use Rattle.writer.specs.Reasons.{Answers, LaidMessage, Writes, WritesBy}
 use Rattle.writer.proofs.Reasons.{answers}
 use Rattle.writer.proofs.RoundTrips.{round_trips_of}
-use Rattle.writer.specs.declared.Writing.{Writing}
-use Rattle.writer.specs.declared.Written.{Written}
-use Rattle.writer.specs.declared.Written.TheVariants.{Message, Declined}
+use Rattle.writer.specs.Writing.{Writing}
 use Rattle.writer.specs.Told.{Told, told, refusal}
 use Rattle.writer.proofs.Told.{message_is}
 use Rattle.writer.proofs.write.Reads as write
@@ -39,21 +37,21 @@ abbrev pub book_for : Draft → ℕ → Book
 book_for d w = book_of d.edition w
 
 -- ---- by a book, where answer and output are as its rule says
-module _ (b : Book) (d : Draft) (t old : List ℕ) (w : Written) (out : List ℕ)
+module _ (b : Book) (d : Draft) (t old : List ℕ) (w : Result ℕ Fault) (out : List ℕ)
     (is : w ≡ write_of (rules_of b) d t (length old)) (after : out ≡ output_after w (octets (message_of d t)) old) where
   -- each number exactly where document 01 gives it
   pub answers_by : Answers (rules_of b) d t (length old) w
   answers_by = answers b d t (length old) w is
 
   -- a message of n octets stands in the output
-  pub lays_by : (n : ℕ) → w ≡ Message n → LaidMessage (rules_of b) d t old out n
+  pub lays_by : (n : ℕ) → w ≡ Ok n → LaidMessage (rules_of b) d t old out n
   unfolding output_after laid message_of
   lays_by n e =
       let m = message_of d t in
       let x = written (rules_of b) d t (length old) n (sym is ∙ e) in
       let l : length (octets m) ≡ n = octets-length m ∙ sym x.1 in
       let q : out ≡ octets m ++ drop (length (octets m)) old =
-      after ∙ ap (λ (y : Written). output_after y (octets m) old) e in
+      after ∙ ap (λ (y : Result ℕ Fault). output_after y (octets m) old) e in
       let f : take n out ≡ octets m = ap (take n) q ∙ take_at (octets m) _ n l in
       record {
         begins = f;
@@ -62,9 +60,9 @@ module _ (b : Book) (d : Draft) (t old : List ℕ) (w : Written) (out : List ℕ
       }
 
   -- on a refusal the output is as it was
-  pub keeps_by : (f : Fault) → w ≡ Declined f → out ≡ old
+  pub keeps_by : (f : Fault) → w ≡ Err f → out ≡ old
   unfolding output_after
-  keeps_by f e = after ∙ ap (λ (y : Written). output_after y (octets (message_of d t)) old) e
+  keeps_by f e = after ∙ ap (λ (y : Result ℕ Fault). output_after y (octets (message_of d t)) old) e
 
   -- answer and output together (`Writes`)
   pub writing_by_book : Writes (rules_of b) d t old w out
@@ -75,25 +73,25 @@ module _ (b : Book) (d : Draft) (t old : List ℕ) (w : Written) (out : List ℕ
     keeps = kept w refl;
   }
     where
-      kept : (x : Written) → w ≡ x → 1 ≤ (told x).number → out ≡ old
-      kept (Message n) e l = absurd (omega arith)
-      kept (Declined f) e l = keeps_by f e
+      kept : (x : Result ℕ Fault) → w ≡ x → 1 ≤ (told x).number → out ≡ old
+      kept (Ok n) e l = absurd (omega arith)
+      kept (Err f) e l = keeps_by f e
 
   -- the draft of a legal message, over an area that begins with its texts, is written as exactly its octets where
   -- there is room
   pub writes_back_by : (m : message.Message) → LegalMessage (rules_of b) m → (rest : List ℕ) →
       d ≡ draft_of (rules_of b) m → t ≡ texts_of (rules_of b) m.parameters ++ rest → length (octets m) ≤ length old →
-      (w ≡ Message (length (octets m))) × (out ≡ laid (octets m) old)
+      (w ≡ Ok (length (octets m))) × (out ≡ laid (octets m) old)
   unfolding output_after
   writes_back_by m l rest e f g =
       let k = (round_trips_of b).message_written m rest l (length old) g in
-      let x : w ≡ Message (length (octets m)) =
+      let x : w ≡ Ok (length (octets m)) =
       is ∙ ap₂ (λ (y : Draft) (z : List ℕ). write_of (rules_of b) y z (length old)) e f ∙ k.0 in
       let o : octets (message_of d t) ≡ octets m = ap octets (ap₂ message_of e f ∙ k.1) in
-      (x, after ∙ ap₂ (λ (y : Written) (z : List ℕ). output_after y z old) x o)
+      (x, after ∙ ap₂ (λ (y : Result ℕ Fault) (z : List ℕ). output_after y z old) x o)
 
   -- a draft that is written is equal to the draft of its message, over any area that begins with the message's texts
-  pub reads_back_by : (n : ℕ) → d.edition ≡ (rules_of b).edition → T (edition d.edition) → w ≡ Message n →
+  pub reads_back_by : (n : ℕ) → d.edition ≡ (rules_of b).edition → T (edition d.edition) → w ≡ Ok n →
       (rest : List ℕ) →
       Equal d t (draft_of (rules_of b) (message_of d t)) (texts_of (rules_of b) (message_of d t).parameters ++ rest)
   reads_back_by n v k e rest = (round_trips_of b).draft_again d t (length old) n v k (sym is ∙ e) rest
@@ -126,7 +124,7 @@ module _ (w : ℕ) (d : Draft) (t old : List ℕ) (r : Writing) (out : List ℕ)
     names_edition = ap (λ (x : Writing). x.edition) named
 
     -- on a refusal the output is as it was
-    pub refusal_keeps : (f : Fault) → r.answer ≡ Declined f → out ≡ old
+    pub refusal_keeps : (f : Fault) → r.answer ≡ Err f → out ≡ old
     refusal_keeps = keeps_by (book_for d w) d t old r.answer out write_is output_is
 
     -- answer and output by the book of known numbers (`Writes`)
@@ -138,11 +136,11 @@ module _ (w : ℕ) (d : Draft) (t old : List ℕ) (r : Writing) (out : List ℕ)
     pub writes_back : (m : message.Message) → LegalMessage (rules_of (book_for d w)) m → (rest : List ℕ) →
         d ≡ draft_of (rules_of (book_for d w)) m → t ≡ texts_of (rules_of (book_for d w)) m.parameters ++ rest →
         length (octets m) ≤ length old →
-        (r.answer ≡ Message (length (octets m))) × (out ≡ laid (octets m) old)
+        (r.answer ≡ Ok (length (octets m))) × (out ≡ laid (octets m) old)
     writes_back = writes_back_by (book_for d w) d t old r.answer out write_is output_is
 
     -- a draft that is written is equal to the draft of its message, over any area that begins with the message's texts
-    pub reads_back : (n : ℕ) → r.answer ≡ Message n → (rest : List ℕ) →
+    pub reads_back : (n : ℕ) → r.answer ≡ Ok n → (rest : List ℕ) →
         Equal d t (draft_of (rules_of (book_for d w)) (message_of d t))
         (texts_of (rules_of (book_for d w)) (message_of d t).parameters ++ rest)
     reads_back n e rest =
@@ -194,7 +192,7 @@ equals_written w d t e u old r r' out out' h k q = go (decide (known d.edition w
     outputs : r.answer ≡ r'.answer → out ≡ out'
     outputs x =
         output_is w d t old r out h
-        ∙ ap₂ (λ (y : Written) (m : message.Message). output_after y (octets m) old) x (equal_stand d t e u q)
+        ∙ ap₂ (λ (y : Result ℕ Fault) (m : message.Message). output_after y (octets m) old) x (equal_stand d t e u q)
         ∙ sym (output_is w e u old r' out' k)
 
     go : T (known d.edition w) ⊎ (T (known d.edition w) → ⊥) → (r ≡ r') × (out ≡ out')

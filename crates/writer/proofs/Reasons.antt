@@ -1,7 +1,7 @@
 -- The writer's answer has its reason, and what has a reason is the answer: by the order of its tests, and then number
 -- by number.
 -- Assumes nothing.
-use Rattle.std.proofs.Common.{◌≡◌, ℕ, zero, suc, ◌+◌, ◌<◌, ◌≤◌, T, ◌⊎◌, ◌↔◌, List, [], ◌∷◌, get_or, take, sym, ap, ◌∙◌, subst, inl, inr, arith}
+use Rattle.std.proofs.Common.{◌≡◌, ℕ, zero, suc, ◌+◌, ◌<◌, ◌≤◌, T, ◌⊎◌, ◌↔◌, List, [], ◌∷◌, get_or, take, sym, ap, ◌∙◌, subst, inl, inr, arith, Result}
 use Rattle.rules.specs.Tests.{◌=?◌, pick}
 use Rattle.rules.proofs.Tests.{decide, both, le_of, of_le, eq_of, of_eq, pick_yes, pick_not, pick_case, not_zero}
 use Rattle.rules.specs.Table.{rules_of, row_in, row_of, class_of, form_of, form_number}
@@ -15,8 +15,8 @@ use Rattle.draft.specs.declared.Draft.{Draft}
 use Rattle.writer.specs.Told.{Told, told, success, refusal}
 use Rattle.writer.specs.Writing.{unwritten, legal_entry, legal_before, sized, measured_of, write_of}
 use Rattle.writer.proofs.Legal.{at_most, makes_iff}
-use Rattle.writer.specs.declared.Written.{Written}
 use Rattle.writer.specs.Reasons.{length_of, AllMake, FirstBad, Asked, Went, Answers, kind_is_none, no_entries, many_entries, bad_entry, too_long, too_tight, fits}
+use Rattle.rules.specs.declared.Fault.{Fault}
 
 -- ---- an unused entry place makes none
 none_bad : (b : Book) (texts : List ℕ) → T (legal_entry (rules_of b) texts no_entry) → ⊥
@@ -119,7 +119,7 @@ module _ (book : Book) where
         (λ r. fits a m (at_most _ _ h) (at_most _ _ r)))))))
         (λ n. kind_is_none n)
 
-    asked_is : (x : Written) → Asked d → measured_of (rules_of book) d texts room ≡ x →
+    asked_is : (x : Result ℕ Fault) → Asked d → measured_of (rules_of book) d texts room ≡ x →
         x ≡ write_of (rules_of book) d texts room
     unfolding write_of
     asked_is x a e =
@@ -129,12 +129,12 @@ module _ (book : Book) where
         ∙ pick_not _ _ _ (λ t. omega (arith, le_of _ _ t, a.few))
         ∙ e)
 
-    made_is : (x : Written) → Asked d → AllMake (rules_of book) d texts → sized 13 (length_of d texts) room ≡ x →
+    made_is : (x : Result ℕ Fault) → Asked d → AllMake (rules_of book) d texts → sized 13 (length_of d texts) room ≡ x →
         x ≡ write_of (rules_of book) d texts room
     unfolding measured_of
     made_is x a m e = asked_is x a (pick_not _ _ _ (λ t. omega (arith, le_of _ _ t, make_all d texts m)) ∙ e)
 
-    answer : (x : Written) → Went (rules_of book) d texts room x → x ≡ write_of (rules_of book) d texts room
+    answer : (x : Result ℕ Fault) → Went (rules_of book) d texts room x → x ≡ write_of (rules_of book) d texts room
     unfolding write_of measured_of sized
     answer x (kind_is_none n) = sym (pick_not _ _ _ n)
     answer x (no_entries k z) = sym (pick_yes _ _ _ k ∙ pick_yes _ _ _ (of_eq _ _ z))
@@ -150,7 +150,8 @@ module _ (book : Book) where
         made_is _ a m (pick_not _ _ _ (λ t. omega (arith, le_of _ _ t))
         ∙ pick_not _ _ _ (λ t. omega (arith, le_of _ _ t)))
 
-    pub answer_iff : (x : Written) → (x ≡ write_of (rules_of book) d texts room) ↔ Went (rules_of book) d texts room x
+    pub answer_iff : (x : Result ℕ Fault) →
+        (x ≡ write_of (rules_of book) d texts room) ↔ Went (rules_of book) d texts room x
     answer_iff x = (λ e. subst (Went (rules_of book) d texts room) (sym e) reason, answer x)
 
   apart : (a b : Told) → a ≡ b → (a.number ≡ b.number → ⊥) → ⊥
@@ -160,7 +161,7 @@ module _ (book : Book) where
   place_of k p q e = sym (ap (λ (a : Told). a.place) e)
 
   module _ (d : Draft) (texts : List ℕ) (room : ℕ) where
-    eleven_when : (x : Written) → Went (rules_of book) d texts room x → (p : ℕ) → told x ≡ refusal 11 p →
+    eleven_when : (x : Result ℕ Fault) → Went (rules_of book) d texts room x → (p : ℕ) → told x ≡ refusal 11 p →
         (p ≡ 0) × (T (message_kind d.kind) → ⊥)
     unfolding told
     eleven_when x (kind_is_none n) p e = (place_of _ _ _ e, n)
@@ -171,7 +172,7 @@ module _ (book : Book) where
     eleven_when x (too_tight a m s r) p e = absurd (apart _ _ e (λ z. omega arith))
     eleven_when x (fits a m s r) p e = absurd (apart _ _ e (λ z. omega arith))
 
-    fourteen_when : (x : Written) → Went (rules_of book) d texts room x → (p : ℕ) → told x ≡ refusal 14 p →
+    fourteen_when : (x : Result ℕ Fault) → Went (rules_of book) d texts room x → (p : ℕ) → told x ≡ refusal 14 p →
         (p ≡ 0) × (T (message_kind d.kind) × (d.count ≡ 0))
     unfolding told
     fourteen_when x (kind_is_none n) p e = absurd (apart _ _ e (λ z. omega arith))
@@ -182,7 +183,7 @@ module _ (book : Book) where
     fourteen_when x (too_tight a m s r) p e = absurd (apart _ _ e (λ z. omega arith))
     fourteen_when x (fits a m s r) p e = absurd (apart _ _ e (λ z. omega arith))
 
-    twelve_when : (x : Written) → Went (rules_of book) d texts room x → (i : ℕ) → told x ≡ refusal 12 i →
+    twelve_when : (x : Result ℕ Fault) → Went (rules_of book) d texts room x → (i : ℕ) → told x ≡ refusal 12 i →
         FirstBad (rules_of book) d texts i
     unfolding told
     twelve_when x (kind_is_none n) p e = absurd (apart _ _ e (λ z. omega arith))
@@ -193,7 +194,7 @@ module _ (book : Book) where
     twelve_when x (too_tight a m s r) p e = absurd (apart _ _ e (λ z. omega arith))
     twelve_when x (fits a m s r) p e = absurd (apart _ _ e (λ z. omega arith))
 
-    thirteen_when : (x : Written) → Went (rules_of book) d texts room x → (p : ℕ) → told x ≡ refusal 13 p →
+    thirteen_when : (x : Result ℕ Fault) → Went (rules_of book) d texts room x → (p : ℕ) → told x ≡ refusal 13 p →
         (p ≡ 0) × ((T (message_kind d.kind) × (suc most ≤ d.count))
         ⊎ (Asked d × (AllMake (rules_of book) d texts × (256 ≤ length_of d texts))))
     unfolding told
@@ -205,7 +206,7 @@ module _ (book : Book) where
     thirteen_when x (too_tight a m s r) p e = absurd (apart _ _ e (λ z. omega arith))
     thirteen_when x (fits a m s r) p e = absurd (apart _ _ e (λ z. omega arith))
 
-    fifteen_when : (x : Written) → Went (rules_of book) d texts room x → (p : ℕ) → told x ≡ refusal 15 p →
+    fifteen_when : (x : Result ℕ Fault) → Went (rules_of book) d texts room x → (p : ℕ) → told x ≡ refusal 15 p →
         (p ≡ length_of d texts + 3)
         × (Asked d × (AllMake (rules_of book) d texts × ((length_of d texts ≤ 255) × (room < length_of d texts + 3))))
     unfolding told
@@ -217,7 +218,7 @@ module _ (book : Book) where
     fifteen_when x (too_tight a m s r) p e = (place_of _ _ _ e, (a, (m, (s, r))))
     fifteen_when x (fits a m s r) p e = absurd (apart _ _ e (λ z. omega arith))
 
-    message_when : (x : Written) → Went (rules_of book) d texts room x → (n : ℕ) → told x ≡ success n →
+    message_when : (x : Result ℕ Fault) → Went (rules_of book) d texts room x → (n : ℕ) → told x ≡ success n →
         (n ≡ length_of d texts + 3)
         × (Asked d × (AllMake (rules_of book) d texts × ((length_of d texts ≤ 255) × (length_of d texts + 3 ≤ room))))
     unfolding told
@@ -229,7 +230,7 @@ module _ (book : Book) where
     message_when x (too_tight a m s r) p e = absurd (apart _ _ e (λ z. omega arith))
     message_when x (fits a m s r) p e = (sym (ap (λ (a : Told). a.size) e), (a, (m, (s, r))))
 
-    numbers_are : (x : Written) → Went (rules_of book) d texts room x → 1 ≤ (told x).number →
+    numbers_are : (x : Result ℕ Fault) → Went (rules_of book) d texts room x → 1 ≤ (told x).number →
         (11 ≤ (told x).number) × ((told x).number ≤ 15)
     unfolding told
     numbers_are x (kind_is_none n) h = (omega arith, omega arith)
@@ -241,18 +242,19 @@ module _ (book : Book) where
     numbers_are x (fits a m s r) h = absurd (omega arith)
 
     -- an answer with a reason is the writer's answer
-    given : (w : Written) → w ≡ write_of (rules_of book) d texts room → (x : Written) →
+    given : (w : Result ℕ Fault) → w ≡ write_of (rules_of book) d texts room → (x : Result ℕ Fault) →
         Went (rules_of book) d texts room x → told w ≡ told x
     given w e x r = ap told (e ∙ sym (answer d texts room x r))
 
-    over : (w : Written) → w ≡ write_of (rules_of book) d texts room →
+    over : (w : Result ℕ Fault) → w ≡ write_of (rules_of book) d texts room →
         (T (message_kind d.kind) × (suc most ≤ d.count))
         ⊎ (Asked d × (AllMake (rules_of book) d texts × (256 ≤ length_of d texts))) → told w ≡ refusal 13 0
     unfolding told
     over w e (inl h) = given w e _ (many_entries h.0 h.1)
     over w e (inr h) = given w e _ (too_long h.0 h.1.0 h.1.1)
 
-    pub answers : (w : Written) → w ≡ write_of (rules_of book) d texts room → Answers (rules_of book) d texts room w
+    pub answers : (w : Result ℕ Fault) → w ≡ write_of (rules_of book) d texts room →
+        Answers (rules_of book) d texts room w
     unfolding told
     answers w e =
         let r = (answer_iff d texts room w).0 e in

@@ -1,7 +1,7 @@
 -- The round trips, for any sound rules: entries that say what legal parameters say make legal parameters, and the
 -- other way.
 -- Assumes nothing.
-use Rattle.std.proofs.Common.{◌≡◌, ℕ, suc, ◌+◌, ◌≤◌, Bool, T, List, [], ◌∷◌, ◌++◌, length, sym, refl, ap, ◌∙◌, subst, ap₂, arith}
+use Rattle.std.proofs.Common.{◌≡◌, ℕ, suc, ◌+◌, ◌≤◌, Bool, T, List, [], ◌∷◌, ◌++◌, length, sym, refl, ap, ◌∙◌, subst, ap₂, arith, Ok}
 use Rattle.rules.specs.Editions.{edition}
 use Rattle.rules.specs.Tests.{◌≤?◌, ◌=?◌, pick, every}
 use Rattle.rules.proofs.Tests.{both, join, clash}
@@ -22,7 +22,6 @@ use Rattle.draft.specs.declared.Draft.{Draft}
 use Rattle.writer.specs.Writing.{unwritten, legal_entry, legal_before, sized, measured_of, write_of}
 use Rattle.writer.proofs.Legal.{makes_iff, all_before, all_made, all_inside_lem, parameters_length, Writable, writes, written, used_all}
 use Rattle.writer.specs.Reasons.{Makes, length_of}
-use Rattle.writer.specs.declared.Written.TheVariants.{Message}
 use Rattle.writer.specs.RoundTrips.{RoundTrips}
 
 module _ (R : Rules) (S : SoundRules R) where
@@ -84,13 +83,13 @@ module _ (R : Rules) (S : SoundRules R) where
         }
 
     message_written : (room : ℕ) → length (octets m) ≤ room →
-        write_of R (draft_of R m) area room ≡ Message (length (octets m))
+        write_of R (draft_of R m) area room ≡ Ok (length (octets m))
     unfolding message_of
     message_written room h =
         let s : length_of (draft_of R m) area + 3 ≡ length (octets m) =
         ap (λ (x : message.Message). length (body x.parameters) + 3) (draft_stands R m rest l)
         ∙ sym (octets-length m) in
-        writes R (draft_of R m) area room (draft_writable room h) ∙ ap Message s
+        writes R (draft_of R m) area room (draft_writable room h) ∙ ap Ok s
 
   -- ---- a draft that was written, and the draft of its message
   parameters_meant : (texts : List ℕ) (es : List Entry) → T (every (legal_entry R texts) es) →
@@ -108,7 +107,7 @@ module _ (R : Rules) (S : SoundRules R) where
       meant_back e m = (drawn (class_of R e.kind)).read (meaning_of texts e.value) m.kind m.legal.fits
 
   draft_again : (d : Draft) (texts : List ℕ) (room n : ℕ) → d.edition ≡ R.edition → T (edition d.edition) →
-      write_of R d texts room ≡ Message n → (rest : List ℕ) →
+      write_of R d texts room ≡ Ok n → (rest : List ℕ) →
       Equal d texts (draft_of R (message_of d texts)) (texts_of R (message_of d texts).parameters ++ rest)
   unfolding message_of draft_of
   draft_again d texts room n v k e rest =

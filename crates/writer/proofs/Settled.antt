@@ -5,7 +5,7 @@ use Rattle.std.proofs.Common.{◌≡◌, sym, ap, ◌∙◌}
 use Rattle.rules.specs.Message.{octets}
 use Rattle.draft.specs.Draft.{message_of}
 use Rattle.writer.specs.Writing.{output_after}
-use Rattle.writer.specs.declared.Writing.{Writing}
+use Rattle.writer.specs.Writing.{Writing}
 use Rattle.writer.proofs.write.Reads as write
 use Rattle.writer.proofs.sum_of.Reads as sum_of
 use Rattle.writer.proofs.with_room.Reads as with_room

@@ -1,7 +1,7 @@
 -- Why the writer answers what it answers (document 01, Numbers): for each number exactly when it is given, over the
 -- rules' own legal parameters; and what the output then holds.
 -- Assumes nothing.
-use Rattle.std.specs.Prelude.{◌≡◌, ℕ, suc, ◌+◌, ◌<◌, ◌≤◌, T, ◌⊎◌, ◌↔◌, List, length, take, drop, slice_index_or}
+use Rattle.std.specs.Prelude.{◌≡◌, ℕ, suc, ◌+◌, ◌<◌, ◌≤◌, T, ◌⊎◌, ◌↔◌, List, length, take, drop, slice_index_or, Result, Ok}
 use Rattle.rules.specs.Table.{Rules, rules_of}
 use Rattle.rules.specs.Editions.{known, book_of}
 use Rattle.rules.specs.Message.{body, octets, message_kind, LegalParameter, Accepts, most}
@@ -11,9 +11,8 @@ use Rattle.draft.specs.declared.Entry.{Entry}
 use Rattle.draft.specs.declared.Draft.{Draft}
 use Rattle.writer.specs.Told.{told, success, refusal}
 use Rattle.writer.specs.Writing.{unwritten}
-use Rattle.writer.specs.declared.Writing.{Writing}
-use Rattle.writer.specs.declared.Written.{Written}
-use Rattle.writer.specs.declared.Written.TheVariants.{Message}
+use Rattle.writer.specs.Writing.{Writing}
+use Rattle.rules.specs.declared.Fault.{Fault}
 
 -- an entry makes a legal parameter: its kind of value is its type's, its text lies inside the area, and the parameter
 -- it stands for is legal
@@ -47,7 +46,7 @@ pub record Asked (d : Draft) : Type 0 where
   pub few : d.count ≤ most
 
 -- ---- the seven ways: each answer with its reason
-pub data Went (R : Rules) (d : Draft) (texts : List ℕ) (room : ℕ) : Written → Type 0 where
+pub data Went (R : Rules) (d : Draft) (texts : List ℕ) (room : ℕ) : Result ℕ Fault → Type 0 where
   kind_is_none : (T (message_kind d.kind) → ⊥) → Went R d texts room (unwritten 11 0)
   no_entries : T (message_kind d.kind) → d.count ≡ 0 → Went R d texts room (unwritten 14 0)
   many_entries : T (message_kind d.kind) → suc most ≤ d.count → Went R d texts room (unwritten 13 0)
@@ -56,11 +55,11 @@ pub data Went (R : Rules) (d : Draft) (texts : List ℕ) (room : ℕ) : Written 
   too_tight : Asked d → AllMake R d texts → length_of d texts ≤ 255 → room < length_of d texts + 3 →
       Went R d texts room (unwritten 15 (length_of d texts + 3))
   fits : Asked d → AllMake R d texts → length_of d texts ≤ 255 → length_of d texts + 3 ≤ room →
-      Went R d texts room (Message (length_of d texts + 3))
+      Went R d texts room (Ok (length_of d texts + 3))
 
 -- ---- number by number
 -- w is what the writer answers to a draft with its text area, where the output has so many octets
-pub record Answers (R : Rules) (d : Draft) (texts : List ℕ) (room : ℕ) (w : Written) : Type 0 where
+pub record Answers (R : Rules) (d : Draft) (texts : List ℕ) (room : ℕ) (w : Result ℕ Fault) : Type 0 where
   -- 11 exactly where the message type is neither 80H nor 82H
   pub eleven : (p : ℕ) → (told w ≡ refusal 11 p) ↔ ((p ≡ 0) × (T (message_kind d.kind) → ⊥))
   -- then 14 exactly where there are no entries
@@ -96,7 +95,7 @@ pub record LaidMessage (R : Rules) (d : Draft) (texts old new : List ℕ) (n : �
   pub stays : drop n new ≡ drop n old
 
 -- a draft with its text area and an output that held `old` went in, w came back, and the output then holds `new`
-pub record Writes (R : Rules) (d : Draft) (texts old : List ℕ) (w : Written) (new : List ℕ) : Type 0 where
+pub record Writes (R : Rules) (d : Draft) (texts old : List ℕ) (w : Result ℕ Fault) (new : List ℕ) : Type 0 where
   pub answers : Answers R d texts (length old) w
   -- a message lies at the output's beginning, and a refusal leaves the output
   pub lays : (n : ℕ) → told w ≡ success n → LaidMessage R d texts old new n

@@ -7,10 +7,10 @@ use Rattle.makemsg.proofs.make.Goals as goal
 pub slice_bounds-message-end : goal.slice_bounds-message-end
 slice_bounds-message-end g c =
     let made = c.message_of-writing in
-    omega (arith, message_within _ _ _ _ made.ensures.answer c.in-Message.is, made.auto.out)
+    omega (arith, message_within _ _ _ _ made.ensures.answer c.in-Ok.is, made.auto.out)
 
 pub slice_bounds-write_all-end : goal.slice_bounds-write_all-end
 slice_bounds-write_all-end g c =
     let made = c.message_of-writing in
     sym (length-take-le _ _
-    (omega (arith, message_within _ _ _ _ made.ensures.answer c.in-Message.is, made.auto.out)))
+    (omega (arith, message_within _ _ _ _ made.ensures.answer c.in-Ok.is, made.auto.out)))

@@ -4,17 +4,17 @@ use Rattle.std.proofs.Common.{sym, ◌∙◌, arith, length-take-le}
 use Rattle.relist.proofs.Sealing.{ten_at_most, ten_there, read_head, read_both}
 use Rattle.relist.proofs.lay_contents.Goals as goal
 
-pub slice_bounds-octets-end : goal.slice_bounds-octets-end
-slice_bounds-octets-end c = ten_there _ _ _ c.back_of-back.ensures
+pub shared_ref_as_front-copy_from_slice : goal.shared_ref_as_front-copy_from_slice
+shared_ref_as_front-copy_from_slice c = ten_at_most _ _ _ c.back_of-back.ensures
 
-pub returns-then-from-value : goal.returns-then-from-value
-returns-then-from-value c =
-    read_both _ _ _ c.back_of-back.ensures _ _ c.copy_from_slice.ensures.after c.if-from-value.true _
-    c.copy_from_slice-then-from-value.ensures.after
+pub returns-then-back-value : goal.returns-then-back-value
+returns-then-back-value c =
+    read_both _ _ _ c.back_of-back.ensures _ _ c.copy_from_slice.ensures.after c.if-back-value.true _
+    c.copy_from_slice-then-back-value.ensures.after
 
-pub returns-else-from-value : goal.returns-else-from-value
-returns-else-from-value c =
-    read_head _ _ _ c.back_of-back.ensures _ _ c.copy_from_slice.ensures.after c.if-from-value.false
+pub returns-else-back-value : goal.returns-else-back-value
+returns-else-back-value c =
+    read_head _ _ _ c.back_of-back.ensures _ _ c.copy_from_slice.ensures.after c.if-back-value.false
 
 pub slice_bounds-copy_from_slice-end : goal.slice_bounds-copy_from_slice-end
 slice_bounds-copy_from_slice-end c = omega (arith, ten_at_most _ _ _ c.back_of-back.ensures, c.requires.1)

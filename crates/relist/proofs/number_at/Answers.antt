@@ -12,7 +12,7 @@ loop-i-init c = (omega arith, refl)
 pub loop-i-preserved : goal.loop-i-preserved
 loop-i-preserved c = (
   omega arith,
-  number_more _ _ _ c.loop-i-test.true _ c.above_zero.ensures ∙ c.loop-i.invariant.1,
+  number_more _ _ _ c.loop-i-test.true _ c.saturating_sub.ensures ∙ c.loop-i.invariant.1,
 )
 
 pub returns : goal.returns

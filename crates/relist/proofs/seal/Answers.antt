@@ -29,4 +29,4 @@ bounds-out-end c = omega (arith, long (goal.at.bounds-out-end c).After-copy_from
 pub returns : goal.returns
 returns c =
     sealing _ _ _ c.requires.1 _ c.copy_from_slice.ensures.after _ _
-    c.sum_of-sum.ensures (omega arith) c.wrapping_sub_u8.ensures.value
+    c.sum_of-sum.ensures (omega arith) (omega arith)

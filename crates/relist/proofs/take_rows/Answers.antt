@@ -5,13 +5,13 @@ use Rattle.std.proofs.Common.{◌≤◌, sym, refl, ◌∙◌, arith, length-tak
 use Rattle.relist.proofs.Reading.{line_within}
 use Rattle.relist.proofs.Rows.{took_nothing, kinds_long, read_few, took_none, took_more, took_all}
 use Rattle.relist.proofs.take_rows.Goals as goal
-use Rattle.relist.proofs.take_rows.Goals.{After-row_length-n}
+use Rattle.relist.proofs.take_rows.Goals.{In-Some}
 
 -- a row reads few octets
-short : (c : After-row_length-n) → c.row_length-n.result ≤ 253
+short : (c : In-Some) → c.in-Some.n ≤ 253
 short c =
     read_few _ _ _ _ _ _ _ _ c.loop-i.invariant.1 c.loop-i-test.true _ c.line_end-end.ensures _ _
-    c.row_length-n.ensures
+    c.row_length.ensures _ c.in-Some.is
 
 pub loop-i-init : goal.loop-i-init
 loop-i-init c = (refl, took_nothing _ _ _ _ c.requires.0 c.requires.1 refl)
@@ -37,26 +37,26 @@ slice_bounds-row_length-end-in-loop-i c = kinds_long _ _ _ _ _ _ _ _ c.loop-i.in
 pub slice_bounds-row_length-end-in-loop-i-2 : goal.slice_bounds-row_length-end-in-loop-i-2
 slice_bounds-row_length-end-in-loop-i-2 c = sym c.loop-i.invariant.0
 
-pub row_length-n-requires : goal.row_length-n-requires
-row_length-n-requires c = (c.loop-i-test.true, c.loop-i.invariant.0)
+pub row_length-requires : goal.row_length-requires
+row_length-requires c = (c.loop-i-test.true, c.loop-i.invariant.0)
 
 pub bounds-kinds-count : goal.bounds-kinds-count
 bounds-kinds-count c = omega (arith, c.loop-i.invariant.1.few)
 
 pub slice_bounds-contents-end : goal.slice_bounds-contents-end
 slice_bounds-contents-end c =
-    let k = short (goal.at.slice_bounds-contents-end c).After-row_length-n in
-    omega (arith, k, c.row_length-n.auto.out, c.loop-i.invariant.0)
+    let k = short (goal.at.slice_bounds-contents-end c).In-Some in
+    omega (arith, k, c.row_length.auto.out, c.loop-i.invariant.0)
 
 pub slice_bounds-lay_parameter-end : goal.slice_bounds-lay_parameter-end
 slice_bounds-lay_parameter-end c =
-    let k = short (goal.at.slice_bounds-lay_parameter-end c).After-row_length-n in
-    sym (length-take-le _ _ (omega (arith, k, c.row_length-n.auto.out, c.loop-i.invariant.0)))
+    let k = short (goal.at.slice_bounds-lay_parameter-end c).In-Some in
+    sym (length-take-le _ _ (omega (arith, k, c.row_length.auto.out, c.loop-i.invariant.0)))
 
 pub lay_parameter-size-requires : goal.lay_parameter-size-requires
 lay_parameter-size-requires c =
-    let n = length-take c.row_length-n.result c.row_length-n.new.out in (
-      omega (arith, short (goal.at.lay_parameter-size-requires c).After-row_length-n),
+    let n = length-take c.in-Some.n c.row_length.new.out in (
+      omega (arith, short (goal.at.lay_parameter-size-requires c).In-Some),
       c.loop-i.invariant.1.whole,
       omega (arith, c.loop-i.invariant.1.small, c.loop-i.invariant.1.below),
     )
@@ -66,18 +66,18 @@ overflow_add-count c = omega (arith, c.loop-i.invariant.1.few)
 
 pub loop-i-preserved : goal.loop-i-preserved
 loop-i-preserved c = (
-  c.row_length-n.auto.out ∙ c.loop-i.invariant.0,
+  c.row_length.auto.out ∙ c.loop-i.invariant.0,
   took_more _ _ _ _ _ _ _ _ c.loop-i.invariant.1 c.loop-i-test.true _ c.line_end-end.ensures _ _
-      c.row_length-n.ensures (omega arith) _
+      c.row_length.ensures _ c.in-Some.is _
       c.kind_at-kind.ensures _ _ c.lay_parameter-size.ensures
       c.lay_parameter-size.auto.area,
 )
 
-pub loop-i-preserved-then-n-eq0 : goal.loop-i-preserved-then-n-eq0
-loop-i-preserved-then-n-eq0 c = (
-  c.row_length-n.auto.out ∙ c.loop-i.invariant.0,
+pub loop-i-preserved-in_default : goal.loop-i-preserved-in_default
+loop-i-preserved-in_default c = (
+  c.row_length.auto.out ∙ c.loop-i.invariant.0,
   took_none _ _ _ _ _ _ _ _ c.loop-i.invariant.1 c.loop-i-test.true _ c.line_end-end.ensures _ _
-      c.row_length-n.ensures (omega arith),
+      c.row_length.ensures c.in_default.is,
 )
 
 pub shape_of-area : goal.shape_of-area

@@ -1,33 +1,26 @@
--- `writer::judge` meets its contract: the tests in document 01's order.
+-- `writer::judge` meets its contract: of the entries it answers what came of measuring them.
 -- Assumes nothing.
-use Rattle.std.proofs.Common.{refl, ◌∙◌, arith}
-use Rattle.rules.proofs.Returns.{pick_t, pick_f, via, yes_eq, no_eq, yes_le, no_le}
+use Rattle.std.proofs.Common.{sym, ap, ◌∙◌, Err, arith, rules}
+use Rattle.std.proofs.lemmas.Result.{err_from_is_err_and}
+use Rattle.rules.proofs.Telling.{telling}
 use Rattle.writer.specs.Writing.{write_of}
+use Rattle.writer.proofs.Judging.{on_measure}
+use Rattle.writer.proofs.Calls.{entries_went}
 use Rattle.writer.proofs.judge.Goals as goal
 
-pub returns-then-draft-eq0 : goal.returns-then-draft-eq0
-unfolding write_of
-returns-then-draft-eq0 c =
-    c.refusal.ensures ∙ pick_t _ _ _ _
-    (via _ _ _ c.message_kind.ensures c.if-message_kind.true)
-    (pick_t _ _ _ _ (yes_eq _ _ c.if-draft-eq0.true) refl)
+pub returns-in_err-size : goal.returns-in_err-size
+unfolding write_of on_measure
+returns-in_err-size c =
+    let p = err_from_is_err_and c.from_residual.result c.from_residual.ensures.1 in
+    let w =
+    entries_went _ c.args.draft c.args.texts.now c.args.room (search rules) (omega arith) _
+    (sym c.in_err-size.was ∙ c.measure_entries.ensures) in
+    p.1 ∙ ap Err p.2 ∙ grind (arith, telling, w)
 
-pub returns-then-draft-gt-MOST : goal.returns-then-draft-gt-MOST
-unfolding write_of
-returns-then-draft-gt-MOST c =
-    c.refusal-then-draft-gt-MOST.ensures ∙ pick_t _ _ _ _ (via _ _ _ c.message_kind.ensures c.if-message_kind.true)
-    (pick_f _ _ _ _ (no_eq _ _ c.if-draft-eq0.false)
-    (pick_t _ _ _ _ (yes_le _ _ c.if-draft-gt-MOST.true) refl))
-
-pub returns-else-draft-gt-MOST : goal.returns-else-draft-gt-MOST
-unfolding write_of
-returns-else-draft-gt-MOST c =
-    c.with_entries.ensures ∙ pick_t _ _ _ _
-    (via _ _ _ c.message_kind.ensures c.if-message_kind.true)
-    (pick_f _ _ _ _ (no_eq _ _ c.if-draft-eq0.false) (pick_f _ _ _ _ (no_le _ _ (omega arith)) refl))
-
-pub returns-else-message_kind : goal.returns-else-message_kind
-unfolding write_of
-returns-else-message_kind c =
-    c.refusal-else-message_kind.ensures ∙ pick_f _ _ _ _
-    (via _ _ _ c.message_kind.ensures c.if-message_kind.false) refl
+pub returns : goal.returns
+unfolding write_of on_measure
+returns c =
+    let w =
+    entries_went _ c.args.draft c.args.texts.now c.args.room (search rules) (omega arith) _
+    (sym c.in_ok-size.was ∙ c.measure_entries.ensures) in
+    grind (arith, telling, w)

@@ -1,5 +1,5 @@
 -- `writer::measure_entries` meets its contract. The loop's invariant: the entries before i are legal and take the
--- octets counted, so those from i on decide. The measure is what is left.
+-- octets counted, so those from i on decide.
 -- Assumes nothing.
 use Rattle.std.proofs.Common.{◌*◌, ◌≤◌}
 use Rattle.rules.specs.Table.{rules_of}
@@ -7,4 +7,7 @@ use Rattle.writer.proofs.Entries.{Measured}
 use Rattle.writer.proofs.measure_entries.Given as goal
 
 abbrev pub invariant-loop-i : goal.invariant-loop-i
-invariant-loop-i l = (l.size ≤ 257 * l.i) × Measured (rules_of l.book) l.texts l.draft.count l.draft.entries l.size l.i
+invariant-loop-i l = record {
+  small : l.size ≤ 257 * l.i;
+  measured : Measured (rules_of l.book) l.texts l.entries l.size l.i;
+}

@@ -4,5 +4,5 @@
 use Rattle.writer.proofs.Laying.{Wrote}
 use Rattle.writer.proofs.put_front.Given as goal
 
-abbrev pub invariant-loop-next : goal.invariant-loop-next
-invariant-loop-next l = Wrote l.draft.count l.draft.entries l.texts l.initial.out l.out l.at l.next
+abbrev pub invariant-loop-e : goal.invariant-loop-e
+invariant-loop-e l = Wrote l.e-items l.texts l.initial.out l.out l.at l.e-index
