@@ -3,7 +3,7 @@
 -- of 264 octets at most and two octets more: so no line of another length is the row's, and what stands between its
 -- marks is the value.
 -- Assumes nothing.
-use Rattle.std.proofs.Common.{◌≡◌, ℕ, suc, ◌+◌, ◌-◌, ◌<◌, ◌≤◌, Bool, true, false, T, List, length, take, drop, sym, refl, ap, ◌∙◌, ap₂, arith, length-append, length-drop, length-take, length-take-le, take_all, drop-drop, [], ◌∷◌, eqb, subst, Option, Some, None}
+use Rattle.std.proofs.Common.{◌≡◌, ℕ, suc, ◌+◌, ◌-◌, ◌<◌, ◌≤◌, Bool, true, false, T, List, length, take, drop, sym, refl, ap, ◌∙◌, ap₂, arith, length-append, length-drop, length-take, length-take-le, take_all, drop-drop, eqb, subst, Option, Some, None}
 use lib.Seq.{take-append_seam, drop-append_seam}
 use Rattle.rules.specs.First.{index_of}
 use Rattle.rules.specs.Tests.{◌≤?◌, ◌and◌}

@@ -1,6 +1,6 @@
 -- `relist::lay_contents` meets its contract: a copy, or a copy behind a copy.
 -- Assumes nothing.
-use Rattle.std.proofs.Common.{sym, ◌∙◌, arith, length-take-le}
+use Rattle.std.proofs.Common.{◌≡◌, length, sym, ◌∙◌, arith, rules, length-take-le}
 use Rattle.relist.proofs.Sealing.{ten_at_most, ten_there, read_head, read_both}
 use Rattle.relist.proofs.lay_contents.Goals as goal
 
@@ -17,16 +17,16 @@ returns-else-back-value c =
     read_head _ _ _ c.back_of-back.ensures _ _ c.copy_from_slice.ensures.after c.if-back-value.false
 
 pub slice_bounds-copy_from_slice-end : goal.slice_bounds-copy_from_slice-end
-slice_bounds-copy_from_slice-end c = omega (arith, ten_at_most _ _ _ c.back_of-back.ensures, c.requires.1)
+slice_bounds-copy_from_slice-end c = omega (arith, ten_at_most _ _ _ c.back_of-back.ensures, (let k : length c.args.out.now ≡ 274 = search rules in k))
 
 pub slice_bounds-copy_from_slice-end-2 : goal.slice_bounds-copy_from_slice-end-2
 slice_bounds-copy_from_slice-end-2 c =
-    sym (length-take-le _ _ (omega (arith, ten_at_most _ _ _ c.back_of-back.ensures, c.requires.1)))
+    sym (length-take-le _ _ (omega (arith, ten_at_most _ _ _ c.back_of-back.ensures, (let k : length c.args.out.now ≡ 274 = search rules in k))))
 
 pub slice_bounds-copy_from_slice-end-3 : goal.slice_bounds-copy_from_slice-end-3
 slice_bounds-copy_from_slice-end-3 c = sym (length-take-le _ _ (ten_there _ _ _ c.back_of-back.ensures))
 
 pub copy_from_slice-requires : goal.copy_from_slice-requires
 copy_from_slice-requires c =
-    length-take-le _ _ (omega (arith, ten_at_most _ _ _ c.back_of-back.ensures, c.requires.1))
+    length-take-le _ _ (omega (arith, ten_at_most _ _ _ c.back_of-back.ensures, (let k : length c.args.out.now ≡ 274 = search rules in k)))
     ∙ sym (length-take-le _ _ (ten_there _ _ _ c.back_of-back.ensures))
