@@ -259,8 +259,8 @@ fn line_end(text: &[u8], at: usize) -> usize
 }
 
 // A parameter behind those before it, as far as the area goes: where it ends, or would end.
-fn lay_parameter(kind: u8, contents: &[u8], area: &mut [u8], size: usize) -> usize
-    requires { (list.length contents.now < 256) × (list.length area.old ≡ 255) × (size < 65536) }
+fn lay_parameter(kind: u8, contents: &[u8], area: &mut [u8; BODY], size: usize) -> usize
+    requires { (list.length contents.now < 256) × (size < 65536) }
     ensures { LaidBehind kind contents.now area.old size area.new result }
 {
     let start = size + 2;
@@ -275,8 +275,8 @@ fn lay_parameter(kind: u8, contents: &[u8], area: &mut [u8], size: usize) -> usi
 
 // Row by row, each takes the next line where that is its own. The types so far stay an array with their count beside
 // it: there is no heap for a list that grows.
-fn take_rows(text: &[u8], first: usize, area: &mut [u8]) -> Taken
-    requires { (first ≤ list.length text.now) × (list.length area.old ≡ 255) }
+fn take_rows(text: &[u8], first: usize, area: &mut [u8; BODY]) -> Taken
+    requires { first ≤ list.length text.now }
     ensures { TookRows (taken (rules_of book.PresentLenient) (rules_of book.PresentLenient).rows [] (list.drop first text.now)) text.now area.new result }
 {
     let mut kinds = [0u8; listing::ROWS];

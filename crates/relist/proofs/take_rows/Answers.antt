@@ -1,7 +1,7 @@
 -- `relist::take_rows` meets its contract. The loop's invariant: what the rows so far took, and the rows behind them in
 -- the text behind that, come to what all rows take. The measure is the rows left.
 -- Assumes nothing.
-use Rattle.std.proofs.Common.{◌≡◌, ◌≤◌, length, sym, refl, ◌∙◌, arith, rules, length-take, length-take-le}
+use Rattle.std.proofs.Common.{◌≡◌, ◌≤◌, length, sym, refl, arith, rules, length-take, length-take-le}
 use Rattle.relist.proofs.Reading.{line_within}
 use Rattle.relist.proofs.Rows.{took_nothing, kinds_long, read_few, took_none, took_more, took_all}
 use Rattle.relist.proofs.take_rows.Goals as goal
@@ -14,7 +14,7 @@ short c =
     c.row_length.ensures _ c.in-Some.is
 
 pub loop-i-init : goal.loop-i-init
-loop-i-init c = took_nothing _ _ _ _ c.requires.0 c.requires.1 refl
+loop-i-init c = took_nothing _ _ _ _ c.requires (search rules) refl
 
 pub line_end-end-requires : goal.line_end-end-requires
 line_end-end-requires c = c.loop-i.invariant.inside
@@ -54,7 +54,6 @@ pub lay_parameter-size-requires : goal.lay_parameter-size-requires
 lay_parameter-size-requires c =
     let n = length-take c.in-Some.n c.row_length.new.out in (
       omega (arith, short (goal.at.lay_parameter-size-requires c).In-Some),
-      c.loop-i.invariant.whole,
       omega (arith, c.loop-i.invariant.small, c.loop-i.invariant.below),
     )
 
@@ -66,15 +65,12 @@ loop-i-preserved c =
     took_more _ _ _ _ _ _ _ _ c.loop-i.invariant c.loop-i-test.true _ c.line_end-end.ensures _ _
     c.row_length.ensures _ c.in-Some.is _
     c.kind_at-kind.ensures _ _ c.lay_parameter-size.ensures
-    c.lay_parameter-size.auto.area
+    (search rules)
 
 pub loop-i-preserved-in_default : goal.loop-i-preserved-in_default
 loop-i-preserved-in_default c =
     took_none _ _ _ _ _ _ _ _ c.loop-i.invariant c.loop-i-test.true _ c.line_end-end.ensures _ _
     c.row_length.ensures c.in_default.is
-
-pub shape_of-area : goal.shape_of-area
-shape_of-area c = c.loop-i.invariant.whole ∙ sym c.requires.1
 
 pub returns : goal.returns
 returns c = took_all _ _ _ _ _ _ _ _ c.loop-i.invariant c.loop-i-test.false
