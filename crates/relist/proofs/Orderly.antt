@@ -1,11 +1,11 @@
 -- The messages that listings say are the choices of the table's rows: an orderly message has the parameters of a
 -- choice, the parameters of a choice make an orderly message, and its lines are those of the choice.
 -- Assumes nothing.
-use Rattle.std.proofs.Common.{◌≡◌, ℕ, suc, ◌<◌, ◌≤◌, Bool, true, false, T, eqb, ◌⊎◌, List, [], ◌∷◌, ◌++◌, length, sym, refl, ap, ◌∙◌, subst, ap₂, inl, inr, append_assoc, arith}
+use Rattle.std.proofs.Common.{◌≡◌, ℕ, suc, ◌<◌, ◌≤◌, T, ◌⊎◌, List, [], ◌∷◌, ◌++◌, length, sym, refl, ap, ◌∙◌, subst, ap₂, inl, inr, append_assoc, arith}
 use mathlib.Core.Option.{Option, none, some}
 use Rattle.rules.specs.First.{index_of}
 use Rattle.rules.specs.Tests.{◌≤?◌, ◌=?◌, pick}
-use Rattle.rules.proofs.Tests.{decide, either, eq_of, of_eq, le_of, of_le, pick_yes, picked, clash, left, right}
+use Rattle.rules.proofs.Tests.{decide, either, eq_of, of_eq, le_of, pick_yes, picked, clash, left, right}
 use Rattle.rules.specs.Table.{Rules, Row, listed_in, listed, class_of, rival_of, contents_fit}
 use Rattle.rules.specs.Message.{Parameter, Message, AllLegal, message_kind}
 use Rattle.rules.specs.Counting.{first_of, counted, carried_in, NoneOf}
@@ -16,7 +16,6 @@ use Rattle.listing.proofs.Lines.{has_right, has_split}
 use Rattle.listing.proofs.Plain.{Plain}
 use Rattle.relist.specs.Relist.{types_of, among}
 use Rattle.relist.specs.Sentences.{RisingKinds, Orderly}
-use Rattle.rules.proofs.First.{index_most}
 use Rattle.relist.proofs.Text.{among_cons}
 use Rattle.relist.proofs.Said.{RowIs, tabled, row_plain}
 use Rattle.relist.proofs.Chosen.{Chosen, said, FirstIs, first_is, last}

@@ -18,13 +18,14 @@ ghost use Rattle.relist.specs.Reading.{longest_value, read_size, Holds, LineRead
 use rules::{Book, Class, Fault, Named};
 use writer::Writing;
 
-// The octets of parameters that a message holds.
-const BODY: usize = 255;
+// The octets of parameters that a message holds: one with the longest contents takes them all.
+const BODY: usize = 2 + rules::LONGEST;
 
-// No value is longer, and no contents that are read off one.
+// No value is longer.
 const VALUE: usize = 264;
 
-const READ: usize = 274;
+// No contents that are read off one are longer: ten octets and the value.
+const READ: usize = 10 + VALUE;
 
 // What a value says: the first `length` of ten octets, and then the value itself from `from` on. The array stays with
 // its length beside it: there is no heap, and a slice would have nothing that lends it.
@@ -189,8 +190,8 @@ fn back_of(class: Class, text: &[u8]) -> Back
 // ---- lines
 
 // The contents that a value says in the style of a class, laid down: how many octets.
-fn lay_contents(class: Class, value: &[u8], out: &mut [u8]) -> usize
-    requires { (list.length value.now ≤ longest_value) × (list.length out.old ≡ read_size) }
+fn lay_contents(class: Class, value: &[u8], out: &mut [u8; READ]) -> usize
+    requires { list.length value.now ≤ longest_value }
     ensures { Holds (read_off (back_of (style_of class) value.now) value.now) out.new result }
 {
     let back = back_of(class, value);
@@ -206,8 +207,8 @@ fn lay_contents(class: Class, value: &[u8], out: &mut [u8]) -> usize
 }
 
 // What a line says by a row, laid down: how many octets, where it is the row's.
-fn line_length(i: usize, line: &[u8], out: &mut [u8]) -> Option<usize>
-    requires { (i < row_count) × (list.length out.old ≡ read_size) }
+fn line_length(i: usize, line: &[u8], out: &mut [u8; READ]) -> Option<usize>
+    requires { i < row_count }
     ensures { LineRead (rules_of book.PresentLenient) (row_at i) line.now out.new result }
 {
     let start = listing::key_length(i) + 1;
@@ -228,8 +229,8 @@ fn line_length(i: usize, line: &[u8], out: &mut [u8]) -> Option<usize>
 }
 
 // The same where lines of these types stand before it.
-fn row_length(i: usize, line: &[u8], kinds: &[u8], out: &mut [u8]) -> Option<usize>
-    requires { (i < row_count) × (list.length out.old ≡ read_size) }
+fn row_length(i: usize, line: &[u8], kinds: &[u8], out: &mut [u8; READ]) -> Option<usize>
+    requires { i < row_count }
     ensures { RowRead (rules_of book.PresentLenient) (row_at i) kinds.now line.now out.new result }
 {
     let rival = rules::rival_of(Book::PresentLenient, listing::kind_at(i));
@@ -258,8 +259,8 @@ fn line_end(text: &[u8], at: usize) -> usize
 }
 
 // A parameter behind those before it, as far as the area goes: where it ends, or would end.
-fn lay_parameter(kind: u8, contents: &[u8], area: &mut [u8], size: usize) -> usize
-    requires { (list.length contents.now < 256) × (list.length area.old ≡ 255) × (size < 65536) }
+fn lay_parameter(kind: u8, contents: &[u8], area: &mut [u8; BODY], size: usize) -> usize
+    requires { (list.length contents.now < 256) × (size < 65536) }
     ensures { LaidBehind kind contents.now area.old size area.new result }
 {
     let start = size + 2;
@@ -274,8 +275,8 @@ fn lay_parameter(kind: u8, contents: &[u8], area: &mut [u8], size: usize) -> usi
 
 // Row by row, each takes the next line where that is its own. The types so far stay an array with their count beside
 // it: there is no heap for a list that grows.
-fn take_rows(text: &[u8], first: usize, area: &mut [u8]) -> Taken
-    requires { (first ≤ list.length text.now) × (list.length area.old ≡ 255) }
+fn take_rows(text: &[u8], first: usize, area: &mut [u8; BODY]) -> Taken
+    requires { first ≤ list.length text.now }
     ensures { TookRows (taken (rules_of book.PresentLenient) (rules_of book.PresentLenient).rows [] (list.drop first text.now)) text.now area.new result }
 {
     let mut kinds = [0u8; listing::ROWS];

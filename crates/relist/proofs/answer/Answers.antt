@@ -1,6 +1,6 @@
 -- `relist::answer` meets its contract: no type, a refusal, or the message.
 -- Assumes nothing.
-use Rattle.std.proofs.Common.{◌≡◌, ◌+◌, ◌≤◌, length, sym, refl, ap, ◌∙◌, arith, length-take-le, Err}
+use Rattle.std.proofs.Common.{rules, ◌≡◌, ◌+◌, ◌≤◌, length, sym, ap, ◌∙◌, arith, length-take-le, Err}
 use Rattle.std.proofs.lemmas.Result.{err_from_is_err_and}
 use Rattle.writer.specs.Writing.{output_after}
 use Rattle.relist.proofs.Answering.{untouched, first_inside, no_kind, answered, message_fits, message_laid}
@@ -16,7 +16,7 @@ fits c =
 
 inside : (c : In_ok-whole) → c.take_rows-lines.result.size ≤ length c.take_rows-lines.new.area
 inside c =
-    let k : length c.take_rows-lines.new.area ≡ 255 = c.take_rows-lines.auto.area in
+    let k : length c.take_rows-lines.new.area ≡ 255 = search rules in
     omega (arith, (fits c).0)
 
 pub slice_bounds-kind_in-end : goal.slice_bounds-kind_in-end
@@ -33,7 +33,7 @@ returns-in_err-kind c =
     }
 
 pub take_rows-lines-requires : goal.take_rows-lines-requires
-take_rows-lines-requires c = (first_inside _ _ c.line_end-first.ensures, refl)
+take_rows-lines-requires c = first_inside _ _ c.line_end-first.ensures
 
 pub returns-in_err-whole : goal.returns-in_err-whole
 returns-in_err-whole c =

@@ -7,7 +7,7 @@ use Rattle.listing.specs.Listing.{row_at}
 use Rattle.listing.proofs.Keys.{key_short}
 use Rattle.relist.specs.Relist.{row_contents}
 use Rattle.relist.specs.Reading.{Holds}
-use Rattle.relist.proofs.Reading.{held_inside, held_long, not_shorter, not_longer, read_none, read_value, read_says, read_not}
+use Rattle.relist.proofs.Reading.{held_long, not_shorter, not_longer, read_none, read_value, read_says, read_not}
 use Rattle.relist.proofs.line_length.Goals as goal
 use Rattle.relist.proofs.line_length.Goals.{After-lay_contents-n}
 
@@ -21,7 +21,7 @@ contents c =
     c.lay_contents-n.ensures
 
 pub overflow_add-start : goal.overflow_add-start
-overflow_add-start c = omega (arith, c.key_length-start.ensures, key_short _ c.requires.0)
+overflow_add-start c = omega (arith, c.key_length-start.ensures, key_short _ c.requires)
 
 pub returns-then-line-start : goal.returns-then-line-start
 returns-then-line-start c =
@@ -32,17 +32,14 @@ returns-then-end-start-gt-VALUE c =
     read_none _ _ _ _ (λ s. not_longer _ _ _ s (omega (arith, c.key_length-start.ensures, c.if-end-start-gt-VALUE.true)))
 
 pub slice_bounds-says-end : goal.slice_bounds-says-end
-slice_bounds-says-end c = held_inside _ _ _ c.lay_contents-n.ensures
-
-pub slice_bounds-says-end-2 : goal.slice_bounds-says-end-2
-slice_bounds-says-end-2 c = held_long _ _ _ c.lay_contents-n.ensures
+slice_bounds-says-end c = held_long _ _ _ c.lay_contents-n.ensures
 
 pub returns-then-says : goal.returns-then-says
 returns-then-says c =
-    read_says _ c.requires.0 c.args.line.now _ _ (contents (goal.at.returns-then-says c).After-lay_contents-n) _
+    read_says _ c.requires c.args.line.now _ _ (contents (goal.at.returns-then-says c).After-lay_contents-n) _
     c.says.ensures c.if-says.true
 
 pub returns-else-says : goal.returns-else-says
 returns-else-says c =
-    read_not _ c.requires.0 c.args.line.now _ _ (contents (goal.at.returns-else-says c).After-lay_contents-n) _
+    read_not _ c.requires c.args.line.now _ _ (contents (goal.at.returns-else-says c).After-lay_contents-n) _
     c.says.ensures c.if-says.false
