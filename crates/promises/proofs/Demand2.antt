@@ -12,7 +12,7 @@ use native.Mathlib.Omega.{arith}
 use lib.ListN.{length, take, drop}
 use lib.Dec.{T}
 use Rattle.rules.specs.Tests.{◌=?◌, ◌or◌, pick}
-use Rattle.rules.proofs.Tests.{pick_not, eq_of, clash}
+use Rattle.rules.proofs.Tests.{pick_not, clash}
 use Rattle.rules.proofs.Rivals.{rivals as rivals_by, rival_is}
 use Rattle.rules.proofs.Telling.{telling}
 use Rattle.rules.specs.Octets.{Octets}

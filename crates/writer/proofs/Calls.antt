@@ -42,12 +42,13 @@ module _ (R : Rules) (texts : List ℕ) (e : Entry) (o : e.kind < 256) (c : Clas
   unfolding takes_of
   entry_takes text g =
       ap (λ (b : Bool). pick b (Some (length (contents_of texts e))) None)
-      (entry_is ∙ ap (λ (t : List ℕ). form_number f.form =? form_number k and (f.start + f.length ≤? length texts and contents_fit c (v ++ t)))
-      (sym g))
+      (entry_is ∙ ap (λ (t : List ℕ). form_number f.form =? form_number k
+      and (f.start + f.length ≤? length texts and contents_fit c (v ++ t))) (sym g))
       ∙ go (decide _)
     where
       tests : Bool
-      tests = form_number f.form =? form_number k and (f.start + f.length ≤? length texts and contents_fit c (v ++ text))
+      tests = form_number f.form =? form_number k
+          and (f.start + f.length ≤? length texts and contents_fit c (v ++ text))
 
       go : T tests ⊎ (T tests → ⊥) →
           pick tests (Some (length (contents_of texts e))) None ≡ pick tests (Some (length v + f.length)) None

@@ -136,7 +136,7 @@ fn joined_fit(class: Class, head: &[u8], text: &[u8]) -> bool
 
 // The length of the contents of an entry that makes a legal parameter: its kind of value is its type's, its text lies
 // inside, its contents fit.
-#[tactic(auto, using(rules::proofs::Telling::telling, draft::proofs::Meaning::forms_tell), unfolding(crate::specs::Judging::takes_of))]
+#[tactic(auto, using(rules::proofs::Telling::telling), unfolding(crate::specs::Judging::takes_of))]
 fn entry_length(book: Book, e: Entry, texts: &[u8]) -> Option<usize>
     ensures { result ≡ takes_of (rules_of book) texts.now e }
 {
