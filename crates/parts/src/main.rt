@@ -75,21 +75,19 @@ fn say_text(out: &mut impl Write, texts: &[u8], start: usize, size: usize) -> io
 // Four numbers, 0 where the value has fewer; of a moment five (document 02, Q-4). They are those that `draft::flatten`
 // says, a public function that is run here: a match on `Value` would run none.
 fn say_numbers(out: &mut impl Write, value: Flat) -> io::Result<()> {
-    write!(
-        out,
-        "{} {} {} {}",
-        value.numbers[0], value.numbers[1], value.numbers[2], value.numbers[3]
-    )?;
+    let [a, b, c, d, e] = value.numbers;
+    write!(out, "{a} {b} {c} {d}")?;
     if value.form == Form::MomentValue {
-        write!(out, " {}", value.numbers[4])?;
+        write!(out, " {e}")?;
     }
     writeln!(out)
 }
 
 // The first octet of the contents stands ahead of a marked text (document 02, Q-4).
 fn say_mark(out: &mut impl Write, value: Flat) -> io::Result<()> {
+    let mark = value.numbers[0];
     if value.form == Form::MarkedValue {
-        write!(out, "{} ", value.numbers[0])?;
+        write!(out, "{mark} ")?;
     }
     Ok(())
 }
