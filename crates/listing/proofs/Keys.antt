@@ -38,7 +38,7 @@ no_row_lem i h = get_or-eq_default (rules_of PresentLenient).rows no_row (omega 
 pub rows_many : (rs : List Row) → map seen rs ≡ (rules_of PresentLenient).rows → length rs ≡ row_count
 rows_many rs e = sym (length-map rs seen) ∙ ap length e ∙ row_count_lem
 
-pub key_at : (rs : List Row) (i : ℕ) (d : Row) → map seen rs ≡ (rules_of PresentLenient).rows → i < length rs →
+pub row_seen : (rs : List Row) (i : ℕ) (d : Row) → map seen rs ≡ (rules_of PresentLenient).rows → i < length rs →
     seen (get_or rs i d) ≡ row_at i
 unfolding row_at
-key_at rs i d e h = sym (get_or-map seen rs i d no_row h) ∙ ap (λ us. get_or us i no_row) e
+row_seen rs i d e h = sym (get_or-map seen rs i d no_row h) ∙ ap (λ us. get_or us i no_row) e

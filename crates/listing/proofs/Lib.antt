@@ -1,6 +1,7 @@
 -- The root of the proofs.
 pub mod Pieces
 pub mod Keys
+pub mod Tabled
 pub mod Rows
 pub mod Whole
 pub mod Settled

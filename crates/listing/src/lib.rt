@@ -171,7 +171,7 @@ fn table() -> &'static [Row]
 }
 
 // The row at a place, if there is one.
-#[tactic(auto, using(crate::proofs::Keys::key_at, crate::proofs::Keys::rows_many))]
+#[tactic(auto, using(crate::proofs::Keys::row_seen, crate::proofs::Keys::rows_many))]
 fn entry(i: usize) -> Option<&'static Row>
     ensures row { IfSome result (λ r. (i < row_count) × (seen r.now ≡ row_at i)) }
     ensures none { IfNone result (row_count ≤ i) }
