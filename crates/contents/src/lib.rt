@@ -17,6 +17,7 @@ ghost use Rattle.rules.specs.ContentJudge.{tens_by, ones_by, day_by, head_by, te
 ghost use Rattle.rules.specs.ContentJudge as content;
 ghost use Rattle.rules.specs.OctetRows.{admitted, pair_by, calendar_by, mixed_by, ok_by, mixed, asked_kind, kind_front, ContentKind, Rowed, Short};
 ghost use Rattle.rules.specs.OctetRows as rows;
+ghost use Rattle.contents.specs.Asked.{asked_of};
 ghost use Rattle.rules.specs.declared.Class.TheVariants as class;
 
 use rules::Class;
@@ -34,7 +35,7 @@ const MINUTES: Range = (0, 59);
 // The hours of a duration (document 02, Q-4).
 const LONG_HOURS: Range = (0, 99);
 
-// The kinds of content octets, each a bit of a row; numbers, as `asked_kind`, by which `content_ok` promises, has them.
+// The kinds of content octets, each a bit of a row.
 const DIGIT: u8 = 1;
 
 const NUMBER: u8 = 2;
@@ -43,8 +44,14 @@ const NAME: u8 = 4;
 
 const LETTER: u8 = 8;
 
-// The kind of a class whose octets are of no one kind.
-const MIXED: u8 = 16;
+// How the octets of a class are judged: by the code that the first of them is, by the kind that all of them are of, or
+// each by a rule of its own.
+#[derive(Clone, Copy)]
+enum Asked {
+    Code,
+    Kind(u8),
+    Mixed,
+}
 
 // Octets of a charge that are no digits, and the space of an extension (source 004, 5.4.18 and 5.4.27).
 const DASH: u8 = 0x2D;
@@ -132,33 +139,32 @@ fn is_in(set: &[Range], x: u8) -> bool
     set.iter().any(|range| rules::among(range.0, range.1, x))
 }
 
-// The kind that the octets of a class are of; 0 where they are not judged by their rows, MIXED where they are of no one
-// kind.
-#[tactic(auto, unfolding(rules::specs::OctetRows::asked_kind))]
-fn kind_of(c: Class) -> u8
-    ensures { result ≡ asked_kind c }
+// How the octets of a class are judged.
+#[tactic(auto, using(rules::proofs::Telling::telling), unfolding(crate::specs::Asked::told, rules::specs::OctetRows::asked_kind))]
+fn asked_of(c: Class) -> Asked
+    ensures { result ≡ asked_of c }
 {
     match c {
-        Class::Number => NUMBER,
-        Class::Name | Class::ShortText => NAME,
-        Class::OldNumber => DIGIT,
+        Class::Number => Asked::Kind(NUMBER),
+        Class::Name | Class::ShortText => Asked::Kind(NAME),
+        Class::OldNumber => Asked::Kind(DIGIT),
         Class::Date
         | Class::Moment
         | Class::Charge
         | Class::Duration
         | Class::Terminal
         | Class::Display
-        | Class::Extension => MIXED,
-        _ => 0,
+        | Class::Extension => Asked::Mixed,
+        _ => Asked::Code,
     }
 }
 
 // Are the octets of the class judged by their rows?
-#[tactic(auto, using(rules::proofs::Telling::telling, rules::proofs::Telling::eq_is), unfolding(rules::specs::OctetRows::asks))]
+#[tactic(auto, using(rules::proofs::Telling::telling, rules::proofs::Telling::eq_is), unfolding(rules::specs::OctetRows::asks, crate::specs::Asked::told))]
 pub fn asks(c: Class) -> bool
     ensures { result ≡ rows.asks c }
 {
-    kind_of(c) != 0
+    !matches!(asked_of(c), Asked::Code)
 }
 
 // May octet x be the first of contents that are not judged by rows?
@@ -377,10 +383,10 @@ fn mixed_ok(c: Class, n: u8, i: u8, m: u8, row: u8, x: u8) -> bool
 pub fn content_ok(c: Class, n: u8, i: u8, m: u8, row: u8, x: u8) -> bool
     ensures { result ≡ ok_by c n i m row x }
 {
-    match kind_of(c) {
-        0 => i != 0 || code_ok(c, x),
-        MIXED => mixed_ok(c, n, i, m, row, x),
-        kind => admits(row, kind),
+    match asked_of(c) {
+        Asked::Code => i != 0 || code_ok(c, x),
+        Asked::Kind(kind) => admits(row, kind),
+        Asked::Mixed => mixed_ok(c, n, i, m, row, x),
     }
 }
 
@@ -651,11 +657,9 @@ fn by_rows(c: Class, v: &[u8]) -> usize
     ensures { result ≡ good_front c v.now }
 {
     let kinds = kinds::KINDS;
-    let kind = kind_of(c);
-    if kind == MIXED {
-        mixed_along(c, &kinds[..], v)
-    } else {
-        kind_along(&kinds[..], kind, v)
+    match asked_of(c) {
+        Asked::Kind(kind) => kind_along(&kinds[..], kind, v),
+        _ => mixed_along(c, &kinds[..], v),
     }
 }
 

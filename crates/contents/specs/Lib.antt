@@ -1,0 +1,2 @@
+-- The root of what is said of contents in types of this crate.
+pub mod Asked
