@@ -56,7 +56,7 @@ fn sized(book: Book, s: &[u8]) -> Result<u16, Fault>
 pub fn judge(book: Book, s: &[u8]) -> Result<u16, Fault>
     ensures { result ≡ verdict_of (rules_of book) s.now }
 {
-    if s.len() == 0 {
+    if s.is_empty() {
         return Err(rules::noted(8, 0));
     }
     if rules::message_kind(s[0]) {
@@ -67,7 +67,7 @@ pub fn judge(book: Book, s: &[u8]) -> Result<u16, Fault>
 }
 
 // What stands at a place of a message: the type of a parameter, where its contents start and how long they are; the
-// next place is behind them.
+// next place is behind them. Start and length, here and in `Part`, and no slice: C's answer has both (octets 3 to 6).
 #[derive(Clone, Copy)]
 pub struct Found {
     pub kind: u8,
@@ -82,11 +82,11 @@ pub struct Part {
     pub length: u8,
 }
 
-// The octet at a place, 0 beyond the end.
+// The octet at a place, 0 beyond the end: octets and place, and no `Option`, as `slice_index` has it.
 pub fn octet(s: &[u8], i: usize) -> u8
     ensures { result ≡ slice_index s.now i }
 {
-    if i < s.len() { s[i] } else { 0 }
+    s.get(i).copied().unwrap_or(0)
 }
 
 // The parameter that begins at a place, of any octets: of a message, the first begins at 2.
