@@ -155,6 +155,7 @@ fn marked(form: Form, mark: u8, start: usize, length: usize) -> Flat
     }
 }
 
+// A value laid flat, as `flat_of` has it; a match on the value, since each variant has fields of its own.
 #[tactic(auto, unfolding(crate::specs::Same::flat_of))]
 pub fn flatten(v: Value) -> Flat
     ensures { result ≡ flat_of v }

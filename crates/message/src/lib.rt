@@ -52,7 +52,7 @@ fn sized(book: Book, s: &[u8]) -> Result<u16, Fault>
 }
 
 // The verdict on any octets: 1 to 6 and 10 as the listener gives them; 8 where they end early; 7 where octets follow
-// the message.
+// the message. How many there are is asked before each octet, here and in `sized`, and by no slice pattern: 8 tells it.
 pub fn judge(book: Book, s: &[u8]) -> Result<u16, Fault>
     ensures { result ≡ verdict_of (rules_of book) s.now }
 {
@@ -89,7 +89,8 @@ pub fn octet(s: &[u8], i: usize) -> u8
     s.get(i).copied().unwrap_or(0)
 }
 
-// The parameter that begins at a place, of any octets: of a message, the first begins at 2.
+// The parameter that begins at a place, of any octets: of a message, the first begins at 2. Numbers are compared, and
+// no slice is matched: contents may be told that end beyond the octets, where there is none.
 pub fn parameter(s: &[u8], at: usize) -> Option<Found>
     ensures { result ≡ parameter_at s.now at }
 {

@@ -557,8 +557,7 @@ pub fn among(lo: u8, hi: u8, x: u8) -> bool
 fn length_ok(c: Class, n: u8) -> bool
     ensures { result ≡ length_fits c n }
 {
-    lengths_of(c).have(n)
-        || other_length(c).is_some_and(|other| n == other)
+    lengths_of(c).have(n) || other_length(c).is_some_and(|other| n == other)
 }
 
 // 0 or at least 3 octets are left after a parameter of this length.
@@ -585,14 +584,13 @@ pub fn possible(c: Class, room: u8) -> bool
     ensures { result ≡ judge.possible c room }
 {
     lengths_of(c).may_fit(room)
-        || match other_length(c) {
-            Some(other) => Lengths {
+        || other_length(c).is_some_and(|other| {
+            Lengths {
                 least: other,
                 most: other,
             }
-            .may_fit(room),
-            None => false,
-        }
+            .may_fit(room)
+        })
 }
 
 // A call message or a notice. The octet and no enum: `message_kind` is promised of each, and drafts of any message
