@@ -90,7 +90,7 @@ pub fn no_entry() -> Entry
     }
 }
 
-// A draft of an edition with no entries.
+// A draft of an edition with no entries: all its places are `no_entry`.
 #[tactic(auto, unfolding(crate::specs::Draft::empty_of))]
 pub fn empty(edition: u8, kind: u8) -> Draft
     ensures { result ≡ empty_of edition kind }

@@ -188,8 +188,8 @@ fn at_length(book: Book, class: Class, room: u8, q: Spot, x: u8) -> State
     }
 }
 
-// The octet at this index of contents is to come. Field by field: a stage, whose fields its definition names, holds no
-// `Frame`.
+// The octet at this index of contents is to come. Field by field, here and in `onward`: a stage, whose fields its
+// definition names, holds no `Frame`.
 fn content_at(f: Frame, index: u8, memory: u8) -> Stage
     ensures { result ≡ stage.Content f.class f.length index memory f.room }
 {
@@ -237,7 +237,7 @@ fn row_in(class: Class, kinds: &[u8], x: u8) -> u8
 // beside `turns::reached` and `contents::short_along`: this one moves a spot too, and promises `Onward`. Run and place
 // go together, here and in `along`, `by_turns` and `onward`, since `Onward` counts in the run. That the state is in
 // range is required in these and in `run`: `listen` asks it once, and a type of such states would be built anew by each
-// stage.
+// stage. Index, memory and spot move as three variables, since each is asked by itself here.
 fn by_octets(book: Book, f: Frame, first: Inside, kinds: &[u8], octets: &[u8], from: usize) -> Ran
     requires { T (in_range (rules_of book) (inside_of f first.index first.memory first.spot)) × (from < list.length octets.now) × AskedRows f.class kinds.now }
     ensures { Onward (rules_of book) (inside_of f first.index first.memory first.spot) octets.now from result }

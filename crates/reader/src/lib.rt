@@ -160,7 +160,8 @@ fn text_part(kind: Form, contents: &[u8]) -> &[u8]
     }
 }
 
-// The text of a parameter found.
+// The text of a parameter found. Book and octets are two arguments here and below: `pack`, `fits` and `entry` are
+// promised of the two, and a struct of them would be made for each.
 #[tactic(auto, unfolding(draft::specs::Packing::text_of, draft::specs::Packing::meaning_in))]
 fn text_of(book: Book, octets: &[u8], found: Found) -> &[u8]
     requires { found.start + found.length ≤ length octets.now }
@@ -265,7 +266,8 @@ pub fn entry(book: Book, octets: &[u8], at: usize, used: usize) -> Option<Taken>
     })
 }
 
-// An entry for each parameter; the other places are not used.
+// An entry for each parameter; the other places are not used. Each is stored at the draft's own number of entries: over
+// `zip` with the places that number would have to be counted too.
 fn draft_of(book: Book, octets: &[u8]) -> Draft
     ensures { result ≡ draft_of (rules_of book) (message_in octets.now) }
 {

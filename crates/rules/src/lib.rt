@@ -26,7 +26,7 @@ pub const MOST: usize = 85;
 pub const LONGEST: usize = 253;
 
 // LAST_PRESENT, LAST_LISTED, FIRST_OLD and CARRIED are codes and no classes: octet 4 of C's listener record may hold
-// any octet, and `code_in` is promised of each, those of no class too.
+// any octet, and `code_in` is promised of each, those of no class too; `old_code` is asked by it.
 
 // The classes of the present edition's rows have the codes from 1 up to this one.
 const LAST_PRESENT: u8 = Class::Extension as u8;
