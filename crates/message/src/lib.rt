@@ -56,7 +56,7 @@ fn sized(book: Book, s: &[u8]) -> Result<u16, Fault>
 pub fn judge(book: Book, s: &[u8]) -> Result<u16, Fault>
     ensures { result ≡ verdict_of (rules_of book) s.now }
 {
-    if s.is_empty() {
+    if s.len() == 0 {
         return Err(rules::noted(8, 0));
     }
     if rules::message_kind(s[0]) {

