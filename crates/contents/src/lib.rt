@@ -210,8 +210,8 @@ fn duration_ok(i: u8, m: u8, row: u8, x: u8) -> bool
     }
 }
 
-// Do the flags of a charge say that it is not available (source 004, 5.4.18, bit 4)? By division, here and in `in_units`,
-// word for word as `missing` and `units` have it.
+// Do the flags of a charge say that it is not available (source 004, 5.4.18, bit 4)? By division, here and in
+// `in_units`, word for word as `missing` and `units` have it.
 #[tactic(auto, using(rules::proofs::Telling::telling), unfolding(rules::specs::Charge::missing))]
 fn is_missing(flags: u8) -> bool
     ensures { result ≡ missing flags }
