@@ -1,6 +1,6 @@
 // A row for each octet (document 02, Q-7): the kinds of content that admit it, added up. 1 digits, as in dates and the
 // old edition's numbers; 2 numbers; 4 names; 8 letters A to Z, as in a currency. docs/FIELDBOOK.md has the same rows
-// for print.
+// for print. A table and no ranges: document 02 has a row for each octet.
 pub const KINDS: [u8; 256] = [
     0, // 00
     0, // 01

@@ -75,7 +75,8 @@ fn digit_of(x: u8) -> u8
     if 48 <= x { x - 48 } else { 0 }
 }
 
-// The digits of a date: octet x stands beside the row that says whether it is one.
+// The digits of a date: octet x stands beside the row that says whether it is one. No twins: tens may begin a number of
+// the range, ones must end one; and `two_digits` goes by rows alone, with no digit remembered.
 #[tactic(auto, using(rules::proofs::Telling::telling), unfolding(rules::specs::ContentJudge::opens))]
 fn tens_ok(range: Range, row: u8, x: u8) -> bool
     ensures { result ≡ tens_by (admitted row 1) range x }
@@ -117,7 +118,9 @@ fn day_ok(m: u8, row: u8, x: u8) -> bool
     admits(row, DIGIT) && digit_of(x) <= m && (m <= 21 || 1 <= digit_of(x))
 }
 
-// Two digits each for the month, a day of that month, the hour and the minute (document 02, Q-2).
+// Two digits each for the month, a day of that month, the hour and the minute (document 02, Q-2). Matches over the
+// index, here, in `moment_ok` and in `duration_ok`, and no list of ranges: the day's is what the month left, and is no
+// constant.
 #[tactic(auto, using(rules::proofs::Telling::telling))]
 fn date_ok(i: u8, m: u8, row: u8, x: u8) -> bool
     ensures { result ≡ calendar_by (admitted row 1) time_ranges i m x }
@@ -213,21 +216,25 @@ fn duration_ok(i: u8, m: u8, row: u8, x: u8) -> bool
     }
 }
 
+// Do the flags of a charge say that it is not available (source 004, 5.4.18, bit 4)? By division, here and in
+// `in_units`, word for word as `missing` and `units` have it.
 #[tactic(auto, using(rules::proofs::Telling::telling), unfolding(rules::specs::Charge::missing))]
-// Do the flags of a charge say that it is not available (source 004, 5.4.18, bit 4)?
 fn is_missing(flags: u8) -> bool
     ensures { result ≡ missing flags }
 {
     flags / 8 % 2 == 1
 }
 
-#[tactic(auto, using(rules::proofs::Telling::telling), unfolding(rules::specs::Charge::units))]
 // Do they say that units are charged (bit 5)?
+#[tactic(auto, using(rules::proofs::Telling::telling), unfolding(rules::specs::Charge::units))]
 fn in_units(flags: u8) -> bool
     ensures { result ≡ units flags }
 {
     flags / 16 % 2 == 1
 }
+
+// What is remembered is a number, in `currency_ok`, `flags_ok`, `amount_ok` and where it is kept, from `flags_kept` on:
+// octet 7 of C's listener record may hold any, and `content_ok` and `remember` are promised of each.
 
 // The second and third octet of a currency, behind letters (0) or dashes (1).
 #[tactic(auto, using(rules::proofs::Telling::telling), unfolding(rules::specs::Charge::currency_by, rules::specs::Charge::dash))]
@@ -291,7 +298,8 @@ fn charge_ok(i: u8, m: u8, row: u8, x: u8) -> bool
     }
 }
 
-// What a terminal is selected by: a connection type (01H) where there are two octets, a number or a subaddress.
+// What a terminal is selected by: a connection type (01H) where there are two octets, a number or a subaddress. Octets,
+// here, in `terminal_ok` and in `terminal_along`: of an enum 01H alone would be asked again.
 #[tactic(auto, using(rules::proofs::Telling::telling))]
 fn selector_ok(n: usize, x: u8) -> bool
     ensures { result ≡ (within (2, 3) x or (n =? 2 and x =? 1)) }
@@ -390,7 +398,7 @@ pub fn content_ok(c: Class, n: u8, i: u8, m: u8, row: u8, x: u8) -> bool
     }
 }
 
-// The days of a month; February has 29 (document 02, Q-2).
+// The days of a month; February has 29 (document 02, Q-2). A number: two digits of any octets make it (`days`).
 #[tactic(auto, using(rules::proofs::Telling::telling), unfolding(rules::specs::Contents::days, rules::specs::Contents::short_month))]
 fn days_in(month: u16) -> u8
     ensures { result ≡ days month }
@@ -402,7 +410,8 @@ fn days_in(month: u16) -> u8
     }
 }
 
-// The days of the month that octet x makes with the tens.
+// The days of the month that octet x makes with the tens: ten times them and a digit, as in `ones_ok`, in u16, since
+// they may be any octets; `two_digits` has two digits, and needs u8 alone.
 fn month_days(tens: u8, x: u8) -> u8
     ensures { result ≡ days (10 * tens + (x - 48)) }
 {
@@ -505,6 +514,10 @@ pub fn remember(c: Class, n: u8, i: u8, m: u8, x: u8) -> u8
     }
 }
 
+// From here to `first_wrong` the answer is how many octets may stand, all of them where none is wrong, and so no
+// `Option`: `good_front` says so. The table of rows is lent to each and its rows required (`Rowed`): named in each it
+// would be copied to the stack in each, and a type around it would hold that one constant.
+
 // Octets of a kind, as far as they go.
 fn kind_along(kinds: &[u8], kind: u8, v: &[u8]) -> usize
     requires { Rowed kinds.now × ContentKind kind }
@@ -605,7 +618,7 @@ fn terminal_along(kinds: &[u8], v: &[u8]) -> usize
     }
 }
 
-// A display's first octet and its text, as far as they go.
+// A display's first octet and its text, as far as they go. No twin of `terminal_along`, which has a third way.
 fn display_along(kinds: &[u8], v: &[u8]) -> usize
     requires { Rowed kinds.now × (1 ≤ list.length v.now) }
     ensures { result ≡ good_front class.Display v.now }
@@ -617,7 +630,8 @@ fn display_along(kinds: &[u8], v: &[u8]) -> usize
     }
 }
 
-// Contents whose octets behind the fourteenth may be any, as far as they go.
+// Contents whose octets behind the fourteenth may be any, as far as they go. A walk of its own, beside `turns::reached`
+// and `listener::by_octets`: it ends at the fourteenth octet, and promises `good_front`.
 fn short_along(c: Class, kinds: &[u8], v: &[u8]) -> usize
     requires { Rowed kinds.now × Short c }
     ensures { result ≡ good_front c v.now }
@@ -651,7 +665,8 @@ fn mixed_along(c: Class, kinds: &[u8], v: &[u8]) -> usize
     }
 }
 
-// Contents that are judged by rows, as far as they go. The table is laid down here, once for all of their octets.
+// Contents that are judged by rows, as far as they go. The table is laid down here, once for all of their octets: where
+// a constant array is read it is copied to the stack.
 fn by_rows(c: Class, v: &[u8]) -> usize
     requires { (rows.asks c ≡ true) × (1 ≤ list.length v.now) }
     ensures { result ≡ good_front c v.now }

@@ -14,6 +14,10 @@ ghost use Rattle.draft.specs.Same.{flat_of, flat_plain, flat_text, same_text, sa
 
 use rules::{Class, Form, MOST};
 
+// A value of each kind (document 01, Drafts). A text and a carried one, a date and a moment stay variants of their own,
+// with what they share in each: `meant` and C's record (kinds 3 and 4, 1 and 5) have them so. Texts are start and
+// length: the area is lent at each call. No `PartialEq`: texts are equal by their octets, wherever they lie
+// (`same_draft`).
 #[derive(Clone, Copy)]
 pub enum Value {
     Date {
@@ -75,7 +79,8 @@ pub struct Draft {
     pub edition: u8,
 }
 
-// An entry place that is not used.
+// An entry place that is not used: a code of 0 and no `Option`, since C's record has zeros there; a function and no
+// `Default`, which is promised by its name (`no_entry`).
 pub fn no_entry() -> Entry
     ensures { result ≡ no_entry }
 {
@@ -85,7 +90,7 @@ pub fn no_entry() -> Entry
     }
 }
 
-// A draft of an edition with no entries.
+// A draft of an edition with no entries: all its places are `no_entry`.
 #[tactic(auto, unfolding(crate::specs::Draft::empty_of))]
 pub fn empty(edition: u8, kind: u8) -> Draft
     ensures { result ≡ empty_of edition kind }
@@ -150,6 +155,7 @@ fn marked(form: Form, mark: u8, start: usize, length: usize) -> Flat
     }
 }
 
+// A value laid flat, as `flat_of` has it; a match on the value, since each variant has fields of its own.
 #[tactic(auto, unfolding(crate::specs::Same::flat_of))]
 pub fn flatten(v: Value) -> Flat
     ensures { result ≡ flat_of v }
@@ -225,7 +231,9 @@ pub fn lies(texts: &[u8], start: usize, length: usize) -> bool
     start <= n && length <= n - start
 }
 
-// Texts are equal where both lie inside and their octets agree.
+// Texts are equal where both lie inside and their octets agree. From here to `same` a draft, or a part of it, and its
+// area go as two arguments, as `same`'s promise and its callers have them: a struct would be made for one call, anew in
+// each.
 #[tactic(auto, using(rules::proofs::Telling::telling, rules::proofs::Telling::same_is), unfolding(crate::specs::Same::same_text))]
 fn same_text(s: &[u8], x: Flat, t: &[u8], y: Flat) -> bool
     ensures { result ≡ same_text s.now x t.now y }

@@ -20,8 +20,8 @@ ghost use Rattle.listener.specs.Heard as heard;
 use rules::{Book, Class, Fault, Spot, Stage, State};
 use turns::Stop;
 
-// Edition and way are the numbers told at its reset, known or not (document 02, Q-5 and Q-11): its record in C has both,
-// and gives back unknown ones.
+// Edition and way are the numbers told at its reset, known or not (document 02, Q-5 and Q-11): its record in C has
+// both, and gives back unknown ones.
 #[derive(Clone, Copy)]
 pub struct Listener {
     pub edition: u8,
@@ -38,7 +38,7 @@ pub enum Answer {
 }
 
 // The listener as it then stands, its answer, how many octets of the run it took, the spoiling one counted, and the
-// edition that the answer names: 0 with 16 and 17.
+// edition that the answer names: 0 with 16 and 17. No `Named` around them: `heard_of` has these four.
 #[derive(Clone, Copy)]
 pub struct Heard {
     pub listener: Listener,
@@ -70,14 +70,15 @@ struct Inside {
     spot: Spot,
 }
 
-// The spot after an octet that a stage took, which stands in this parameter. A place below 65535 is asked here, and is no
-// type of its own: a record may hold any, and `Spot` is what it holds.
+// The spot after an octet that a stage took, which stands in this parameter. A place below 65535 is asked here, in the
+// five functions of the stages and in `further`, and is no type of its own: C's record may hold any (octets 2 and 3),
+// and `Spot` is what it holds. Book and stage are told, here and to `declined`, since `machine` speaks of both.
 #[tactic(auto, using(rules::proofs::Telling::telling), unfolding(rules::specs::Judge::machine))]
 fn moved(book: Book, stage: Stage, q: Spot, x: u8, parameter: u8) -> Spot
     requires { (q.place < 65535) × (parameter ≡ judge.stands_in stage q.parameter) }
     ensures { result ≡ machine.moved (judge.machine (rules_of book)) stage q x }
 {
-    let sum = std::num::wrapping_add_u8(q.sum, x);
+    let sum = q.sum.wrapping_add(x);
     Spot {
         sum,
         place: q.place + 1,
@@ -85,7 +86,8 @@ fn moved(book: Book, stage: Stage, q: Spot, x: u8, parameter: u8) -> Spot
     }
 }
 
-// An octet that a stage refuses, which stands in this parameter.
+// An octet that a stage refuses, which stands in this parameter. The refusal by its number, as `machine.declined` has
+// it.
 #[tactic(auto, using(rules::proofs::Telling::telling), unfolding(rules::specs::Judge::machine))]
 fn declined(book: Book, stage: Stage, number: u8, q: Spot, parameter: u8) -> State
     requires { parameter ≡ judge.stands_in stage q.parameter }
@@ -116,6 +118,8 @@ fn contents(class: Class, length: u8, index: u8, memory: u8, room: u8) -> Stage
     }
 }
 
+// What each stage makes of an octet. They take what `onward` took out of the state: a struct of book, spot and octet
+// would be made there for one call, and taken apart in it.
 fn at_kind(book: Book, q: Spot, x: u8) -> State
     requires { q.place < 65535 }
     ensures { result ≡ machine.step (judge.machine (rules_of book)) (state.Waiting stage.Kind q) x }
@@ -142,7 +146,7 @@ fn at_check(book: Book, q: Spot, x: u8) -> State
     requires { q.place < 65535 }
     ensures { result ≡ machine.step (judge.machine (rules_of book)) (state.Waiting (stage.Header 0) q) x }
 {
-    if x == std::num::wrapping_sub_u8(0, q.sum) {
+    if x == 0u8.wrapping_sub(q.sum) {
         State::Message(q.place + 1)
     } else {
         State::Refused(rules::noted(6, q.place))
@@ -185,7 +189,8 @@ fn at_length(book: Book, class: Class, room: u8, q: Spot, x: u8) -> State
     }
 }
 
-// The octet at this index of contents is to come.
+// The octet at this index of contents is to come. Field by field, here and in `onward`: a stage, whose fields its
+// definition names, holds no `Frame`.
 fn content_at(f: Frame, index: u8, memory: u8) -> Stage
     ensures { result ≡ stage.Content f.class f.length index memory f.room }
 {
@@ -216,7 +221,8 @@ fn further(book: Book, f: Frame, index: u8, memory: u8, q: Spot, x: u8) -> Insid
     }
 }
 
-// The row of an octet by the table of octets, where the class asks for it.
+// The row of an octet by the table of octets, where the class asks for it. Else 0 and no `None`: `content_ok` takes a
+// row of every class, and what it is matters only where one is asked for (`AskedRow`).
 fn row_in(class: Class, kinds: &[u8], x: u8) -> u8
     requires { AskedRows class kinds.now }
     ensures { AskedRow class result x }
@@ -228,7 +234,11 @@ fn row_in(class: Class, kinds: &[u8], x: u8) -> u8
     }
 }
 
-// Contents as far as they go: to their end, to the octet that spoils them, or to the end of the run.
+// Contents as far as they go: to their end, to the octet that spoils them, or to the end of the run. A walk of its own,
+// beside `turns::reached` and `contents::short_along`: this one moves a spot too, and promises `Onward`. Run and place
+// go together, here and in `along`, `by_turns` and `onward`, since `Onward` counts in the run. That the state is in
+// range is required in these and in `run`: `listen` asks it once, and a type of such states would be built anew by each
+// stage. Index, memory and spot move as three variables, since each is asked by itself here.
 fn by_octets(book: Book, f: Frame, first: Inside, kinds: &[u8], octets: &[u8], from: usize) -> Ran
     requires { T (in_range (rules_of book) (inside_of f first.index first.memory first.spot)) × (from < list.length octets.now) × AskedRows f.class kinds.now }
     ensures { Onward (rules_of book) (inside_of f first.index first.memory first.spot) octets.now from result }
@@ -264,7 +274,8 @@ fn by_octets(book: Book, f: Frame, first: Inside, kinds: &[u8], octets: &[u8], f
     }
 }
 
-// Contents as far as they go. The table of octets is laid down where their class asks for it, once for the run.
+// Contents as far as they go. The table of octets is laid down where their class asks for it, once for the run; hence
+// two calls, the other with an empty table, of which `AskedRows` asks nothing.
 fn along(book: Book, f: Frame, first: Inside, octets: &[u8], from: usize) -> Ran
     requires { T (in_range (rules_of book) (inside_of f first.index first.memory first.spot)) × (from < list.length octets.now) }
     ensures { Onward (rules_of book) (inside_of f first.index first.memory first.spot) octets.now from result }
@@ -278,7 +289,7 @@ fn along(book: Book, f: Frame, first: Inside, octets: &[u8], from: usize) -> Ran
     }
 }
 
-// The parameter of an octet that spoils a message: none at the checksum.
+// The parameter of an octet that spoils a message: none at the checksum, which is 0 in a `Fault` and in C's answer.
 #[tactic(auto, using(rules::proofs::Telling::telling))]
 fn parameter_of(number: u8, begun: u8) -> u8
     ensures { result ≡ pick (number =? 6) 0 begun }
@@ -332,8 +343,9 @@ fn by_turns(book: Book, room: u8, q: Spot, octets: &[u8], i: usize) -> Ran
     }
 }
 
-// One octet further; as far as contents go; or, where a whole parameter can follow, as far as parameters go. A match and
-// no table of functions, since each stage carries something else.
+// One octet further; as far as contents go; or, where a whole parameter can follow, as far as parameters go. A match
+// and no table of functions, since each stage carries something else; each arm says what it took, since two of them
+// jump.
 fn onward(book: Book, stage: Stage, q: Spot, octets: &[u8], i: usize) -> Ran
     requires { T (in_range (rules_of book) (state.Waiting stage q)) × (i < list.length octets.now) }
     ensures { Onward (rules_of book) (state.Waiting stage q) octets.now i result }
@@ -384,6 +396,7 @@ fn onward(book: Book, stage: Stage, q: Spot, octets: &[u8], i: usize) -> Ran
     }
 }
 
+// Refusals are numbers here, in `in_parameter`, `named` and `fault_in_range`: octet 9 of C's record may hold any.
 #[tactic(auto, using(rules::proofs::Telling::telling), unfolding(rules::specs::Judge::given, rules::specs::Contents::within))]
 fn known_number(book: Book, k: u8) -> bool
     ensures { result ≡ given (rules_of book) k }
@@ -391,6 +404,8 @@ fn known_number(book: Book, k: u8) -> bool
     (1..=6).contains(&k) || (k == 10 && rules::is_strict(book))
 }
 
+// A match over the stages here and one in `count_fits`: a definition each, and one match would hold both for each
+// stage.
 #[tactic(auto, using(rules::proofs::Telling::telling), unfolding(rules::specs::Judge::place_fits, rules::specs::Contents::within))]
 fn place_fits(stage: Stage, at: u16) -> bool
     ensures { result ≡ place_fits stage at }
@@ -501,19 +516,22 @@ fn run(book: Book, s: State, octets: &[u8]) -> Ran
 }
 
 // What a state answers: less than it holds, so that a caller sees no stage.
-#[tactic(auto, using(rules::proofs::Telling::telling), unfolding(crate::specs::Heard::answer_of))]
-fn answer_of(s: State) -> Answer
-    ensures { result ≡ answer_of s }
-{
-    match s {
-        State::Waiting(_, _) => Answer::Waits,
-        State::Message(n) => Answer::Message(n),
-        State::Refused(f) => Answer::Refused(f),
+impl From<State> for Answer {
+    ghost from_gives = { λ s a. a ≡ answer_of s };
+
+    #[tactic(auto, using(rules::proofs::Telling::telling), unfolding(crate::specs::Heard::answer_of))]
+    fn from(s: State) -> Answer {
+        match s {
+            State::Waiting(_, _) => Answer::Waits,
+            State::Message(n) => Answer::Message(n),
+            State::Refused(f) => Answer::Refused(f),
+        }
     }
 }
 
+// A refusal that no octet causes: nothing is taken, the listener comes back as it was, and no edition is named. It is
+// told by its number, as `untaken` has it.
 #[tactic(auto, using(rules::proofs::Telling::telling))]
-// A refusal that no octet causes: nothing is taken, the listener comes back as it was, and no edition is named.
 fn untaken(l: Listener, number: u8) -> Heard
     ensures { result ≡ heard.untaken number l }
 {
@@ -545,7 +563,7 @@ pub fn reset_way(edition: u8, way: u8) -> Listener
 }
 
 // A new listener of the strict way: where no way is named, types that the edition does not list are refused (document
-// 02, Q-11).
+// 02, Q-11). C has a call for this and one for `reset_way`.
 pub fn reset(edition: u8) -> Listener
     ensures { result ≡ new_listener edition strict }
 {
@@ -553,28 +571,25 @@ pub fn reset(edition: u8) -> Listener
 }
 
 // Takes a run of octets, none included. A listener out of range gets 17, then one whose edition or way is unknown 16;
-// both come back as they were.
+// both come back as they were. 17 comes first, and asks a book of unknown numbers too: hence not `known_book`.
 pub fn listen(l: Listener, octets: &[u8]) -> Heard
     ensures { result ≡ heard_of l octets.now }
 {
-    let edition = l.edition;
-    let way = l.way;
-    let book = rules::book_of(edition, way);
+    let book = rules::book_of(l.edition, l.way);
     if !in_range(book, l.state) {
         return untaken(l, 17);
     }
-    if !rules::is_known(edition, way) {
+    if !rules::is_known(l.edition, l.way) {
         return untaken(l, 16);
     }
     let ran = run(book, l.state, octets);
     Heard {
         listener: Listener {
-            edition,
-            way,
             state: ran.state,
+            ..l
         },
-        answer: answer_of(ran.state),
+        answer: ran.state.into(),
         taken: ran.taken,
-        edition,
+        edition: l.edition,
     }
 }

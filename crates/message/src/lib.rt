@@ -47,7 +47,7 @@ fn sized(book: Book, s: &[u8]) -> Result<u16, Fault>
 }
 
 // The verdict on any octets: 1 to 6 and 10 as the listener gives them; 8 where they end early; 7 where octets follow
-// the message.
+// the message. How many there are is asked before each octet, here and in `sized`, and by no slice pattern: 8 tells it.
 pub fn judge(book: Book, s: &[u8]) -> Result<u16, Fault>
     ensures { result ≡ verdict_of (rules_of book) s.now }
 {
@@ -62,7 +62,7 @@ pub fn judge(book: Book, s: &[u8]) -> Result<u16, Fault>
 }
 
 // What stands at a place of a message: the type of a parameter, where its contents start and how long they are; the
-// next place is behind them.
+// next place is behind them. Start and length, here and in `Part`, and no slice: C's answer has both (octets 3 to 6).
 #[derive(Clone, Copy)]
 pub struct Found {
     pub kind: u8,
@@ -77,14 +77,15 @@ pub struct Part {
     pub length: u8,
 }
 
-// The octet at a place, 0 beyond the end.
+// The octet at a place, 0 beyond the end: octets and place, and no `Option`, as `slice_index` has it.
 pub fn octet(s: &[u8], i: usize) -> u8
     ensures { result ≡ slice_index s.now i }
 {
-    if i < s.len() { s[i] } else { 0 }
+    s.get(i).copied().unwrap_or(0)
 }
 
-// The parameter that begins at a place, of any octets: of a message, the first begins at 2.
+// The parameter that begins at a place, of any octets: of a message, the first begins at 2. Numbers are compared, and
+// no slice is matched: contents may be told that end beyond the octets, where there is none.
 pub fn parameter(s: &[u8], at: usize) -> Option<Found>
     ensures { result ≡ parameter_at s.now at }
 {

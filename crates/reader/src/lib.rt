@@ -32,7 +32,8 @@ pub struct Taken {
     pub place: usize,
 }
 
-// The number of two digits.
+// The number of two digits, of any octets: by `% 16`, as `number_of` has it, and not by `- 48`, which the judge's
+// definitions have in `contents`.
 #[tactic(auto, unfolding(draft::specs::Meaning::number_of))]
 fn number_of(a: u8, b: u8) -> u8
     ensures { result ≡ number_of a b }
@@ -40,6 +41,7 @@ fn number_of(a: u8, b: u8) -> u8
     10 * (a % 16) + b % 16
 }
 
+// At a place and no slice from it: `octet` gives 0 beyond the end, where no slice begins.
 #[tactic(auto, unfolding(draft::specs::Meaning::digits_at))]
 fn pair_at(contents: &[u8], i: usize) -> u8
     requires { i ≤ 8 }
@@ -56,7 +58,8 @@ fn pairs<const N: usize>(contents: &[u8]) -> [u8; N]
     std::array::from_fn(|i| pair_at(contents, 2 * i))
 }
 
-// The seconds behind a date, and one more; 0 where none were sent (document 02, Q-4).
+// The seconds behind a date, and one more; 0 where none were sent (document 02, Q-4): no `Option`, as in
+// `Value::Moment`.
 #[tactic(auto, using(rules::proofs::Telling::telling), unfolding(draft::specs::Meaning::seconds_of, draft::specs::Meaning::digits_at, draft::specs::Meaning::number_of))]
 fn seconds_of(contents: &[u8]) -> u8
     ensures { result ≡ seconds_of contents.now }
@@ -68,7 +71,7 @@ fn seconds_of(contents: &[u8]) -> u8
     }
 }
 
-// The value that contents say, its text to be packed at a place.
+// The value that contents say, its text to be packed at a place. A match on the kind: each arm makes another variant.
 #[tactic(auto, unfolding(draft::specs::Packing::value_at, draft::specs::Meaning::meant))]
 fn value_of(kind: Form, contents: &[u8], at: usize) -> Value
     ensures { result ≡ value_at at (meant kind contents.now) }
@@ -157,7 +160,8 @@ fn text_part(kind: Form, contents: &[u8]) -> &[u8]
     }
 }
 
-// The text of a parameter found.
+// The text of a parameter found. Book and octets are two arguments here and below: `pack`, `fits` and `entry` are
+// promised of the two, and a struct of them would be made for each.
 #[tactic(auto, unfolding(draft::specs::Packing::text_of, draft::specs::Packing::meaning_in))]
 fn text_of(book: Book, octets: &[u8], found: Found) -> &[u8]
     requires { found.start + found.length ≤ length octets.now }
@@ -248,7 +252,8 @@ pub fn entry_of(book: Book, kind: u8, contents: &[u8], used: usize) -> Entry
     }
 }
 
-// The entry of the parameter at a place of a message, its text to be packed at a place of the area.
+// The entry of the parameter at a place of a message, its text to be packed at a place of the area. Message and place,
+// as `taken_at` has them.
 pub fn entry(book: Book, octets: &[u8], at: usize, used: usize) -> Option<Taken>
     ensures { result ≡ taken_at (rules_of book) octets.now at used }
 {
@@ -261,7 +266,8 @@ pub fn entry(book: Book, octets: &[u8], at: usize, used: usize) -> Option<Taken>
     })
 }
 
-// An entry for each parameter; the other places are not used.
+// An entry for each parameter; the other places are not used. Each is stored at the draft's own number of entries: over
+// `zip` with the places that number would have to be counted too.
 fn draft_of(book: Book, octets: &[u8]) -> Draft
     ensures { result ≡ draft_of (rules_of book) (message_in octets.now) }
 {
@@ -295,7 +301,8 @@ fn read_by(book: Book, octets: &[u8], area: &mut [u8]) -> Reading
     }
 }
 
-// A whole read: 16 where edition or way is unknown, else as their book says.
+// A whole read: 16 where edition or way is unknown, else as their book says. They are told as numbers, since 16 is
+// promised of unknown ones (`read_in`).
 #[tactic(auto, using(rules::proofs::Telling::telling), unfolding(crate::specs::Read::read_in, crate::specs::Read::area_in))]
 pub fn read_way(edition: u8, way: u8, octets: &[u8], area: &mut [u8]) -> Reading
     ensures answer { result ≡ read_in edition way octets.now (length area.old) }
@@ -312,7 +319,7 @@ pub fn read_way(edition: u8, way: u8, octets: &[u8], area: &mut [u8]) -> Reading
 }
 
 // A whole read in the strict way: where no way is named, types that the edition does not list are refused (document
-// 02, Q-11).
+// 02, Q-11). C has a call for this and one for `read_way`.
 pub fn read(edition: u8, octets: &[u8], area: &mut [u8]) -> Reading
     ensures answer { result ≡ read_in edition strict octets.now (length area.old) }
     ensures area { area.new ≡ area_in edition strict octets.now area.old }

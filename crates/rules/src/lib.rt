@@ -25,6 +25,9 @@ pub const MOST: usize = 85;
 // message).
 pub const LONGEST: usize = 253;
 
+// LAST_PRESENT, LAST_LISTED, FIRST_OLD and CARRIED are codes and no classes: octet 4 of C's listener record may hold
+// any octet, and `code_in` is promised of each, those of no class too; `old_code` is asked by it.
+
 // The classes of the present edition's rows have the codes from 1 up to this one.
 const LAST_PRESENT: u8 = Class::Extension as u8;
 
@@ -65,7 +68,8 @@ pub enum Class {
     Unlisted,
 }
 
-// The book of rules: the edition, and the way with types that have no row in it.
+// The book of rules: the edition, and the way with types that have no row in it. Four variants, and no struct of two
+// enums: `rules_of`, by which every promise names a book, and the theorems have a case for each.
 #[derive(Clone, Copy)]
 pub enum Book {
     PresentStrict,
@@ -76,7 +80,8 @@ pub enum Book {
 
 // The numbers of the editions, the present one and the old one, and of the ways (document 02, Q-5 and Q-11): types
 // without a row are refused by the strict way, and carried by the lenient one. No enums: an unknown number is told from
-// outside, kept in a record, and answered by 16 (`is_known`).
+// outside, kept in a record (C's listener, octets 11 and 12), and answered by 16 (`is_edition`, `is_known`,
+// `known_book`).
 pub const PRESENT: u8 = 0;
 
 pub const OLD: u8 = 1;
@@ -85,9 +90,9 @@ pub const STRICT: u8 = 0;
 
 pub const LENIENT: u8 = 1;
 
-// The kinds of value that a draft holds (document 01, Drafts; document 02, Q-4), in the order of their numbers: a code, the
-// numbers of a date, a state with a reference, a text, a carried text; a date that may have seconds, a duration, a first
-// octet with a text.
+// The kinds of value that a draft holds (document 01, Drafts; document 02, Q-4), in the order of their numbers: a code,
+// the numbers of a date, a state with a reference, a text, a carried text; a date that may have seconds, a duration, a
+// first octet with a text.
 #[derive(Clone, Copy, PartialEq, Eq)]
 pub enum Form {
     CodeValue,
@@ -110,7 +115,8 @@ impl From<Form> for u8 {
 }
 
 // What the next octet is: the message type, the length L, a parameter type or (no room left) the checksum, a
-// parameter length, an octet of contents.
+// parameter length, an octet of contents. Nothing asks if two of Book, Stage, Spot, Fault
+// or State are the same: so none of them derives `PartialEq`.
 #[derive(Clone, Copy)]
 pub enum Stage {
     Kind,
@@ -140,8 +146,8 @@ pub struct Spot {
 }
 
 // The place and the number, and the parameter of the octet there: its number in the message, from 1; 0 where it stands
-// in none (document 02, Q-3). The number stays one: by it `noted`, the theorems (`Refusals`, `Demand3`) and the C header
-// name a refusal.
+// in none (document 02, Q-3). Numbers, and 0 for none: so `noted`, the theorems (`Refusals`, `Demand3`) and octets 0
+// and 7 of C's answer name a refusal.
 #[derive(Clone, Copy)]
 pub struct Fault {
     pub place: u16,
@@ -149,6 +155,7 @@ pub struct Fault {
     pub parameter: u8,
 }
 
+// Three outcomes, and so no `Result`: it waits, has a message of this size, or refuses.
 #[derive(Clone, Copy)]
 pub enum State {
     Waiting(Stage, Spot),
@@ -183,6 +190,7 @@ pub fn is_edition(edition: u8) -> bool
 }
 
 // Are there an edition and a way of these numbers? Where there are not, the answer is 16 (document 02, Q-5 and Q-11).
+// It stands beside `known_book` since `is_known_settled` names it, and 17 comes ahead of 16 (`listener::listen`).
 #[tactic(auto, using(crate::proofs::Telling::telling), unfolding(crate::specs::Editions::known))]
 pub fn is_known(edition: u8, way: u8) -> bool
     ensures { result ≡ known edition way }
@@ -190,8 +198,8 @@ pub fn is_known(edition: u8, way: u8) -> bool
     is_edition(edition) && way <= LENIENT
 }
 
-// The book of an edition and a way. Ask `is_known` first: where one is unknown it is a strict book, by which nothing is
-// judged but the range of a listener.
+// The book of an edition and a way, known or not, as its clause `book_of` has it, and so no `Option`: of an unknown one
+// it is a strict book, by which the range of a listener is judged ahead of 16. Where those are 16, ask `known_book`.
 #[tactic(auto, using(crate::proofs::Telling::telling), unfolding(crate::specs::Editions::book_of))]
 pub fn book_of(edition: u8, way: u8) -> Book
     ensures { result ≡ book_of edition way }
@@ -216,7 +224,8 @@ pub fn known_book(edition: u8, way: u8) -> Option<Book>
     }
 }
 
-// The edition that an answer names which has this number, 0 where it is none: with 16 and 17 it names 0.
+// The edition that an answer names which has this number, 0 where it is none: with 16 and 17 it names 0. Both are
+// numbers since octets 0 and 7 of C's answer hold them (`named_by`).
 #[tactic(auto, using(crate::proofs::Telling::telling), unfolding(crate::specs::Editions::named_by))]
 pub fn named_by(number: u8, edition: u8) -> u8
     ensures { result ≡ named_by number edition }
@@ -300,7 +309,7 @@ fn old_code(code: u8) -> bool
 }
 
 // Is it the code of a class that a book has: one of the edition's rows, or carried where the way is not the strict one?
-// Of an unknown edition, of the rows of any.
+// Of an unknown edition, of the rows of any: so edition, way and code stay three numbers and are no book and class.
 #[tactic(auto, using(crate::proofs::Telling::telling), unfolding(crate::specs::Codes::code_in))]
 pub fn code_in(edition: u8, way: u8, code: u8) -> bool
     ensures { result ≡ code_in edition way code }
@@ -335,8 +344,8 @@ pub fn form_of(c: Class) -> Form
 }
 
 // The classes of the present edition's types (document 01, The message; document 02, Q-4); every other type has the
-// class of types without a row. A match for each edition: a slice of rows searched for class and rival made a message a
-// fifth to a third dearer.
+// class of types without a row, which is the book's. A match for each edition, this and `old_class`: a slice of rows
+// searched for class and rival made a message a fifth to a third dearer.
 #[tactic(auto, using(crate::proofs::Telling::telling), unfolding(crate::specs::Table::row_in))]
 fn present_class(t: u8, others: Class) -> Class
     ensures { result ≡ (row_in (plain_row t others) rows01 t).class }
@@ -364,18 +373,18 @@ fn present_class(t: u8, others: Class) -> Class
     }
 }
 
-// The same in the old edition (document 02, Q-5).
+// The same in the old edition (document 02, Q-5). The class of all others is told and no `Option` comes back:
+// `plain_row t others` of both contracts has it so.
 #[tactic(auto, using(crate::proofs::Telling::telling), unfolding(crate::specs::Table::row_in))]
 fn old_class(t: u8, others: Class) -> Class
     ensures { result ≡ (row_in (plain_row t others) rows_old t).class }
 {
     match t {
         0x01 => Class::Date,
-        0x02 => Class::OldNumber,
+        0x02 | 0x12 => Class::OldNumber,
         0x04 => Class::Absent,
         0x07 => Class::ShortText,
         0x0B => Class::Lamp,
-        0x12 => Class::OldNumber,
         0x15 => Class::OldForwarded,
         0x16 => Class::OldUser,
         _ => others,
@@ -440,7 +449,7 @@ fn is_rowed(c: Class) -> bool
     !matches!(c, Class::Carried | Class::Unlisted)
 }
 
-// The other type of its pair; itself, where it is no half of one.
+// The other type of its pair; itself and no `None`, where it is no half of one: `rival_of` has it so.
 #[tactic(auto, using(crate::proofs::Telling::telling, crate::proofs::Rivals::rival_is), unfolding(crate::proofs::Rivals::rivals))]
 pub fn rival_of(b: Book, t: u8) -> u8
     ensures { result ≡ rival_of (rules_of b) t }
@@ -500,6 +509,7 @@ fn other_length(c: Class) -> Option<u8>
     }
 }
 
+// The range of a class's lengths. Unlisted has none: 1 to 0, as `whole` has it, and so no `Option`.
 #[tactic(auto, using(crate::proofs::Telling::telling), unfolding(crate::specs::Codes::other_length, crate::specs::Table::whole, crate::specs::Codes::ranges))]
 fn lengths_of(c: Class) -> Lengths
     ensures { (whole c).lengths ≡ ranges result.least result.most (other_length c) }
@@ -522,6 +532,7 @@ fn lengths_of(c: Class) -> Lengths
 }
 
 // The number given to a type of this class where it cannot stand in its room: 10 where the class has no length at all.
+// A number, as `class_fault` has it: it goes into a `Fault`.
 #[tactic(auto, using(crate::proofs::Telling::telling), unfolding(crate::specs::Table::class_fault, crate::specs::Table::whole, crate::specs::Contents::some_length, crate::specs::Codes::ranges))]
 pub fn class_fault(c: Class) -> u8
     ensures { result ≡ class_fault c }
@@ -532,7 +543,8 @@ pub fn class_fault(c: Class) -> u8
     }
 }
 
-// Is a number from the first to the second?
+// Is a number from the first to the second? Told two numbers, as its clause `within (lo, hi)` has them; `Lengths` asks
+// it.
 #[tactic(auto, using(crate::proofs::Telling::telling), unfolding(crate::specs::Contents::within))]
 pub fn among(lo: u8, hi: u8, x: u8) -> bool
     ensures { result ≡ within (lo, hi) x }
@@ -545,11 +557,7 @@ pub fn among(lo: u8, hi: u8, x: u8) -> bool
 fn length_ok(c: Class, n: u8) -> bool
     ensures { result ≡ length_fits c n }
 {
-    lengths_of(c).have(n)
-        || match other_length(c) {
-            Some(other) => n == other,
-            None => false,
-        }
+    lengths_of(c).have(n) || other_length(c).is_some_and(|other| n == other)
 }
 
 // 0 or at least 3 octets are left after a parameter of this length.
@@ -576,17 +584,17 @@ pub fn possible(c: Class, room: u8) -> bool
     ensures { result ≡ judge.possible c room }
 {
     lengths_of(c).may_fit(room)
-        || match other_length(c) {
-            Some(other) => Lengths {
+        || other_length(c).is_some_and(|other| {
+            Lengths {
                 least: other,
                 most: other,
             }
-            .may_fit(room),
-            None => false,
-        }
+            .may_fit(room)
+        })
 }
 
-// A call message or a notice.
+// A call message or a notice. The octet and no enum: `message_kind` is promised of each, and drafts of any message
+// type have an answer.
 #[tactic(auto, using(crate::proofs::Telling::telling), unfolding(crate::specs::Message::message_kind))]
 pub fn message_kind(x: u8) -> bool
     ensures { result ≡ message_kind x }

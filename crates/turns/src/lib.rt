@@ -77,7 +77,8 @@ fn sum_on(s: &[u8], start: usize, end: usize, sum: u8) -> u8
     total
 }
 
-// The checksum.
+// The checksum: a wrapping subtraction from 0, here, in `listener::at_check` and in `writer::put_message`; a function
+// for the three would be a call in place of one operation.
 fn check(s: &[u8], at: usize, sum: u8) -> u64
     requires { (at ≤ 255) × (at < long s.now) }
     ensures { (R : Rules) (count : ℕ) → Turned R s.now at 0 sum count (stop_in result) }
@@ -90,6 +91,8 @@ fn check(s: &[u8], at: usize, sum: u8) -> u64
 }
 
 // A header that no contents follow: the checksum, or a type or a length that may not stand, or the octets' own end.
+// Octets and place, in `check` and `cut` too, and no slice from there: `Turned` counts places from the first of the
+// octets.
 fn last(book: Book, s: &[u8], at: usize, room: u8, sum: u8, count: usize) -> u64
     requires { (at + room ≤ 255) × (fits_at (rules_of book) s.now at room ≡ true → long s.now ≤ at + 2) × (3 * count ≤ at) }
     ensures { Turned (rules_of book) s.now at room sum count (stop_in result) }
@@ -117,7 +120,8 @@ fn last(book: Book, s: &[u8], at: usize, room: u8, sum: u8, count: usize) -> u64
 }
 
 // How many octets of contents that are to have this length may stand where they stand, from the first on. The table of
-// octets is laid down once for all of them.
+// octets is laid down once for all of them. A walk of its own, beside `contents::short_along` and
+// `listener::by_octets`: this one is told a length that the octets may fall short of, and promises `passing`.
 fn reached(class: Class, v: &[u8], length: u8) -> usize
     requires { long v.now ≤ 255 }
     ensures { result ≡ passing (judge_of class) length 0 0 v.now }
@@ -157,8 +161,9 @@ fn cut(
     }
 }
 
-// The header of a parameter, with so many before it; its contents follow where they are there. Place, room, sum and count
-// go one by one: a struct of them would be made anew for each call, since all four change there.
+// The header of a parameter, with so many before it; its contents follow where they are there. Place, room, sum and
+// count go one by one, in `last`, `cut` and `contents` too, which each require the same of them: a struct of them would
+// be made anew for each call, since all four change there.
 #[cycle(contents_header)]
 fn header(book: Book, m: &&[u8], at: usize, room: u8, sum: u8, count: usize) -> u64
     requires { (at + room ≤ 255) × (3 * count ≤ at) }

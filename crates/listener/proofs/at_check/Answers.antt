@@ -5,10 +5,10 @@ use Rattle.rules.specs.declared.State.TheVariants.{Refused}
 use Rattle.rules.proofs.Steps.{seals, spoils}
 use Rattle.listener.proofs.at_check.Goals as goal
 
-pub returns-then-x-wrapping_sub_u8 : goal.returns-then-x-wrapping_sub_u8
-returns-then-x-wrapping_sub_u8 c = seals _ _ _ _ c.wrapping_sub_u8.ensures.value (omega arith) (omega arith) c.if-x-wrapping_sub_u8.true
+pub returns-then-x-q : goal.returns-then-x-q
+returns-then-x-q c = seals _ _ _ _ (omega arith) (omega arith) (omega arith) c.if-x-q.true
 
-pub returns-else-x-wrapping_sub_u8 : goal.returns-else-x-wrapping_sub_u8
-returns-else-x-wrapping_sub_u8 c =
-    spoils _ _ _ _ c.wrapping_sub_u8.ensures.value (omega arith) (omega arith) _
-    c.if-x-wrapping_sub_u8.false (ap Refused c.noted.ensures)
+pub returns-else-x-q : goal.returns-else-x-q
+returns-else-x-q c =
+    spoils _ _ _ _ (omega arith) (omega arith) (omega arith) _
+    c.if-x-q.false (ap Refused c.noted.ensures)

@@ -47,7 +47,7 @@ returns c =
     by_book _ _ _ _ _ c.book_of-book.ensures
     (pick_t _ _ _ _ (sym c.in_range.ensures ∙ c.if-not-in_range.false)
     (pick_t _ _ _ _ (sym c.is_known.ensures ∙ c.if-not-is_known.false)
-    (together _ _ _ _ _ _ _ c.run-ran.ensures c.answer_of.ensures)))
+    (together _ _ _ _ _ _ _ c.run-ran.ensures c.into.ensures)))
 
 pub returns-then-not-is_known : goal.returns-then-not-is_known
 unfolding heard_in
