@@ -8,10 +8,8 @@ use mathlib.Core.Bool.{Bool, false}
 use mathlib.Core.Logic.{◌⊎◌, inl, inr}
 use mathlib.Core.List.{List, [], ◌∷◌}
 use mathlib.Core.Option.{Option as Maybe, none, some}
-use native.Mathlib.Nat.{add-zero}
 use native.Mathlib.Omega.{arith}
-use lib.ListN.{length, length-take, length-drop, take, drop, get_or}
-use lib.Seq.{get_or-take, get_or-drop}
+use lib.ListN.{length, take, drop, get_or}
 use lib.Dec.{T}
 use Rattle.rules.specs.Tests.{◌≤?◌, ◌=?◌, ◌and◌, ◌or◌, pick}
 use Rattle.rules.proofs.Tests.{clash, pick_case, both, either, le_of}
@@ -53,13 +51,9 @@ module _ (R : Rules) (o : List ℕ) (a : Accepts R o) (t start n : ℕ) (e : cou
   some_octets =
       (lawful (class_of R t)).least _ ((lawful (class_of R t)).fit_length _ (legal_counted R a.0 a.1 t _ holds))
 
-  pub start_inside : start < length o
-  start_inside = omega (arith, some_octets, length-take n (drop start o), length-drop start o)
-
-  pub first_octet : get_or (take n (drop start o)) 0 0 ≡ get_or o start 0
-  first_octet =
-      get_or-take n (drop start o) 0 0 (omega (arith, some_octets, length-take n (drop start o)))
-      ∙ get_or-drop start o 0 0 ∙ ap (λ (k : ℕ). get_or o k 0) (add-zero start)
+  -- as the octets from a place up to a place
+  pub slice_octets : 1 ≤ length (take (start + n - start) (drop start o))
+  slice_octets = rw (part_is o start n) some_octets
 
 -- ---- what is found is what counts
 module _ (R : Rules) (o : List ℕ) (t : ℕ) (p : Option Part) (f : p ≡ counted_at R o t) where

@@ -2,7 +2,8 @@
 // by value.
 #![tactic(auto)]
 
-ghost use Rattle.std.specs.Prelude.{ℕ, ◌≡◌, ◌==◌, suc, ◌<◌, position};
+ghost use Rattle.std.specs.Prelude.{ℕ, ◌≡◌, ◌==◌, suc, ◌<◌, ◌≤◌, position, IfSome, IfNone};
+ghost use Rattle.std.proofs.Math.Option.{none, some};
 ghost use Rattle.std.proofs.Math.ListN as list;
 ghost use Rattle.rules.specs.Tests.{pick};
 ghost use Rattle.rules.specs.Table.{rules_of};
@@ -175,50 +176,55 @@ fn change_in(contents: &[u8]) -> Change
     change_by(state, high, low)
 }
 
+// The contents of a type that count, at least one octet; none where it does not count.
+fn contents_of<'a>(book: Book, octets: &'a [u8], t: u8) -> Option<&'a [u8]>
+    requires { Accepts (rules_of book) octets.now }
+    ensures some { IfSome result (λ v. (counted_in (rules_of book) octets.now t ≡ some v.now) × (1 ≤ list.length v.now)) }
+    ensures none { IfNone result (counted_in (rules_of book) octets.now t ≡ none) }
+{
+    let part = message::counted(book, octets, t);
+    match part {
+        Some(Part { start, length }) => {
+            let end = start + length as usize;
+            Some(&octets[start..end])
+        }
+        None => None,
+    }
+}
+
 // What a message does to a reference: as 0DH says where it counts.
+#[tactic(auto, unfolding(crate::specs::Settle::change_of))]
 fn change_of(book: Book, octets: &[u8]) -> Change
     requires { Accepts (rules_of book) octets.now }
     ensures { result ≡ change_of (counted_in (rules_of book) octets.now 0x0D) }
 {
-    let part = message::counted(book, octets, 0x0D);
-    match part {
-        Some(Part { start, length }) => {
-            let end = start + length as usize;
-            change_in(&octets[start..end])
-        }
+    match contents_of(book, octets, 0x0D) {
+        Some(contents) => change_in(contents),
         None => Change::Nothing,
     }
 }
 
 // The waiting number after a message: set where 13H counts.
+#[tactic(auto, unfolding(crate::specs::Settle::waiting_after))]
 fn waiting_after(book: Book, old: Option<u8>, octets: &[u8]) -> Option<u8>
     requires { Accepts (rules_of book) octets.now }
     ensures { result ≡ waiting_after (counted_in (rules_of book) octets.now 0x13) old }
 {
-    let part = message::counted(book, octets, 0x13);
-    match part {
-        Some(Part { start, length }) => {
-            let number = octets[start];
-            Some(number)
-        }
+    match contents_of(book, octets, 0x13) {
+        Some(contents) => Some(contents[0]),
         None => old,
     }
 }
 
 // The lamp after a message: set where 0BH counts, off with 00H.
+#[tactic(auto, using(rules::proofs::Telling::telling), unfolding(crate::specs::Settle::lamp_after))]
 fn lamp_after(book: Book, old: Lamp, octets: &[u8]) -> Lamp
     requires { Accepts (rules_of book) octets.now }
     ensures { result ≡ lamp_after (counted_in (rules_of book) octets.now 0x0B) old }
 {
-    let part = message::counted(book, octets, 0x0B);
-    match part {
-        Some(Part { start, length }) => {
-            if octets[start] == 0x00 {
-                Lamp::Off
-            } else {
-                Lamp::On
-            }
-        }
+    match contents_of(book, octets, 0x0B) {
+        Some(contents) if contents[0] == 0x00 => Lamp::Off,
+        Some(_) => Lamp::On,
         None => old,
     }
 }
