@@ -1,5 +1,5 @@
--- Contents that count in an accepted message are never empty, so that they begin with the octet at their start; in
--- each book those of 13H are one octet, those of 0BH one of two.
+-- What is found in octets is what counts there; in each book the contents of 13H that count are one octet, those of
+-- 0BH one of two.
 -- Assumes nothing.
 use Rattle.std.proofs.Common.{Option, Some, None}
 use Prim.Native.Nat.{ℕ, ◌+◌, ◌-◌, ◌≤◌, ◌<◌}
@@ -40,20 +40,6 @@ legal_counted R m l t v e = legal_counts R m l t v ((counted_iff R m t v).0 e)
 
 legal_listed : (R : Rules) (m : message.Message) (t : ℕ) (v : List ℕ) → counted R m t ≡ some v → T (listed R t)
 legal_listed R m t v e = ((counted_iff R m t v).0 e).listed
-
--- ---- contents that count in an accepted message hold at least one octet
-module _ (R : Rules) (o : List ℕ) (a : Accepts R o) (t start n : ℕ) (e : counted_at R o t ≡ part_at start n) where
-  holds : counted R a.0 t ≡ some (take n (drop start o))
-  unfolding part_of
-  holds = sym (counted_part R a.0 t) ∙ ap (λ (x : List ℕ). part_of x (counted_at R x t)) a.2 ∙ ap (part_of o) e
-
-  some_octets : 1 ≤ length (take n (drop start o))
-  some_octets =
-      (lawful (class_of R t)).least _ ((lawful (class_of R t)).fit_length _ (legal_counted R a.0 a.1 t _ holds))
-
-  -- as the octets from a place up to a place
-  pub slice_octets : 1 ≤ length (take (start + n - start) (drop start o))
-  slice_octets = rw (part_is o start n) some_octets
 
 -- ---- what is found is what counts
 module _ (R : Rules) (o : List ℕ) (t : ℕ) (p : Option Part) (f : p ≡ counted_at R o t) where

@@ -19,7 +19,7 @@ use Rattle.rules.proofs.Telling.{telling}
 use Rattle.rules.proofs.Returns.{and_t, and_f}
 use Rattle.rules.specs.First.{index_of}
 use Rattle.rules.proofs.First.{index_most}
-use Rattle.desk.specs.References.{free, held, place_with, absent, may_stand, places_fit}
+use Rattle.desk.specs.References.{place_count, free, held, place_with, absent, may_stand, places_fit}
 use Rattle.desk.specs.Holding.{Fit, Open}
 
 -- ---- the first place that is p
@@ -138,11 +138,15 @@ of_fit (p ∷ ps) w =
         (absent_of r ps (λ o. w.once 0 (suc o.0) r (omega arith) e o.1))
 
 -- ---- from place to place
--- the places behind one, of n
-pub places_behind : (ps : List ℕ) (i n : ℕ) → length ps ≡ n → take (n - (i + 1)) (drop (i + 1) ps) ≡ drop (suc i) ps
-places_behind ps i n e =
+-- the places behind one, of all
+pub behind : (ps : List ℕ) (i : ℕ) (b : Bool) → length ps ≡ place_count →
+    may_stand (get_or ps i 0) (take (place_count - (i + 1)) (drop (i + 1) ps)) ≡ b →
+    may_stand (get_or ps i 0) (drop (suc i) ps) ≡ b
+behind ps i b e h =
+    let z : take (place_count - (i + 1)) (drop (i + 1) ps) ≡ drop (suc i) ps =
     subst (λ (k : ℕ). take (k - (i + 1)) (drop (i + 1) ps) ≡ drop (suc i) ps) e
-    (rest_whole (i + 1) ps ∙ ap (λ (k : ℕ). drop k ps) (add-one i))
+    (rest_whole (i + 1) ps ∙ ap (λ (k : ℕ). drop k ps) (add-one i)) in
+    subst (λ (v : List ℕ). may_stand (get_or ps i 0) v ≡ b) z h
 
 module _ (ps : List ℕ) (i : ℕ) where
   fit_at : i < length ps →

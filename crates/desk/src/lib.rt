@@ -86,19 +86,17 @@ fn is_absent(sought: u32, places: &[u32]) -> bool
 
 // Is a place free, or does it hold a reference that no later one holds?
 #[tactic(auto, using(rules::proofs::Telling::telling), unfolding(crate::specs::References::may_stand))]
-fn may_stand(places: [u32; PLACES], at: usize) -> bool
-    requires { at < place_count }
-    ensures { result ≡ may_stand (list.get_or places at 0) (list.drop (suc at) places) }
+fn may_stand(place: u32, later: &[u32]) -> bool
+    ensures { result ≡ may_stand place later.now }
 {
-    let place = places[at];
-    place == FREE || place <= LAST && is_absent(place, &places[at + 1..])
+    place == FREE || place <= LAST && is_absent(place, later)
 }
 
 fn places_fit(places: [u32; PLACES]) -> bool
     ensures { result ≡ places_fit places }
 {
     for i in 0..PLACES {
-        if !may_stand(places, i) {
+        if !may_stand(places[i], &places[i + 1..]) {
             return false;
         }
     }
@@ -108,7 +106,7 @@ fn places_fit(places: [u32; PLACES]) -> bool
 fn held(reference: u16) -> u32
     ensures { result ≡ places_of.held reference }
 {
-    reference as u32 + 1
+    u32::from(reference) + 1
 }
 
 // Is a reference to be added where all places hold others?
@@ -176,10 +174,9 @@ fn change_in(contents: &[u8]) -> Change
     change_by(state, high, low)
 }
 
-// The contents of a type that count, at least one octet; none where it does not count.
+// The contents of a type that count. Types are the numbers of the table, since any octet can be one.
 fn contents_of<'a>(book: Book, octets: &'a [u8], t: u8) -> Option<&'a [u8]>
-    requires { Accepts (rules_of book) octets.now }
-    ensures some { IfSome result (λ v. (counted_in (rules_of book) octets.now t ≡ some v.now) × (1 ≤ list.length v.now)) }
+    ensures some { IfSome result (λ v. counted_in (rules_of book) octets.now t ≡ some v.now) }
     ensures none { IfNone result (counted_in (rules_of book) octets.now t ≡ none) }
 {
     let part = message::counted(book, octets, t);
@@ -195,7 +192,6 @@ fn contents_of<'a>(book: Book, octets: &'a [u8], t: u8) -> Option<&'a [u8]>
 // What a message does to a reference: as 0DH says where it counts.
 #[tactic(auto, unfolding(crate::specs::Settle::change_of))]
 fn change_of(book: Book, octets: &[u8]) -> Change
-    requires { Accepts (rules_of book) octets.now }
     ensures { result ≡ change_of (counted_in (rules_of book) octets.now 0x0D) }
 {
     match contents_of(book, octets, 0x0D) {
@@ -207,11 +203,10 @@ fn change_of(book: Book, octets: &[u8]) -> Change
 // The waiting number after a message: set where 13H counts.
 #[tactic(auto, unfolding(crate::specs::Settle::waiting_after))]
 fn waiting_after(book: Book, old: Option<u8>, octets: &[u8]) -> Option<u8>
-    requires { Accepts (rules_of book) octets.now }
     ensures { result ≡ waiting_after (counted_in (rules_of book) octets.now 0x13) old }
 {
     match contents_of(book, octets, 0x13) {
-        Some(contents) => Some(contents[0]),
+        Some(contents) => Some(message::octet(contents, 0)),
         None => old,
     }
 }
@@ -219,11 +214,10 @@ fn waiting_after(book: Book, old: Option<u8>, octets: &[u8]) -> Option<u8>
 // The lamp after a message: set where 0BH counts, off with 00H.
 #[tactic(auto, using(rules::proofs::Telling::telling), unfolding(crate::specs::Settle::lamp_after))]
 fn lamp_after(book: Book, old: Lamp, octets: &[u8]) -> Lamp
-    requires { Accepts (rules_of book) octets.now }
     ensures { result ≡ lamp_after (counted_in (rules_of book) octets.now 0x0B) old }
 {
     match contents_of(book, octets, 0x0B) {
-        Some(contents) if contents[0] == 0x00 => Lamp::Off,
+        Some(contents) if message::octet(contents, 0) == 0x00 => Lamp::Off,
         Some(_) => Lamp::On,
         None => old,
     }
@@ -232,7 +226,6 @@ fn lamp_after(book: Book, old: Lamp, octets: &[u8]) -> Lamp
 // A notice sets what counts; nothing of it where the reference that it adds has no place.
 #[tactic(auto, using(rules::proofs::Telling::telling), unfolding(crate::specs::Settle::settled_notice, crate::specs::Settle::noticed, crate::specs::Settle::refused_with))]
 fn settle_notice(book: Book, desk: Desk, octets: &[u8]) -> Result<Desk, Fault>
-    requires { Accepts (rules_of book) octets.now }
     ensures { outcome desk result ≡ settled_notice (counted_in (rules_of book) octets.now) desk }
 {
     let change = change_of(book, octets);
@@ -263,7 +256,7 @@ fn desk_after(edition: u8, way: u8, desk: Desk, octets: &[u8]) -> Result<Desk, F
         return Err(rules::noted(16, 0));
     };
     message::judge(book, octets)?;
-    if octets[0] == 0x82 {
+    if message::octet(octets, 0) == 0x82 {
         settle_notice(book, desk, octets)
     } else {
         Ok(desk)

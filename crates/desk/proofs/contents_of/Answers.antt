@@ -1,10 +1,9 @@
--- `desk::contents_of` meets its contract: the octets of the part that counts, which in an accepted message are never
--- none.
+-- `desk::contents_of` meets its contract: the octets of the part that counts.
 -- Assumes nothing.
 use mathlib.Core.Path.{sym, ◌∙◌}
 use native.Mathlib.Omega.{arith}
 use Rattle.message.proofs.Places.{counted_inside}
-use Rattle.desk.proofs.Counted.{counts_none, counts_slice, slice_octets}
+use Rattle.desk.proofs.Counted.{counts_none, counts_slice}
 use borrow.Author.Rules.{rules}
 use Rattle.desk.proofs.contents_of.Goals as goal
 
@@ -19,10 +18,7 @@ slice_bounds-result-end c =
     omega (arith, h)
 
 pub returns-in-Some-clause-some : goal.returns-in-Some-clause-some
-returns-in-Some-clause-some c =
-    let f = c.counted-part.ensures in
-    let e = c.in-Some.is in
-    (counts_slice _ _ _ _ f _ _ e, slice_octets _ _ c.requires _ _ _ (sym f ∙ e))
+returns-in-Some-clause-some c = counts_slice _ _ _ _ c.counted-part.ensures _ _ c.in-Some.is
 
 pub returns-in-None-clause-none : goal.returns-in-None-clause-none
 returns-in-None-clause-none c = counts_none _ _ _ _ c.counted-part.ensures c.in-None.is
