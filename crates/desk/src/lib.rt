@@ -16,7 +16,9 @@ ghost use Rattle.desk.specs.Settle.{new_desk, outcome, counted_in, waiting_after
 use message::Part;
 use rules::{Book, Fault};
 
-// The places for references (document 02, Q-6); one that holds none, and the one that holds the last.
+// The places for references (document 02, Q-6); one that holds none, and the one that holds the last. They stay the
+// array of `Desk.places`, a public field, in `places_fit`, `is_full`, `put` and `places_after` too: a struct around it
+// would be made and taken apart in each.
 pub const PLACES: usize = 16;
 
 const FREE: u32 = 0;
@@ -31,9 +33,10 @@ pub enum Lamp {
     On,
 }
 
-// In a place 0 is free; else it is one more than the reference that it holds. The places are numbers, and no Options of
-// a reference, since a desk with a place out of range comes in too and is 17: `Settles.seventeen` and the row
-// `out_of_range` speak of it. The number that waits is none until a notice sets it.
+// In a place 0 is free; else it is one more than the reference that it holds. The places (`FREE`, `LAST`, `held`) are
+// numbers, and no Options of a reference, since a desk with a place out of range comes in too and is 17:
+// `Settles.seventeen` and the row `out_of_range` speak of it. There are always sixteen, with no heap, so an array. The
+// number that waits is none until a notice sets it.
 #[derive(Clone, Copy)]
 pub struct Desk {
     pub waiting: Option<u8>,
@@ -41,7 +44,8 @@ pub struct Desk {
     pub places: [u32; PLACES],
 }
 
-// The desk as it then stands, and the answer.
+// The desk as it then stands, and the answer. The desk is no part of the Result, since it comes back with a refusal
+// too: `Settles.refusal_stays`.
 #[derive(Clone, Copy)]
 pub struct Outcome {
     pub desk: Desk,
@@ -59,6 +63,7 @@ enum Change {
     Removes(u16),
 }
 
+// No `Default` beside it: it would be a second name of what this function promises, and nothing asks for the trait.
 pub fn new_desk() -> Desk
     ensures { result ≡ new_desk }
 {
@@ -70,7 +75,8 @@ pub fn new_desk() -> Desk
     }
 }
 
-// The first place that is the one sought.
+// The first place that is the one sought. It stands apart from `put`, whose proof does not close with `position` in
+// line.
 fn place_of(sought: u32, places: &[u32]) -> Option<usize>
     ensures { result ≡ position (λ (y : ℕ). y == sought) places.now }
 {
@@ -133,7 +139,8 @@ fn put(places: [u32; PLACES], sought: u32, place: u32) -> [u32; PLACES]
     after
 }
 
-// A reference that is new takes the lowest free place; the place of one that is taken out is free again.
+// A reference that is new takes the lowest free place; the place of one that is taken out is free again. `is_full` asks
+// a part of this by itself, since a refusal comes before anything is set.
 #[tactic(auto, using(rules::proofs::Telling::telling), unfolding(crate::specs::References::places_after))]
 fn places_after(places: [u32; PLACES], change: Change) -> [u32; PLACES]
     ensures { result ≡ places_after change places }
@@ -164,6 +171,8 @@ fn change_by(state: u8, high: u8, low: u8) -> Change
     }
 }
 
+// Octet by octet, as the definition says it for contents of any length: a pattern of three would want one answer more,
+// for fewer.
 #[tactic(auto, unfolding(crate::specs::Settle::change_in))]
 fn change_in(contents: &[u8]) -> Change
     ensures { result ≡ change_in contents.now }
@@ -174,7 +183,7 @@ fn change_in(contents: &[u8]) -> Change
     change_by(state, high, low)
 }
 
-// The contents of a type that count. Types are the numbers of the table, since any octet can be one.
+// The contents of a type that count. Types stay numbers, as those of the table: any octet can be one.
 fn contents_of<'a>(book: Book, octets: &'a [u8], t: u8) -> Option<&'a [u8]>
     ensures some { IfSome result (λ v. counted_in (rules_of book) octets.now t ≡ some v.now) }
     ensures none { IfNone result (counted_in (rules_of book) octets.now t ≡ none) }
@@ -244,7 +253,8 @@ fn settle_notice(book: Book, desk: Desk, octets: &[u8]) -> Result<Desk, Fault>
 
 // The desk after a message. One with a place out of range or a reference twice is 17, whatever the octets; then an
 // unknown edition or way is 16; octets that the whole read declines with 1 to 8 or 10 get that number; 21 where a
-// reference has no place. A call message changes nothing.
+// reference has no place. A call message changes nothing. The kind of message stays the octet that the rules name: an
+// enum would be made for one test.
 #[tactic(auto, using(rules::proofs::Telling::telling), unfolding(crate::specs::Settle::settle_of, crate::specs::Settle::settled_under, crate::specs::Settle::settled_by_none, crate::specs::Settle::refused_with, crate::specs::Settle::settled_message))]
 fn desk_after(edition: u8, way: u8, desk: Desk, octets: &[u8]) -> Result<Desk, Fault>
     ensures { outcome desk result ≡ pick (known edition way) (settle_of (rules_of (book_of edition way)) desk octets.now) (settled_by_none desk) }
@@ -263,7 +273,8 @@ fn desk_after(edition: u8, way: u8, desk: Desk, octets: &[u8]) -> Result<Desk, F
     }
 }
 
-// Settles a whole message by an edition and a way: the desk as it then stands, as it was with a refusal.
+// Settles a whole message by an edition and a way: the desk as it then stands, as it was with a refusal. Both stay
+// numbers, since unknown ones come in too and are 16: `SettlesBy.sixteen`.
 #[tactic(auto, using(rules::proofs::Telling::telling), unfolding(crate::specs::Settle::settle_in, crate::specs::Told::told, rules::specs::Editions::named_by))]
 pub fn settle(edition: u8, way: u8, desk: Desk, octets: &[u8]) -> Settling
     ensures { result ≡ settle_in edition way desk octets.now }
