@@ -1,6 +1,7 @@
 // The listing of a message (document 01, What showmsg prints): a key=value line for each value that counts, in the
 // order of the table; or the three lines of a refusal. It comes back by value, in a buffer of the longest listing, so
-// that it needs no refusal of its own. And whether one line is that of a row with contents.
+// that it needs no refusal of its own; nor from a heap, where it could fail for want of memory. And whether one line is
+// that of a row with contents.
 #![tactic(auto)]
 
 ghost use Rattle.std.specs.Prelude.{◌≡◌, [], ◌∷◌, ◌++◌, suc, ◌<◌, ◌≤◌, length, take, drop, map, IfSome, IfNone};

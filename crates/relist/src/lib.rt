@@ -1,6 +1,7 @@
 // Listings come back as messages (document 02, Q-1): a listing as showmsg prints it becomes the message with one
 // parameter for each value line, or a refusal: 61 at the first line that no valid listing has there, 62 for more than
-// 255 octets of parameters, 15 for an output that is too short. Everything is judged before anything is written.
+// 255 octets of parameters, 15 for an output that is too short. Everything is judged before anything is written. There
+// is no heap: no call asks for memory, so that none can fail for want of it.
 #![tactic(auto)]
 
 ghost use Rattle.std.specs.Prelude.{◌≡◌, ◌+◌, ◌<◌, ◌≤◌, ◌==◌, [], position};
@@ -75,8 +76,8 @@ fn hex_at(text: &[u8], i: usize) -> u8
     ((16 * high + low) % 256) as u8
 }
 
-// The number that the digits from a place on say, modulo 65536. The place counts up by itself: a text may end before
-// it, so the digits are no slice of the text.
+// The number that the digits from a place on say, modulo 65536. The place counts up: a slice of the rest would want a
+// default where the text ends before it, which an empty range says by itself.
 fn number_at(text: &[u8], from: usize) -> u16
     ensures { result ≡ number_at text.now from }
 {

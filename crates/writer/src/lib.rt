@@ -1,5 +1,6 @@
 // The writer (document 01, Drafts and Numbers): the octets of the message that a draft stands for, or the number and
-// place of the refusal. Everything is judged before anything is written.
+// place of the refusal. Everything is judged before anything is written. There is no heap: no call asks for memory, so
+// that none can fail for want of it.
 #![tactic(auto)]
 
 ghost use Rattle.std.specs.Prelude.{◌≡◌, ◌+◌, ◌%◌, ◌<◌, ◌≤◌, ◌++◌};
@@ -281,8 +282,8 @@ fn write_by(book: Book, draft: Draft, texts: &[u8], out: &mut [u8]) -> Result<u1
     Ok(size)
 }
 
-// The sum of octets modulo 256 (000, section 2). turns has a sum too, private, which goes on from a sum so far; this one
-// is public and begins at 0.
+// The sum of octets modulo 256 (000, section 2). turns has a sum too, private, which goes on from a sum so far; this
+// one is public and begins at 0.
 #[tactic(auto, using(rules::proofs::Sums::summing))]
 pub fn sum_of(s: &[u8]) -> u8
     ensures { result ≡ total s.now % 256 }
