@@ -18,16 +18,14 @@ use Rattle.rules.specs.Octets.{Octets, reference_of}
 use Rattle.rules.proofs.Octets.{octets-take, octets-drop, octet_at}
 use Rattle.rules.specs.Contents.{Range, Whole, columns, within, in_set, columns_fit}
 use Rattle.rules.specs.Table.{Rules, rules_of, listed_in, listed, class_of, row_of, row_in, any_octet, lamp_set, identity_set, contents_fit, whole}
-use Rattle.rules.proofs.ContentLaw.{lawful}
 use Rattle.rules.specs.declared.Book.{Book}
 use Rattle.rules.specs.declared.Book.TheVariants.{PresentStrict, PresentLenient, OldStrict, OldLenient}
 use Rattle.rules.specs.Message as message
-use Rattle.rules.specs.Message.{LegalMessage, Accepts}
+use Rattle.rules.specs.Message.{LegalMessage}
 use Rattle.rules.specs.Counting.{counted}
 use Rattle.rules.proofs.Counting.{counted_iff, legal_counts}
 use Rattle.message.specs.declared.Part.{Part}
 use Rattle.message.specs.Parts.{part_at, counted_at, part_of}
-use Rattle.message.proofs.Searching.{counted_part}
 use Rattle.desk.specs.declared.Change.TheVariants.{Nothing, Adds, Removes}
 use Rattle.desk.specs.References.{change_by}
 use Rattle.desk.proofs.Changes.{AddsReference}

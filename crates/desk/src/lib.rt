@@ -2,15 +2,14 @@
 // by value.
 #![tactic(auto)]
 
-ghost use Rattle.std.specs.Prelude.{ℕ, ◌≡◌, ◌==◌, suc, ◌<◌, ◌≤◌, position, IfSome, IfNone};
+ghost use Rattle.std.specs.Prelude.{ℕ, ◌≡◌, ◌==◌, position, IfSome, IfNone};
 ghost use Rattle.std.proofs.Math.Option.{none, some};
 ghost use Rattle.std.proofs.Math.ListN as list;
 ghost use Rattle.rules.specs.Tests.{pick};
 ghost use Rattle.rules.specs.Table.{rules_of};
 ghost use Rattle.rules.specs.Editions.{known, book_of};
-ghost use Rattle.rules.specs.Message.{Accepts};
 ghost use Rattle.desk.specs.References as places_of;
-ghost use Rattle.desk.specs.References.{place_count, place_with, absent, may_stand, places_fit, change_by, is_full, places_after};
+ghost use Rattle.desk.specs.References.{place_with, absent, may_stand, places_fit, change_by, is_full, places_after};
 ghost use Rattle.desk.specs.Settle.{new_desk, outcome, counted_in, waiting_after, lamp_after, change_in, change_of, settled_notice, settle_of, settled_by_none, settle_in};
 
 use message::Part;
