@@ -12,7 +12,8 @@ ghost use Rattle.caption.specs.Caption.{lookup, by_entry, by_caller, by_name, fi
 use message::Part;
 use rules::{Book, Fault};
 
-// Where the caption stands.
+// Where the caption stands. Two variants with the same fields, so that the slice is named where it is cut; and places
+// and lengths, no slices, since C is told where and how long: `Shows.side`, `Shows.start` and `Shows.size`.
 #[derive(Clone, Copy, PartialEq, Eq)]
 pub enum Shown {
     InMessage { start: usize, length: usize },
@@ -22,13 +23,15 @@ pub enum Shown {
 // What is shown, or a refusal, and the edition that the answer names: 0 with 16 (document 02, Q-5).
 pub type Finding = rules::Named<Result<Shown, Fault>>;
 
-// Where the text for a caller stands in the directory.
+// Where the text for a caller stands in the directory: a place and a length, as `Shown` has them.
 #[derive(Clone, Copy)]
 struct CallerText {
     start: usize,
     length: usize,
 }
 
+// Where an octet first stands. relist has one too: one function for both would be a public one that says no more than
+// std's `position` does.
 fn place_of(x: u8, s: &[u8]) -> Option<usize>
     ensures { result ≡ position (λ (y : ℕ). y == x) s.now }
 {
@@ -56,7 +59,7 @@ fn line_of(text: &[u8]) -> &[u8]
 }
 
 // The text after the first `=` on the first line for the caller. The place goes on by what a line takes, so no `for`
-// counts it.
+// counts it; an iterator over the lines would give each, but not where it stands, which is the answer.
 fn entry_for(caller: &[u8], directory: &[u8]) -> Option<CallerText>
     ensures { result ≡ lookup caller.now directory.now }
 {
@@ -74,7 +77,9 @@ fn entry_for(caller: &[u8], directory: &[u8]) -> Option<CallerText>
     None
 }
 
-// For a caller that counts: the directory's text, else the caller.
+// For a caller that counts: the directory's text, else the caller. Its place and length come in, and no slice, since
+// they are the answer. The message and the directory stay two, here and in `by_caller`, `by_name` and `find_by`: they
+// are two parameters of the public `find`, and a struct of both would be made once and taken apart in each.
 fn by_entry(message: &[u8], directory: &[u8], start: usize, n: u8) -> Shown
     requires { start + n ≤ length message.now }
     ensures { result ≡ by_entry (lookup (take n (drop start message.now)) directory.now) start n }
@@ -91,7 +96,8 @@ fn by_entry(message: &[u8], directory: &[u8], start: usize, n: u8) -> Shown
     }
 }
 
-// Where no name counts: by the caller, else the empty part at the message's start.
+// Where no name counts: by the caller, else the empty part at the message's start, and no Option: `Captions.nothing`.
+// Types stay numbers, here 02H and in `by_name` 07H: any octet can be one.
 fn by_caller(book: Book, message: &[u8], directory: &[u8]) -> Shown
     ensures { result ≡ by_caller (counted_at (rules_of book) message.now 0x02) message.now directory.now }
 {
@@ -127,7 +133,8 @@ fn find_by(book: Book, message: &[u8], directory: &[u8]) -> Result<Shown, Fault>
     Ok(by_name(book, message, directory))
 }
 
-// What is shown, by an edition and a way: 16 where one of them is unknown.
+// What is shown, by an edition and a way: 16 where one of them is unknown. So both stay numbers here and in `caption`,
+// which are public: `FindsBy.sixteen`.
 #[tactic(auto, using(rules::proofs::Telling::telling), unfolding(crate::specs::Caption::find_in))]
 pub fn find(edition: u8, way: u8, message: &[u8], directory: &[u8]) -> Finding
     ensures { result ≡ find_in edition way message.now directory.now }
@@ -145,7 +152,8 @@ pub fn find(edition: u8, way: u8, message: &[u8], directory: &[u8]) -> Finding
 }
 
 // The part that `find` finds, and in the lent code which slice it is part of: 0 the message, 1 the directory. With
-// every refusal the empty part at the message's start, and the code as it was; the refusal is `find`'s.
+// every refusal the empty part at the message's start, and the code as it was; the refusal is `find`'s. The code stays
+// a number in a lent octet: the clause `side` says it.
 pub fn caption<'a>(
     edition: u8,
     way: u8,

@@ -13,24 +13,19 @@ use lib.Seq.{drop-cons}
 use lib.Dec.{T, eqb}
 use Rattle.rules.specs.Tests.{◌≤?◌, ◌=?◌, ◌and◌, pick}
 use Rattle.rules.proofs.Tests.{pick_yes, pick_case, both, join, decide, le_of, of_le, not_le, eq_of, of_eq}
-use Rattle.std.specs.List.{list_any, position_or_len}
-use Rattle.std.proofs.lemmas.List.Recursion.{is_position_or_len}
+use Rattle.std.specs.List.{list_any}
 use Rattle.rules.proofs.Laying.{rest_whole}
-use Rattle.rules.proofs.Telling.{telling, pick_is, eq_is}
+use Rattle.rules.proofs.Telling.{telling}
 use Rattle.rules.proofs.Returns.{and_t, and_f}
-use Rattle.desk.specs.References.{free, held, place_with, absent, may_stand, places_fit}
+use Rattle.rules.specs.First.{index_of}
+use Rattle.rules.proofs.First.{index_most}
+use Rattle.desk.specs.References.{place_count, free, held, place_with, absent, may_stand, places_fit}
 use Rattle.desk.specs.Holding.{Fit, Open}
 
 -- ---- the first place that is p
-pub first_le : (p : ℕ) (ps : List ℕ) → place_with p ps ≤ length ps
-unfolding place_with
-first_le p [] = omega arith
-first_le p (q ∷ ps) =
-    pick_case (λ (n : ℕ). n ≤ suc (length ps)) (q =? p) _ _ (λ _. omega arith) (λ _. omega (arith, first_le p ps))
-
 -- is p
 pub first_is : (p : ℕ) (ps : List ℕ) → place_with p ps < length ps → get_or ps (place_with p ps) 0 ≡ p
-unfolding place_with pick
+unfolding index_of pick
 first_is p [] h = absurd (omega arith)
 first_is p (q ∷ ps) h = go (q =? p) (λ t. eq_of q p t) (first_is p ps) h
   where
@@ -41,7 +36,7 @@ first_is p (q ∷ ps) h = go (q =? p) (λ t. eq_of q p t) (first_is p ps) h
 
 -- and none before it is
 pub first_before : (p : ℕ) (ps : List ℕ) (j : ℕ) → j < place_with p ps → get_or ps j 0 ≡ p → ⊥
-unfolding place_with pick
+unfolding index_of pick
 first_before p [] j h e = omega arith
 first_before p (q ∷ ps) zero h e = let z = pick_yes (q =? p) 0 (suc (place_with p ps)) (of_eq q p e) in omega (arith, z)
 first_before p (q ∷ ps) (suc j) h e = go (q =? p) (λ k. first_before p ps j k e) h
@@ -52,16 +47,9 @@ first_before p (q ∷ ps) (suc j) h e = go (q =? p) (λ k. first_before p ps j k
 
 -- none is p exactly where no test finds it
 pub absent_is : (p : ℕ) (ps : List ℕ) → absent p ps ≡ not (list_any (λ (q : ℕ). eqb q p) ps)
-unfolding absent place_with
+unfolding absent index_of
 absent_is p [] = grind (arith, telling)
 absent_is p (q ∷ ps) = grind (arith, telling, absent_is p ps)
-
--- the place that `position` finds
-pub place_is : (p : ℕ) (ps : List ℕ) → place_with p ps ≡ position_or_len (λ (q : ℕ). eqb q p) ps
-unfolding place_with
-place_is p ps =
-    is_position_or_len (place_with p) (λ (q : ℕ). eqb q p) refl
-    (λ (q : ℕ) (ps : List ℕ). grind (arith, pick_is, eq_is q p)) ps
 
 past : (ps : List ℕ) (i : ℕ) → length ps ≤ i → get_or ps i 0 ≡ 0
 past [] i h = refl
@@ -89,7 +77,7 @@ present p ps n = go (decide (suc (place_with p ps) ≤? length ps))
     go : T (suc (place_with p ps) ≤? length ps) ⊎ (T (suc (place_with p ps) ≤? length ps) → ⊥) →
         place_with p ps < length ps
     go (inl t) = le_of _ _ t
-    go (inr m) = absurd (n (of_eq _ _ (omega (arith, first_le p ps, not_le _ _ m))))
+    go (inr m) = absurd (n (of_eq _ _ (omega (arith, index_most p ps, not_le _ _ m))))
 
 pub closed_of : (r : ℕ) (ps : List ℕ) → T (absent (held r) ps) → Open r ps → ⊥
 closed_of r ps t o = absent_before (held r) ps t o.0 (open_inside ps o.0 r o.1) o.1
@@ -150,11 +138,15 @@ of_fit (p ∷ ps) w =
         (absent_of r ps (λ o. w.once 0 (suc o.0) r (omega arith) e o.1))
 
 -- ---- from place to place
--- the places behind one, of n
-pub places_behind : (ps : List ℕ) (i n : ℕ) → length ps ≡ n → take (n - (i + 1)) (drop (i + 1) ps) ≡ drop (suc i) ps
-places_behind ps i n e =
+-- the places behind one, of all
+pub behind : (ps : List ℕ) (i : ℕ) (b : Bool) → length ps ≡ place_count →
+    may_stand (get_or ps i 0) (take (place_count - (i + 1)) (drop (i + 1) ps)) ≡ b →
+    may_stand (get_or ps i 0) (drop (suc i) ps) ≡ b
+behind ps i b e h =
+    let z : take (place_count - (i + 1)) (drop (i + 1) ps) ≡ drop (suc i) ps =
     subst (λ (k : ℕ). take (k - (i + 1)) (drop (i + 1) ps) ≡ drop (suc i) ps) e
-    (rest_whole (i + 1) ps ∙ ap (λ (k : ℕ). drop k ps) (add-one i))
+    (rest_whole (i + 1) ps ∙ ap (λ (k : ℕ). drop k ps) (add-one i)) in
+    subst (λ (v : List ℕ). may_stand (get_or ps i 0) v ≡ b) z h
 
 module _ (ps : List ℕ) (i : ℕ) where
   fit_at : i < length ps →

@@ -6,6 +6,7 @@ use Rattle.rules.specs.Tests.{◌≤?◌, ◌=?◌, ◌and◌, pick}
 use Rattle.desk.specs.declared.Change.{Change}
 use Rattle.desk.specs.declared.Change.TheVariants.{Nothing, Adds, Removes}
 use Rattle.rules.specs.Octets.{reference_of}
+use Rattle.rules.specs.First.{index_of}
 
 -- how many there are
 abbrev pub place_count : ℕ
@@ -19,9 +20,8 @@ abbrev pub held : ℕ → ℕ
 held r = suc r
 
 -- the first of some places that is p; their number where none is
-unfoldable pub place_with : ℕ → List ℕ → ℕ
-place_with p [] = 0
-place_with p (q ∷ qs) = pick (q =? p) 0 (suc (place_with p qs))
+abbrev pub place_with : ℕ → List ℕ → ℕ
+place_with p qs = index_of p qs
 
 -- no place is p
 unfoldable pub absent : ℕ → List ℕ → Bool

@@ -20,7 +20,8 @@ use Rattle.desk.specs.declared.Lamp.TheVariants as lamp
 use Rattle.desk.specs.declared.Desk.{Desk}
 use Rattle.desk.specs.declared.Outcome.{Outcome}
 use Rattle.desk.specs.Told.{told, Settling}
-use Rattle.desk.specs.References.{free, held, place_with, absent, may_stand, places_fit}
+use Rattle.rules.specs.First.{index_of}
+use Rattle.desk.specs.References.{free, held, absent, may_stand, places_fit}
 use Rattle.desk.specs.References.{change_by, is_full, places_after}
 use Rattle.desk.specs.Settle.{new_desk, waiting_after, lamp_after, change_in, change_of, noticed, counted_in, settled_notice, settled_message, settled_under, refused_with, settle_of, settled_by_none, settle_in}
 
@@ -120,7 +121,7 @@ pub record Claim : Type 0 where
       by 0 (refused 17 0 (holding (held 7 ∷ free ∷ held 7 ∷ replicate 13 free)))
 
 pub rows : Claim
-unfolding ◌≤?◌ ◌=?◌ ◌and◌ ◌or◌ pick checksum within in_set whole digit row_in row_of listed_in listed class_of rival_of type_fault rules_of class_fault some_length message_kind opens tens_fit ones_fit pair_at short_month days day_fits calendar_at calendar_keep column_at judge_of step run room_fits range_possible some_possible possible final fits contents after fault stands_in machine judged verdict_of parameter_at matched search_from counted_at part_of waiting_after lamp_after change_in change_of noticed counted_in settled_notice settled_message settled_under refused_with settle_of place_with absent may_stand places_fit change_by is_full places_after edition known book_of named_by told settled_by_none settle_in
+unfolding ◌≤?◌ ◌=?◌ ◌and◌ ◌or◌ pick checksum within in_set whole digit row_in row_of listed_in listed class_of rival_of type_fault rules_of class_fault some_length message_kind opens tens_fit ones_fit pair_at short_month days day_fits calendar_at calendar_keep column_at judge_of step run room_fits range_possible some_possible possible final fits contents after fault stands_in machine judged verdict_of parameter_at matched search_from counted_at part_of waiting_after lamp_after change_in change_of noticed counted_in settled_notice settled_message settled_under refused_with settle_of index_of absent may_stand places_fit change_by is_full places_after edition known book_of named_by told settled_by_none settle_in
 rows = record {
   lamp_on = refl;
   lamp_off = refl;

@@ -2,20 +2,22 @@
 // by value.
 #![tactic(auto)]
 
-ghost use Rattle.std.specs.Prelude.{ℕ, ◌≡◌, ◌==◌, suc, ◌<◌, position};
+ghost use Rattle.std.specs.Prelude.{ℕ, ◌≡◌, ◌==◌, position, IfSome, IfNone};
+ghost use Rattle.std.proofs.Math.Option.{none, some};
 ghost use Rattle.std.proofs.Math.ListN as list;
 ghost use Rattle.rules.specs.Tests.{pick};
 ghost use Rattle.rules.specs.Table.{rules_of};
 ghost use Rattle.rules.specs.Editions.{known, book_of};
-ghost use Rattle.rules.specs.Message.{Accepts};
 ghost use Rattle.desk.specs.References as places_of;
-ghost use Rattle.desk.specs.References.{place_count, place_with, absent, may_stand, places_fit, change_by, is_full, places_after};
+ghost use Rattle.desk.specs.References.{place_with, absent, may_stand, places_fit, change_by, is_full, places_after};
 ghost use Rattle.desk.specs.Settle.{new_desk, outcome, counted_in, waiting_after, lamp_after, change_in, change_of, settled_notice, settle_of, settled_by_none, settle_in};
 
 use message::Part;
 use rules::{Book, Fault};
 
-// The places for references (document 02, Q-6); one that holds none, and the one that holds the last.
+// The places for references (document 02, Q-6); one that holds none, and the one that holds the last. They stay the
+// array of `Desk.places`, a public field, in `places_fit`, `is_full`, `put` and `places_after` too: a struct around it
+// would be made and taken apart in each.
 pub const PLACES: usize = 16;
 
 const FREE: u32 = 0;
@@ -30,9 +32,10 @@ pub enum Lamp {
     On,
 }
 
-// In a place 0 is free; else it is one more than the reference that it holds. The places are numbers, and no Options of
-// a reference, since a desk with a place out of range comes in too and is 17: `Settles.seventeen` and the row
-// `out_of_range` speak of it. The number that waits is none until a notice sets it.
+// In a place 0 is free; else it is one more than the reference that it holds. The places (`FREE`, `LAST`, `held`) are
+// numbers, and no Options of a reference, since a desk with a place out of range comes in too and is 17:
+// `Settles.seventeen` and the row `out_of_range` speak of it. There are always sixteen, with no heap, so an array. The
+// number that waits is none until a notice sets it.
 #[derive(Clone, Copy)]
 pub struct Desk {
     pub waiting: Option<u8>,
@@ -40,7 +43,8 @@ pub struct Desk {
     pub places: [u32; PLACES],
 }
 
-// The desk as it then stands, and the answer.
+// The desk as it then stands, and the answer. The desk is no part of the Result, since it comes back with a refusal
+// too: `Settles.refusal_stays`.
 #[derive(Clone, Copy)]
 pub struct Outcome {
     pub desk: Desk,
@@ -58,6 +62,7 @@ enum Change {
     Removes(u16),
 }
 
+// No `Default` beside it: it would be a second name of what this function promises, and nothing asks for the trait.
 pub fn new_desk() -> Desk
     ensures { result ≡ new_desk }
 {
@@ -69,7 +74,8 @@ pub fn new_desk() -> Desk
     }
 }
 
-// The first place that is the one sought.
+// The first place that is the one sought. It stands apart from `put`, whose proof does not close with `position` in
+// line.
 fn place_of(sought: u32, places: &[u32]) -> Option<usize>
     ensures { result ≡ position (λ (y : ℕ). y == sought) places.now }
 {
@@ -85,19 +91,17 @@ fn is_absent(sought: u32, places: &[u32]) -> bool
 
 // Is a place free, or does it hold a reference that no later one holds?
 #[tactic(auto, using(rules::proofs::Telling::telling), unfolding(crate::specs::References::may_stand))]
-fn may_stand(places: [u32; PLACES], at: usize) -> bool
-    requires { at < place_count }
-    ensures { result ≡ may_stand (list.get_or places at 0) (list.drop (suc at) places) }
+fn may_stand(place: u32, later: &[u32]) -> bool
+    ensures { result ≡ may_stand place later.now }
 {
-    let place = places[at];
-    place == FREE || place <= LAST && is_absent(place, &places[at + 1..])
+    place == FREE || place <= LAST && is_absent(place, later)
 }
 
 fn places_fit(places: [u32; PLACES]) -> bool
     ensures { result ≡ places_fit places }
 {
     for i in 0..PLACES {
-        if !may_stand(places, i) {
+        if !may_stand(places[i], &places[i + 1..]) {
             return false;
         }
     }
@@ -107,7 +111,7 @@ fn places_fit(places: [u32; PLACES]) -> bool
 fn held(reference: u16) -> u32
     ensures { result ≡ places_of.held reference }
 {
-    reference as u32 + 1
+    u32::from(reference) + 1
 }
 
 // Is a reference to be added where all places hold others?
@@ -134,7 +138,8 @@ fn put(places: [u32; PLACES], sought: u32, place: u32) -> [u32; PLACES]
     after
 }
 
-// A reference that is new takes the lowest free place; the place of one that is taken out is free again.
+// A reference that is new takes the lowest free place; the place of one that is taken out is free again. `is_full` asks
+// a part of this by itself, since a refusal comes before anything is set.
 #[tactic(auto, using(rules::proofs::Telling::telling), unfolding(crate::specs::References::places_after))]
 fn places_after(places: [u32; PLACES], change: Change) -> [u32; PLACES]
     ensures { result ≡ places_after change places }
@@ -165,6 +170,8 @@ fn change_by(state: u8, high: u8, low: u8) -> Change
     }
 }
 
+// Octet by octet, as the definition says it for contents of any length: a pattern of three would want one answer more,
+// for fewer.
 #[tactic(auto, unfolding(crate::specs::Settle::change_in))]
 fn change_in(contents: &[u8]) -> Change
     ensures { result ≡ change_in contents.now }
@@ -175,50 +182,51 @@ fn change_in(contents: &[u8]) -> Change
     change_by(state, high, low)
 }
 
-// What a message does to a reference: as 0DH says where it counts.
-fn change_of(book: Book, octets: &[u8]) -> Change
-    requires { Accepts (rules_of book) octets.now }
-    ensures { result ≡ change_of (counted_in (rules_of book) octets.now 0x0D) }
+// The contents of a type that count. Types stay numbers, as those of the table: any octet can be one.
+fn contents_of<'a>(book: Book, octets: &'a [u8], t: u8) -> Option<&'a [u8]>
+    ensures some { IfSome result (λ v. counted_in (rules_of book) octets.now t ≡ some v.now) }
+    ensures none { IfNone result (counted_in (rules_of book) octets.now t ≡ none) }
 {
-    let part = message::counted(book, octets, 0x0D);
+    let part = message::counted(book, octets, t);
     match part {
         Some(Part { start, length }) => {
             let end = start + length as usize;
-            change_in(&octets[start..end])
+            Some(&octets[start..end])
         }
+        None => None,
+    }
+}
+
+// What a message does to a reference: as 0DH says where it counts.
+#[tactic(auto, unfolding(crate::specs::Settle::change_of))]
+fn change_of(book: Book, octets: &[u8]) -> Change
+    ensures { result ≡ change_of (counted_in (rules_of book) octets.now 0x0D) }
+{
+    match contents_of(book, octets, 0x0D) {
+        Some(contents) => change_in(contents),
         None => Change::Nothing,
     }
 }
 
 // The waiting number after a message: set where 13H counts.
+#[tactic(auto, unfolding(crate::specs::Settle::waiting_after))]
 fn waiting_after(book: Book, old: Option<u8>, octets: &[u8]) -> Option<u8>
-    requires { Accepts (rules_of book) octets.now }
     ensures { result ≡ waiting_after (counted_in (rules_of book) octets.now 0x13) old }
 {
-    let part = message::counted(book, octets, 0x13);
-    match part {
-        Some(Part { start, length }) => {
-            let number = octets[start];
-            Some(number)
-        }
+    match contents_of(book, octets, 0x13) {
+        Some(contents) => Some(message::octet(contents, 0)),
         None => old,
     }
 }
 
 // The lamp after a message: set where 0BH counts, off with 00H.
+#[tactic(auto, using(rules::proofs::Telling::telling), unfolding(crate::specs::Settle::lamp_after))]
 fn lamp_after(book: Book, old: Lamp, octets: &[u8]) -> Lamp
-    requires { Accepts (rules_of book) octets.now }
     ensures { result ≡ lamp_after (counted_in (rules_of book) octets.now 0x0B) old }
 {
-    let part = message::counted(book, octets, 0x0B);
-    match part {
-        Some(Part { start, length }) => {
-            if octets[start] == 0x00 {
-                Lamp::Off
-            } else {
-                Lamp::On
-            }
-        }
+    match contents_of(book, octets, 0x0B) {
+        Some(contents) if message::octet(contents, 0) == 0x00 => Lamp::Off,
+        Some(_) => Lamp::On,
         None => old,
     }
 }
@@ -226,7 +234,6 @@ fn lamp_after(book: Book, old: Lamp, octets: &[u8]) -> Lamp
 // A notice sets what counts; nothing of it where the reference that it adds has no place.
 #[tactic(auto, using(rules::proofs::Telling::telling), unfolding(crate::specs::Settle::settled_notice, crate::specs::Settle::noticed, crate::specs::Settle::refused_with))]
 fn settle_notice(book: Book, desk: Desk, octets: &[u8]) -> Result<Desk, Fault>
-    requires { Accepts (rules_of book) octets.now }
     ensures { outcome desk result ≡ settled_notice (counted_in (rules_of book) octets.now) desk }
 {
     let change = change_of(book, octets);
@@ -245,7 +252,8 @@ fn settle_notice(book: Book, desk: Desk, octets: &[u8]) -> Result<Desk, Fault>
 
 // The desk after a message. One with a place out of range or a reference twice is 17, whatever the octets; then an
 // unknown edition or way is 16; octets that the whole read declines with 1 to 8 or 10 get that number; 21 where a
-// reference has no place. A call message changes nothing.
+// reference has no place. A call message changes nothing. The kind of message stays the octet that the rules name: an
+// enum would be made for one test.
 #[tactic(auto, using(rules::proofs::Telling::telling), unfolding(crate::specs::Settle::settle_of, crate::specs::Settle::settled_under, crate::specs::Settle::settled_by_none, crate::specs::Settle::refused_with, crate::specs::Settle::settled_message))]
 fn desk_after(edition: u8, way: u8, desk: Desk, octets: &[u8]) -> Result<Desk, Fault>
     ensures { outcome desk result ≡ pick (known edition way) (settle_of (rules_of (book_of edition way)) desk octets.now) (settled_by_none desk) }
@@ -257,14 +265,15 @@ fn desk_after(edition: u8, way: u8, desk: Desk, octets: &[u8]) -> Result<Desk, F
         return Err(rules::noted(16, 0));
     };
     message::judge(book, octets)?;
-    if octets[0] == 0x82 {
+    if message::octet(octets, 0) == 0x82 {
         settle_notice(book, desk, octets)
     } else {
         Ok(desk)
     }
 }
 
-// Settles a whole message by an edition and a way: the desk as it then stands, as it was with a refusal.
+// Settles a whole message by an edition and a way: the desk as it then stands, as it was with a refusal. Both stay
+// numbers, since unknown ones come in too and are 16: `SettlesBy.sixteen`.
 #[tactic(auto, using(rules::proofs::Telling::telling), unfolding(crate::specs::Settle::settle_in, crate::specs::Told::told, rules::specs::Editions::named_by))]
 pub fn settle(edition: u8, way: u8, desk: Desk, octets: &[u8]) -> Settling
     ensures { result ≡ settle_in edition way desk octets.now }

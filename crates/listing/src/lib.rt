@@ -1,6 +1,7 @@
 // The listing of a message (document 01, What showmsg prints): a key=value line for each value that counts, in the
 // order of the table; or the three lines of a refusal. It comes back by value, in a buffer of the longest listing, so
-// that it needs no refusal of its own. And whether one line is that of a row with contents.
+// that it needs no refusal of its own; nor from a heap, where it could fail for want of memory. And whether one line is
+// that of a row with contents.
 #![tactic(auto)]
 
 ghost use Rattle.std.specs.Prelude.{◌≡◌, [], ◌∷◌, ◌++◌, suc, ◌<◌, ◌≤◌, length, take, drop, map, IfSome, IfNone};
@@ -40,7 +41,8 @@ impl ListingText {
 }
 
 // What is printed so far. Each function that puts a text on it asks for room, since a page has no more than the longest
-// listing and none of them can refuse (`longest`).
+// listing (`longest`), and none of them can refuse: the public `listing` never does. No `Display`: contents are octets
+// that need be no text.
 type Page = ArrayVec<u8, LONGEST>;
 
 // A row of the listing: a parameter type and its key.
@@ -192,7 +194,8 @@ fn put(text: &[u8], page: &mut Page)
 // ---- numbers
 
 // The digits of the quotient by ten, and then the last one. Not by `write!`, which would answer a Result for each
-// number, though none can fail: the page is of octets, which need be no text, and a clause says each of them.
+// number, though none can fail: the page is of octets, which need be no text, and a clause says each of them. So also
+// the two digits of `hex`, by `hex_digit`.
 #[tactic(auto, using(std::proofs::lemmas::Grind::common_steps, crate::proofs::Numerals::decimal_small, crate::proofs::Numerals::decimal_big))]
 fn put_decimal(n: u16, page: &mut Page)
     requires { HasRoom (decimal n) page.old }
@@ -222,6 +225,9 @@ fn hex(x: u8) -> [u8; 2]
 }
 
 // ---- pieces of values
+
+// The octets that choose a word stay numbers, in `lamp_word`, `state_word`, `selector_word`, `kind_text` and
+// `put_selected`: contents and a first octet are any, each has its word, and an enum would want a refusal.
 
 // Two numbers of two digits with a mark between them.
 #[tactic(auto, unfolding(crate::specs::Listing::half))]
@@ -387,7 +393,8 @@ fn put_terminal(contents: &[u8], page: &mut Page)
     put_selected(contents, page);
 }
 
-// The value that contents say, in the style of their class.
+// The value that contents say, in the style of their class. A match on an enum, and no closures: each arm puts
+// something else.
 #[tactic(auto, unfolding(rules::specs::Table::style_of, crate::specs::Listing::printed, crate::specs::Listing::display))]
 fn put_value(class: Class, contents: &[u8], page: &mut Page)
     requires { HasRoom (printed (style_of class) contents.now) page.old }
@@ -448,7 +455,8 @@ fn is_line(row: &Row, contents: &[u8], line: &[u8]) -> bool
     page.as_slice() == line
 }
 
-// The line of a row, if its type counts.
+// The line of a row, if its type counts. The length goes by `as`: the proof of the slice's end does not close with
+// `usize::from`.
 #[tactic(auto, using(std::proofs::lemmas::Grind::common_steps, crate::proofs::Rows::row_line, crate::proofs::Rows::row_none, crate::proofs::Rows::part_inside))]
 fn put_row(octets: &[u8], row: &Row, page: &mut Page)
     requires { HasRoom (written (part_lines (rules_of book.PresentLenient) octets.now (seen row.now))) page.old }
@@ -556,7 +564,8 @@ pub fn listing(octets: &[u8]) -> ListingText
     text_of(&page)
 }
 
-// The parameter type of a row; 0 behind the last, as `no_row` says.
+// The parameter type of a row; 0 behind the last, and no Option, since the clause of this public function says a number
+// for every i (`row_at`, `no_row`).
 #[tactic(auto, using(crate::proofs::Keys::no_row_lem))]
 pub fn kind_at(i: usize) -> u8
     ensures { result ≡ (row_at i).kind }
@@ -567,7 +576,7 @@ pub fn kind_at(i: usize) -> u8
     }
 }
 
-// How many octets the key of a row has; 0 behind the last, as `no_row` says.
+// How many octets the key of a row has; 0 behind the last, as in `kind_at`.
 #[tactic(auto, using(crate::proofs::Keys::no_row_lem))]
 pub fn key_length(i: usize) -> usize
     ensures { result ≡ length (row_at i).key }
@@ -578,7 +587,8 @@ pub fn key_length(i: usize) -> usize
     }
 }
 
-// Is this the line of a row with these contents, which fit its class?
+// Is this the line of a row with these contents, which fit its class? The row goes by its number, as in `kind_at`: no
+// other crate has rows.
 #[tactic(auto, using(rules::proofs::Telling::telling), unfolding(crate::specs::Listing::says_line))]
 pub fn says(i: usize, contents: &[u8], line: &[u8]) -> bool
     ensures { result ≡ (suc i ≤? row_count and says_line (rules_of book.PresentLenient) (row_at i) contents.now line.now) }

@@ -50,7 +50,8 @@ use Rattle.desk.specs.declared.Desk.{Desk}
 use Rattle.desk.specs.Told as desk_told
 use Rattle.desk.proofs.Promised as desk
 use Rattle.desk.specs.declared.Lamp.TheVariants as lamp
-use Rattle.desk.specs.References.{place_with, absent, may_stand, places_fit, change_by, is_full, places_after}
+use Rattle.rules.specs.First.{index_of}
+use Rattle.desk.specs.References.{absent, may_stand, places_fit, change_by, is_full, places_after}
 use Rattle.desk.specs.Settle.{new_desk, waiting_after, lamp_after, change_in, change_of, noticed, counted_in, settled_notice, settled_message, settled_under, refused_with, settle_of, settle_in}
 
 -- what a row says of its octets
@@ -321,7 +322,7 @@ abbrev ◌also◌ : {A B : Type 0} → A → B → A × B
 a also b = (a, b)
 
 pub rows : All documents
-unfolding edition known book_of named_by write_in settle_in desk_told.told ◌≤?◌ ◌=?◌ ◌and◌ ◌or◌ pick total checksum body octets within in_set whole digit pair_fits pairs_fit all_in head_fits month_of form_of row_in row_of listed_in listed class_of rival_of type_fault class_fault some_length rules_of message_kind opens tens_fit ones_fit pair_at short_month days day_fits calendar_at calendar_keep column_at head_by dash comma missing in_units amount_by amount_keep currency_by flags_at flags_keep charge_by charge_keep terminal_by terminal_keep blank extension_by extension_keep judge_of step run room_fits range_possible some_possible possible final fits contents after fault stands_in machine place_fits count_fits in_range new_listener heard_in answer_of taken stopped judged verdict_of parameter_at matched search_from counted_at part_of waiting_after lamp_after change_in change_of noticed counted_in settled_notice settled_message settled_under refused_with settle_of place_with absent may_stand places_fit change_by is_full places_after told write_of measured_of sized legal_before legal_entry message_of parameters_of parameter_of seconds_said spelled meaning_of inside form_is form_number kind_of tens ones
+unfolding edition known book_of named_by write_in settle_in desk_told.told ◌≤?◌ ◌=?◌ ◌and◌ ◌or◌ pick total checksum body octets within in_set whole digit pair_fits pairs_fit all_in head_fits month_of form_of row_in row_of listed_in listed class_of rival_of type_fault class_fault some_length rules_of message_kind opens tens_fit ones_fit pair_at short_month days day_fits calendar_at calendar_keep column_at head_by dash comma missing in_units amount_by amount_keep currency_by flags_at flags_keep charge_by charge_keep terminal_by terminal_keep blank extension_by extension_keep judge_of step run room_fits range_possible some_possible possible final fits contents after fault stands_in machine place_fits count_fits in_range new_listener heard_in answer_of taken stopped judged verdict_of parameter_at matched search_from counted_at part_of waiting_after lamp_after change_in change_of noticed counted_in settled_notice settled_message settled_under refused_with settle_of index_of absent may_stand places_fit change_by is_full places_after told write_of measured_of sized legal_before legal_entry message_of parameters_of parameter_of seconds_said spelled meaning_of inside form_is form_number kind_of tens ones
 rows =
     (hears 0 0 _ _ refl also hears 0 1 _ _ refl) also
     (reads 0 0 _ _ _ _ tt refl also reads 0 1 _ _ _ _ tt refl) also

@@ -1,6 +1,7 @@
 // Listings come back as messages (document 02, Q-1): a listing as showmsg prints it becomes the message with one
 // parameter for each value line, or a refusal: 61 at the first line that no valid listing has there, 62 for more than
-// 255 octets of parameters, 15 for an output that is too short. Everything is judged before anything is written.
+// 255 octets of parameters, 15 for an output that is too short. Everything is judged before anything is written. There
+// is no heap: no call asks for memory, so that none can fail for want of it.
 #![tactic(auto)]
 
 ghost use Rattle.std.specs.Prelude.{◌≡◌, ◌+◌, ◌<◌, ◌≤◌, ◌==◌, [], position};
@@ -21,14 +22,16 @@ use writer::Writing;
 // The octets of parameters that a message holds: one with the longest contents takes them all.
 const BODY: usize = 2 + rules::LONGEST;
 
-// No value is longer.
+// No value is longer: `longest_value`, which no constant of listing's says.
 const VALUE: usize = 264;
 
 // No contents that are read off one are longer: ten octets and the value.
 const READ: usize = 10 + VALUE;
 
-// What a value says: the first `length` of ten octets, and then the value itself from `from` on. The array stays with
-// its length beside it: there is no heap, and a slice would have nothing that lends it.
+// What a value says: the first `length` of ten octets, and then the value itself from `from` on, which is nothing of it
+// at its end: so `read_off` says it, and an Option would say no more. The array stays with its length beside it: there
+// is no heap, and a slice would have nothing that lends it. It is no instance of writer's `Spelling`, which has no
+// `from`.
 #[derive(Clone, Copy)]
 struct Back {
     octets: [u8; 10],
@@ -36,7 +39,8 @@ struct Back {
     from: usize,
 }
 
-// The value lines of a text: where the next line begins, how many there are, the octets of their parameters.
+// The value lines of a text: where the next line begins, how many there are, the octets of their parameters. The octets
+// lie in an area that `answer` holds, since there is no heap.
 #[derive(Clone, Copy)]
 struct Taken {
     at: usize,
@@ -45,6 +49,11 @@ struct Taken {
 }
 
 // ---- octets read off a value
+
+// Any octets are read off, and no `parse` or `to_digit` refuses one: what was read is judged by printing its line again
+// (`listing::says`). So one octet, or the length, is enough to tell words apart (`reference_back`, `terminal_back`, the
+// lamp in `back_of`); and a text comes with a place in it, since it may end before that, where `message::octet` is 0.
+// `as u8` takes a value that fits, so `% 256` stands before it.
 
 #[tactic(auto, using(rules::proofs::Telling::telling), unfolding(listing::specs::Numerals::hex_value))]
 fn hex_value(x: u8) -> u8
@@ -67,8 +76,8 @@ fn hex_at(text: &[u8], i: usize) -> u8
     ((16 * high + low) % 256) as u8
 }
 
-// The number that the digits from a place on say, modulo 65536. The place counts up by itself: a text may end before
-// it, so the digits are no slice of the text.
+// The number that the digits from a place on say, modulo 65536. The place counts up: a slice of the rest would want a
+// default where the text ends before it, which an empty range says by itself.
 fn number_at(text: &[u8], from: usize) -> u16
     ensures { result ≡ number_at text.now from }
 {
@@ -148,7 +157,7 @@ fn terminal_back(text: &[u8]) -> Back
     }
 }
 
-// What a value says in the style of a class.
+// What a value says in the style of a class. A match on an enum, and no closures: each arm has octets of its own.
 #[tactic(auto, using(rules::proofs::Telling::telling), unfolding(crate::specs::Back::back_of, crate::specs::Back::one_back, crate::specs::Back::switch_back, crate::specs::Back::moment_back, rules::specs::Table::style_of))]
 fn back_of(class: Class, text: &[u8]) -> Back
     ensures { result ≡ back_of (style_of class) text.now }
@@ -206,7 +215,8 @@ fn lay_contents(class: Class, value: &[u8], out: &mut [u8; READ]) -> usize
     }
 }
 
-// What a line says by a row, laid down: how many octets, where it is the row's.
+// What a line says by a row, laid down: how many octets, where it is the row's. Rows go by their number, here, in
+// `row_length` and in `take_rows`, since listing's public functions tell them so (`key_length`, `kind_at`, `says`).
 fn line_length(i: usize, line: &[u8], out: &mut [u8; READ]) -> Option<usize>
     requires { i < row_count }
     ensures { LineRead (rules_of book.PresentLenient) (row_at i) line.now out.new result }
@@ -240,14 +250,17 @@ fn row_length(i: usize, line: &[u8], kinds: &[u8], out: &mut [u8; READ]) -> Opti
     line_length(i, line, out)
 }
 
-// Where an octet first stands.
+// Where an octet first stands: the clause says `position` of a list, as caption's does. One function for both would be
+// a public one that says no more than std's.
 fn place_of(octet: u8, text: &[u8]) -> Option<usize>
     ensures { result ≡ position (λ x. x == octet) text.now }
 {
     text.iter().position(|&x| x == octet)
 }
 
-// Where the line that begins at a place ends, with its line end; where the text ends, if the line has none.
+// Where the line that begins at a place ends, with its line end; where the text ends, if the line has none: it ends in
+// any case, so no Option. The text goes with a place, here, in `close` and in `take_rows`, since that is one of the
+// three numbers of `Taken`, which lends nothing.
 fn line_end(text: &[u8], at: usize) -> usize
     requires { at ≤ list.length text.now }
     ensures { result ≡ at + list.length (line_in (list.drop at text.now)) }
@@ -258,7 +271,8 @@ fn line_end(text: &[u8], at: usize) -> usize
     }
 }
 
-// A parameter behind those before it, as far as the area goes: where it ends, or would end.
+// A parameter behind those before it, as far as the area goes: where it ends, or would end. writer's `put_parameter` is
+// another: it has contents in two parts, and room for them.
 fn lay_parameter(kind: u8, contents: &[u8], area: &mut [u8; BODY], size: usize) -> usize
     requires { (list.length contents.now < 256) × (size < 65536) }
     ensures { LaidBehind kind contents.now area.old size area.new result }
@@ -314,7 +328,8 @@ fn kind_in(line: &[u8]) -> Option<u8>
     }
 }
 
-// What follows the value lines: the last line, and nothing behind it.
+// What follows the value lines: the last line, and nothing behind it. A refusal's number stays one, as the public
+// `writer::refusal` and `writer::with_room` take it.
 #[tactic(auto, using(rules::proofs::Telling::telling), unfolding(crate::specs::Relist::closed))]
 fn close(text: &[u8], lines: Taken, room: usize) -> Result<u16, Fault>
     requires { (lines.at ≤ list.length text.now) × (lines.count ≤ row_count) }
@@ -334,7 +349,8 @@ fn close(text: &[u8], lines: Taken, room: usize) -> Result<u16, Fault>
     writer::with_room(62, lines.size, room)
 }
 
-// The message of a type and its parameters' octets, at the output's start.
+// The message of a type and its parameters' octets, at the output's start. writer's `put_message` shares `sum_of` with
+// it, and else only the store of the checksum, which a public function with a contract would make longer.
 fn seal(kind: u8, body: &[u8], out: &mut [u8])
     requires { (list.length body.now ≤ 255) × (list.length body.now + 3 ≤ list.length out.old) }
     ensures { Sealed kind body.now out.old out.new }
@@ -348,7 +364,8 @@ fn seal(kind: u8, body: &[u8], out: &mut [u8])
     out[end] = 0u8.wrapping_sub(sum);
 }
 
-// The message at the output's start, or a refusal; octets after the message stay, and in a refusal all of them.
+// The message at the output's start, or a refusal; octets after the message stay, and in a refusal all of them. The
+// parameters are gathered in an array, since there is no heap, before the output changes.
 fn answer(text: &[u8], out: &mut [u8]) -> Result<u16, Fault>
     ensures answer { result ≡ relisted (rules_of book.PresentLenient) text.now (list.length out.old) }
     ensures output { out.new ≡ output_after result (octets (message_for (rules_of book.PresentLenient) text.now)) out.old }

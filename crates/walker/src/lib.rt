@@ -12,7 +12,8 @@ ghost use Rattle.walker.specs.Moves.{Begun, Seen, Moved};
 use message::Parameters;
 use rules::{Book, Fault};
 
-// A parameter: its type, where its contents start, how long they are, and the place behind them.
+// A parameter: its type, where its contents start, how long they are, and the place behind them. It is flat, though the
+// first three are message's `Found`: `given` says the four side by side, and a struct in it would only add a step.
 #[derive(Clone, Copy, PartialEq, Eq)]
 pub struct Parameter {
     pub kind: u8,
@@ -54,7 +55,9 @@ fn step_by(book: Book, message: &[u8], at: usize) -> Result<Option<Parameter>, F
     Ok(walk_to(message, at))
 }
 
-// What stands at a place, by an edition and a way: 16 where one of them is unknown, at every place.
+// What stands at a place, by an edition and a way: 16 where one of them is unknown, at every place. So both stay
+// numbers, here, in `place_after`, `new` and `Walker`: `WalksBy.sixteen`. The four are a walker's fields, but this
+// function is public and takes them by themselves, and `place_after` says where its answer goes on.
 #[tactic(auto, using(rules::proofs::Telling::telling), unfolding(crate::specs::Steps::step_in))]
 pub fn step_at(edition: u8, way: u8, message: &[u8], at: usize) -> Stepped
     ensures { result ≡ step_in edition way message.now at }
@@ -83,6 +86,8 @@ fn place_after(edition: u8, way: u8, message: &[u8], at: usize) -> usize
     }
 }
 
+// A slice and a place in it, and no iterator: `next` moves on by what stands there and stays after the last, and
+// `Begun`, `Seen` and `Moved` say so of `new`, `look` and `next`, which are public and so stay functions.
 #[derive(Clone, Copy)]
 pub struct Walker<'a> {
     pub message: &'a [u8],
@@ -115,10 +120,5 @@ pub fn next<'a>(w: Walker<'a>) -> Walker<'a>
     ensures { Moved w.entry result }
 {
     let place = place_after(w.edition, w.way, w.message, w.place);
-    Walker {
-        message: w.message,
-        place,
-        edition: w.edition,
-        way: w.way,
-    }
+    Walker { place, ..w }
 }

@@ -1,5 +1,6 @@
 // The writer (document 01, Drafts and Numbers): the octets of the message that a draft stands for, or the number and
-// place of the refusal. Everything is judged before anything is written.
+// place of the refusal. Everything is judged before anything is written. There is no heap: no call asks for memory, so
+// that none can fail for want of it.
 #![tactic(auto)]
 
 ghost use Rattle.std.specs.Prelude.{◌≡◌, ◌+◌, ◌%◌, ◌<◌, ◌≤◌, ◌++◌};
@@ -20,8 +21,9 @@ use rules::{Book, Class, Fault, Named};
 // the draft's; of a listing that comes back, the present one.
 pub type Writing = rules::Named<Result<u16, Fault>>;
 
-// What the contents of a value have before its text, which is all where it has none: the first `length` of ten octets.
-// The array stays with its length beside it: there is no heap, and a slice would have nothing that lends it.
+// What the contents of a value have before its text, which is all where it has none: the first `length` of ten octets,
+// and 0 behind them. The array stays with its length beside it: there is no heap, and a slice would have nothing that
+// lends it. relist's `Back` is no instance of it: one type would be public, with two numbers that promise nothing.
 #[derive(Clone, Copy)]
 struct Spelling {
     octets: [u8; 10],
@@ -55,7 +57,8 @@ fn digits<const N: usize>(numbers: [u8; N]) -> Spelling
     }
 }
 
-// A date has its seconds where `second` is not 0 (document 02, Q-4); a reference is spelled high octet first.
+// A date has its seconds where `second` is not 0 (document 02, Q-4); a reference is spelled high octet first. A match
+// on an enum, and no closures: each arm takes other fields.
 #[tactic(auto, unfolding(crate::specs::Judging::head_of))]
 fn spell(v: Value) -> Spelling
     ensures { result ≡ padded (head_of v) }
@@ -95,7 +98,9 @@ fn spell(v: Value) -> Spelling
     }
 }
 
-// Octets and others behind them, from the output's first octet on.
+// Octets and others behind them, from the output's first octet on. The two stay two slices, here and in `laid_fit`,
+// `joined_fit` and `put_parameter`: one lies in a spelling and one in the texts, and a struct of two borrows would be
+// made and taken apart at each call.
 fn put_both(out: &mut [u8], head: &[u8], text: &[u8])
     requires { list.length head.now + list.length text.now ≤ list.length out.old }
     ensures { out.new ≡ laid (head.now ++ text.now) out.old }
@@ -106,7 +111,8 @@ fn put_both(out: &mut [u8], head: &[u8], text: &[u8])
     out[n..end].copy_from_slice(text);
 }
 
-// Do contents in two parts fit their class? They are laid down in one place to be judged.
+// Do contents in two parts fit their class? They are laid down in one place, an array since there is no heap, to be
+// judged as one slice.
 fn laid_fit(class: Class, head: &[u8], text: &[u8]) -> bool
     requires { list.length head.now ≤ 10 }
     ensures { result ≡ contents_fit class (head.now ++ text.now) }
@@ -135,8 +141,9 @@ fn joined_fit(class: Class, head: &[u8], text: &[u8]) -> bool
 }
 
 // The length of the contents of an entry that makes a legal parameter: its kind of value is its type's, its text lies
-// inside, its contents fit.
-#[tactic(auto, using(rules::proofs::Telling::telling), unfolding(crate::specs::Judging::takes_of))]
+// inside, its contents fit. `put_entry` spells and cuts the value again: a function that gave both parts would lend
+// from a spelling that its caller had to hold.
+#[tactic(auto, using(rules::proofs::Telling::telling, draft::proofs::Meaning::forms_tell), unfolding(crate::specs::Judging::takes_of))]
 fn entry_length(book: Book, e: Entry, texts: &[u8]) -> Option<usize>
     ensures { result ≡ takes_of (rules_of book) texts.now e }
 {
@@ -168,7 +175,8 @@ fn measure_entries(book: Book, entries: &[Entry], texts: &[u8]) -> Result<usize,
     Ok(size)
 }
 
-// A refusal with its number, as the record of a refusal has it, and place.
+// A refusal with its number and place. The number stays one here and in `with_room`, which are public and answer each:
+// `unwritten`, `sized`.
 pub fn refusal(number: u8, place: u16) -> Result<u16, Fault>
     ensures { result ≡ unwritten number place }
 {
@@ -192,7 +200,8 @@ pub fn with_room(number: u8, size: usize, room: usize) -> Result<u16, Fault>
 }
 
 // What the writer answers, in document 01's order: 11, 14, the 85 entries of 13, 12 from the first entry on, the 255
-// octets of 13, and 15.
+// octets of 13, and 15. The draft and its texts stay two, here and in `put_front`, `put_message` and `write_by`: they
+// are two parameters of the public `write`, and a struct of both would be made once and taken apart in each.
 #[tactic(auto, using(rules::proofs::Telling::telling), unfolding(crate::specs::Writing::write_of))]
 fn judge(book: Book, draft: Draft, texts: &[u8], room: usize) -> Result<u16, Fault>
     ensures { result ≡ write_of (rules_of book) draft texts.now room }
@@ -210,7 +219,8 @@ fn judge(book: Book, draft: Draft, texts: &[u8], room: usize) -> Result<u16, Fau
     with_room(13, size, room)
 }
 
-// A type, a length, and contents in two parts.
+// A type, a length, and contents in two parts. relist's `lay_parameter` is another: its contents are one part, and it
+// counts on where the area ends.
 fn put_parameter(out: &mut [u8], kind: u8, head: &[u8], text: &[u8]) -> usize
     requires { (2 + (list.length head.now + list.length text.now) ≤ list.length out.old) × (list.length head.now + list.length text.now < 256) }
     ensures { LaidParameter kind (head.now ++ text.now) out.old out.new result }
@@ -248,7 +258,9 @@ fn put_front(draft: Draft, texts: &[u8], out: &mut [u8], size: u8) -> usize
     at
 }
 
-// The whole message: the checksum makes the sum of all octets 0 modulo 256 (000, section 2).
+// The whole message: the checksum makes the sum of all octets 0 modulo 256 (000, section 2). What it shares with
+// relist's `seal` is `sum_of`; beside that both have one store, which a public function with a contract would make
+// longer.
 fn put_message(draft: Draft, texts: &[u8], out: &mut [u8], size: u8)
     requires { Layable draft texts.now (list.length out.old) size }
     ensures { out.new ≡ laid (octets (message_of draft texts.now)) out.old }
@@ -270,7 +282,8 @@ fn write_by(book: Book, draft: Draft, texts: &[u8], out: &mut [u8]) -> Result<u1
     Ok(size)
 }
 
-// The sum of octets modulo 256 (000, section 2).
+// The sum of octets modulo 256 (000, section 2). turns has a sum too, private, which goes on from a sum so far; this
+// one is public and begins at 0.
 #[tactic(auto, using(rules::proofs::Sums::summing))]
 pub fn sum_of(s: &[u8]) -> u8
     ensures { result ≡ total s.now % 256 }
@@ -283,7 +296,7 @@ pub fn sum_of(s: &[u8]) -> u8
 }
 
 // Writes the message that a draft stands for, by the draft's edition: 16 where that or the way is unknown, and the
-// output stays.
+// output stays. So both stay numbers: `WritesBy.sixteen`.
 #[tactic(auto, using(rules::proofs::Telling::telling), unfolding(crate::specs::Writing::write_in, crate::specs::Writing::output_after))]
 pub fn write(way: u8, draft: Draft, texts: &[u8], out: &mut [u8]) -> Writing
     ensures answer { result ≡ write_in way draft texts.now (list.length out.old) }
