@@ -61,13 +61,14 @@ pub(crate) fn is_record(cells: &[u8]) -> bool
 }
 
 // A place: three octets, the low one first, as C has it; no number of Rust has three.
+#[tactic(auto, unfolding(crate::specs::DeskRecord::place_in))]
 fn place_in(cells: &[u8]) -> u32
     ensures { result ≡ record_of.place_in cells.now }
 {
     let low = message::octet(cells, 0);
     let middle = message::octet(cells, 1);
     let high = message::octet(cells, 2);
-    low as u32 + 256 * (middle as u32) + 65536 * (high as u32)
+    u32::from_le_bytes([low, middle, high, 0])
 }
 
 fn places_in(cells: &[u8]) -> [u32; PLACES]
@@ -127,9 +128,10 @@ fn lay_place(cells: &mut [u8], place: u32)
     requires { 3 ≤ length cells.old }
     ensures { cells.new ≡ laid (record_of.place_cells place) cells.old }
 {
-    cells[0] = (place % 256) as u8;
-    cells[1] = (place / 256 % 256) as u8;
-    cells[2] = (place / 65536 % 256) as u8;
+    let [low, middle, high, _] = place.to_le_bytes();
+    cells[0] = low;
+    cells[1] = middle;
+    cells[2] = high;
 }
 
 // Each place where it stands, behind the first four octets.

@@ -17,7 +17,8 @@ use rules::{Book, Form};
 fn low_octets(n: usize) -> [u8; 2]
     ensures { result ≡ n % 256 ∷ n / 256 % 256 ∷ [] }
 {
-    [(n % 256) as u8, (n / 256 % 256) as u8]
+    let octets = n.to_le_bytes();
+    [octets[0], octets[1]]
 }
 
 // Octets over the first of others. A loop of its own, since std's copy would have the archive ask for memmove, which

@@ -48,48 +48,23 @@ struct Fields {
     parameter: u8,
 }
 
-// The numbers of a record are read and laid octet by octet, low first, as include/anthercup.h has them for C: a place
-// has two octets, the kept ones are three.
-fn joined(low: u8, high: u8) -> u16
-    ensures { result ≡ low + 256 * high }
-{
-    low as u16 + 256 * (high as u16)
-}
-
-// Three octets as one number, the lowest first: so they are looked at in one go.
-fn three(a: u8, b: u8, c: u8) -> u32
-    ensures { result ≡ a + 256 * b + 65536 * c }
-{
-    a as u32 + 256 * (b as u32) + 65536 * (c as u32)
-}
-
+#[tactic(auto, unfolding(crate::specs::Record::fields_of))]
 fn fields_of(cells: &[u8]) -> Fields
     requires { length cells.now ≡ listener_size }
     ensures { result ≡ record_of.fields_of cells.now }
 {
-    let stage = cells[0];
-    let sum = cells[1];
-    let class = cells[4];
-    let length = cells[5];
-    let index = cells[6];
-    let memory = cells[7];
-    let room = cells[8];
-    let number = cells[9];
-    let parameter = cells[10];
-    let spare = three(cells[13], cells[14], cells[15]);
-    let place = joined(cells[2], cells[3]);
     Fields {
-        stage,
-        sum,
-        place,
-        class,
-        length,
-        index,
-        memory,
-        room,
-        number,
-        spare,
-        parameter,
+        stage: cells[0],
+        sum: cells[1],
+        place: u16::from_le_bytes([cells[2], cells[3]]),
+        class: cells[4],
+        length: cells[5],
+        index: cells[6],
+        memory: cells[7],
+        room: cells[8],
+        number: cells[9],
+        spare: u32::from_le_bytes([cells[13], cells[14], cells[15], 0]),
+        parameter: cells[10],
     }
 }
 
@@ -309,8 +284,7 @@ fn lay(cells: &mut [u8], edition: u8, way: u8, f: Fields)
     requires { length cells.old ≡ listener_size }
     ensures { cells.new ≡ record_of.laid_fields edition way f }
 {
-    let low = (f.place % 256) as u8;
-    let high = (f.place / 256) as u8;
+    let [low, high] = f.place.to_le_bytes();
     cells[0] = f.stage;
     cells[1] = f.sum;
     cells[2] = low;

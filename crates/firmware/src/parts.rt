@@ -15,36 +15,16 @@ fn lay_number(cells: &mut [u8], n: usize)
     requires { 8 ≤ list.length cells.old }
     ensures { cells.new ≡ laid (record_of.low_first 8 n) cells.old }
 {
-    let b = n / 256;
-    let c = b / 256;
-    let d = c / 256;
-    let e = d / 256;
-    let f = e / 256;
-    let g = f / 256;
-    let h = g / 256;
-    cells[0] = (n % 256) as u8;
-    cells[1] = (b % 256) as u8;
-    cells[2] = (c % 256) as u8;
-    cells[3] = (d % 256) as u8;
-    cells[4] = (e % 256) as u8;
-    cells[5] = (f % 256) as u8;
-    cells[6] = (g % 256) as u8;
-    cells[7] = (h % 256) as u8;
+    cells[..8].copy_from_slice(&(n as u64).to_le_bytes());
 }
 
 // The side, and seven octets kept at 0.
+#[tactic(auto, unfolding(crate::specs::PartRecord::side_cells, rules::specs::Laying::laid))]
 fn lay_side(cells: &mut [u8], side: u8)
     requires { 8 ≤ list.length cells.old }
     ensures { cells.new ≡ laid (record_of.side_cells side) cells.old }
 {
-    cells[0] = side;
-    cells[1] = 0;
-    cells[2] = 0;
-    cells[3] = 0;
-    cells[4] = 0;
-    cells[5] = 0;
-    cells[6] = 0;
-    cells[7] = 0;
+    cells[..8].copy_from_slice(&[side, 0, 0, 0, 0, 0, 0, 0]);
 }
 
 // The whole record, whatever it held.

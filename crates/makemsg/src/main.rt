@@ -7,18 +7,18 @@ use rules::Fault;
 use std::io;
 use std::io::Write;
 
-// The most octets that are read of a listing, and the most that a message has (document 01, The message).
+// The most octets that are read of a listing.
 const TEXT: usize = 8192;
 
-const LONGEST: usize = 258;
-
+// Two lines: round, rows, parts and writemsg each say a refusal in other words, so there is no Display of one.
 fn say_fault(out: &mut impl Write, fault: Fault) -> io::Result<()> {
     writeln!(out, "refused={}", fault.number)?;
     writeln!(out, "at={}", fault.place)
 }
 
+// An output is lent as an array and its size is answered beside it: no heap, as in streams.
 fn make(out: &mut impl Write, text: &[u8]) -> io::Result<()> {
-    let mut message = [0u8; LONGEST];
+    let mut message = [0u8; streams::MESSAGE];
     let writing = relist::message_of(text, &mut message);
     let answer = writing.answer;
     match answer {

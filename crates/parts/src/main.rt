@@ -15,10 +15,8 @@ use std::io::{Read, Write};
 use streams::Hex;
 use walker::Stepped;
 
-// The most octets that a message has, and the most that its texts have (document 01, The message).
-const LONGEST: usize = 258;
-
-const TEXTS: usize = 253;
+// The most octets that a message's texts have: those of one parameter's contents.
+const TEXTS: usize = rules::LONGEST;
 
 // The most octets of a case: some more than a message has, and a directory's.
 const HEARD: usize = 300;
@@ -31,7 +29,9 @@ const UNKNOWN: u8 = 2;
 // A code that is no side: with a refusal `caption` leaves it (document 01, The caption).
 const LENT_CODE: u8 = 7;
 
-// The numbers of an edition and a way, and a message that is read, walked and captioned by them.
+// The numbers of an edition and a way, and a message that is read, walked and captioned by them: numbers, since unknown
+// ones are asked too. What is answered is said by functions over a writer, here and below: a Display of another crate's
+// type (Fault, Entry, Flat, Reading, Stepped) would ask a wrapper of each.
 #[derive(Clone, Copy)]
 struct Case<'a> {
     edition: u8,
@@ -61,7 +61,8 @@ fn say_whether(out: &mut impl Write, text: &str, same: bool) -> io::Result<()> {
     writeln!(out, "{text} {whether}")
 }
 
-// The text of a value, which lies in the area (document 01, Drafts).
+// The text of a value, which lies in the area (document 01, Drafts): start and length as the draft has them, since
+// `draft::lies`, a public function, is run here.
 #[tactic(auto, using(rules::proofs::Returns::told_le))]
 fn say_text(out: &mut impl Write, texts: &[u8], start: usize, size: usize) -> io::Result<()> {
     if draft::lies(texts, start, size) {
@@ -174,20 +175,17 @@ fn say_written(
 
 // The draft is written, and what is written read again.
 fn say_write(out: &mut impl Write, case: Case<'_>, draft: Draft, texts: &[u8]) -> io::Result<()> {
-    let mut area = [0u8; LONGEST];
+    let mut area = [0u8; streams::MESSAGE];
     let writing = writer::write(case.way, draft, texts, &mut area);
-    let edition = writing.edition;
-    let answer = writing.answer;
-    match answer {
+    match writing.answer {
         Ok(size) => {
-            let n = size as usize;
-            if n <= LONGEST {
-                say_written(out, case, edition, draft, texts, &area[..n])?;
+            if let Some(written) = area.get(..size as usize) {
+                say_written(out, case, writing.edition, draft, texts, written)?;
             }
         }
         Err(fault) => {
             say_fault(out, "write ", fault)?;
-            say_edition(out, edition)?;
+            say_edition(out, writing.edition)?;
         }
     }
     Ok(())
@@ -202,7 +200,8 @@ fn say_both(out: &mut impl Write, edition: u8, draft: Draft) -> io::Result<()> {
     writeln!(out, " edition {edition} {}", draft.edition)
 }
 
-// Each of the three kinds with a text holds its own start, so the match names each. An entry whose text, where it has one, lies one octet further on.
+// An entry whose text, where it has one, lies one octet further on: each of the three kinds with a text holds its own
+// start, so the match names each.
 fn further(entry: Entry) -> Entry {
     let kind = entry.kind;
     let value = entry.value;
@@ -269,7 +268,8 @@ fn say_reading(out: &mut impl Write, text: &str, reading: Reading, area: &[u8]) 
     }
 }
 
-// The whole read into an area that every message's texts fit; a draft is written too.
+// The whole read into an area that every message's texts fit; a draft is written too. Here and in `say_again`,
+// `say_elsewhere`, `say_default` and `say_room` the area is an array that is lent: no heap.
 fn say_read(out: &mut impl Write, case: Case<'_>) -> io::Result<()> {
     let mut area = [0u8; TEXTS];
     let reading = reader::read_way(case.edition, case.way, case.message, &mut area);
@@ -337,7 +337,8 @@ fn say_steps(out: &mut impl Write, case: Case<'_>) -> io::Result<()> {
     Ok(())
 }
 
-// At how many places a parameter begins; where none does, the walker says so (document 01, Drafts).
+// At how many places a parameter begins; where none does, the walker says so (document 01, Drafts). `say_steps` asks a
+// walker from one to the next, this one `step_at` of every place: two public functions, each run here.
 fn beginnings(case: Case<'_>) -> usize {
     let mut count: usize = 0;
     for place in 0..case.message.len() {

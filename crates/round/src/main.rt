@@ -18,11 +18,9 @@ const TEXT: usize = 4096;
 const FILL: u8 = 0xA5;
 
 // Is the text the listing of these octets?
-#[tactic(auto, using(listing::proofs::Longest::text_inside))]
 fn comes_back(octets: &[u8], text: &[u8]) -> bool {
     let again = listing::listing(octets);
-    let lines = again.octets;
-    &lines[..again.length] == text
+    again.text() == text
 }
 
 fn say_message(out: &mut impl Write, n: usize, area: &[u8], text: &[u8]) -> io::Result<()> {
@@ -34,6 +32,7 @@ fn say_message(out: &mut impl Write, n: usize, area: &[u8], text: &[u8]) -> io::
     }
 }
 
+// A refusal and the whole area; makemsg says one in two lines, so there is no Display of it.
 fn say_fault(out: &mut impl Write, fault: Fault, area: &[u8]) -> io::Result<()> {
     writeln!(
         out,

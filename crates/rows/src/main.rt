@@ -7,14 +7,15 @@
 #![tactic(auto)]
 
 use listener::{Answer, Listener};
-use rules::Book;
+use rules::{Book, Fault};
 use std::io;
 use std::io::{Read, Write};
 
 // The most octets of a case: some more than a message has.
 const MOST: usize = 300;
 
-// The numbers of an edition and a way, and octets that are heard and judged by them.
+// The numbers of an edition and a way, and octets that are heard and judged by them: numbers, since a listener is asked
+// by unknown ones too. A case is said by functions over a writer: a listing is octets, and Display prints text.
 #[derive(Clone, Copy)]
 struct Case<'a> {
     edition: u8,
@@ -31,14 +32,21 @@ fn in_one_line(lines: &mut [u8]) {
     }
 }
 
+// A refusal with its place and its parameter.
+fn say_fault(out: &mut impl Write, fault: Fault) -> io::Result<()> {
+    write!(
+        out,
+        " {} at {} in {}",
+        fault.number, fault.place, fault.parameter
+    )
+}
+
 impl Case<'_> {
     // The listing in one line.
-    #[tactic(auto, using(listing::proofs::Longest::text_inside))]
     fn say_listing(&self, out: &mut impl Write) -> io::Result<()> {
-        let text = listing::listing(self.octets);
-        let mut lines = text.octets;
-        in_one_line(&mut lines);
-        out.write_all(&lines[..text.length])
+        let mut listing = listing::listing(self.octets);
+        in_one_line(&mut listing.octets);
+        out.write_all(listing.text())
     }
 
     // The listing, or the edition and the way that have none.
@@ -56,11 +64,7 @@ impl Case<'_> {
         match heard.answer {
             Answer::Waits => write!(out, " waits")?,
             Answer::Message(size) => write!(out, " size {size}")?,
-            Answer::Refused(fault) => write!(
-                out,
-                " {} at {} in {}",
-                fault.number, fault.place, fault.parameter
-            )?,
+            Answer::Refused(fault) => say_fault(out, fault)?,
         }
         write!(out, ", took {}, edition {}", heard.taken, heard.edition)
     }
@@ -78,13 +82,10 @@ impl Case<'_> {
     }
 
     fn say_verdict(&self, out: &mut impl Write, book: Book) -> io::Result<()> {
+        write!(out, " | read")?;
         match message::judge(book, self.octets) {
-            Ok(size) => write!(out, " | read size {size}"),
-            Err(fault) => write!(
-                out,
-                " | read {} at {} in {}",
-                fault.number, fault.place, fault.parameter
-            ),
+            Ok(size) => write!(out, " size {size}"),
+            Err(fault) => say_fault(out, fault),
         }
     }
 
@@ -95,8 +96,8 @@ impl Case<'_> {
         write!(out, "| ")?;
         self.say_title(out)?;
         self.say_listeners(out)?;
-        if rules::is_known(self.edition, self.way) {
-            self.say_verdict(out, rules::book_of(self.edition, self.way))?;
+        if let Some(book) = rules::known_book(self.edition, self.way) {
+            self.say_verdict(out, book)?;
         }
         writeln!(out)
     }

@@ -5,7 +5,7 @@
 use std::io;
 
 // One octet more than the longest message has.
-const MOST: usize = 259;
+const MOST: usize = streams::MESSAGE + 1;
 
 fn main(rt: HostRuntime) -> io::Result<()> {
     let mut room = [0u8; MOST];

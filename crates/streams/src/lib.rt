@@ -34,7 +34,9 @@ fn fill<R: Read>(input: &mut R, octets: &mut [u8]) -> io::Result<usize>
     Ok(filled)
 }
 
-// The next octets, as many as there is room for or, where the input ends before, what is left of it.
+// The next octets, as many as there is room for or, where the input ends before, what is left of it. The room is an array
+// of the program's (showmsg, makemsg, rows, replay, parts, round): with a Vec it proved, but each program then had a
+// heap and could run out of memory, which none of them can.
 pub fn up_to<'a, R: Read>(input: &mut R, room: &'a mut [u8]) -> io::Result<&'a [u8]>
     ensures within { IfOk result (λ octets. length octets.now ≤ length room.old) }
     ensures taken { IfOk result (λ octets. Consumes (R.remaining input.old) (R.remaining input.new) octets.now) }
@@ -88,11 +90,14 @@ pub fn list<W: Write>(out: &mut W, octets: &[u8]) -> io::Result<()>
     ensures { OnOk result (Appends (W.contents out.old) (W.contents out.new)
         (listing_of (rules_of book.PresentLenient) octets.now)) }
 {
-    let text = listing::listing(octets);
-    let lines = text.octets;
-    out.write_all(&lines[..text.length])
+    let listing = listing::listing(octets);
+    out.write_all(listing.text())
 }
 
-// The most cases that a program reads, so that it ends whatever comes. Each `main` goes over its cases itself: one
-// function for all would be handed the step, and have a `requires` that it may be called, which no public function has.
+// The most octets that a message has (document 01, The message).
+pub const MESSAGE: usize = 258;
+
+// The most cases that rows, replay, round and parts read, so that each ends whatever comes. Each `main` goes over its
+// cases itself, and each `next` reads its own head: one function for all would be handed the step, and have a `requires`
+// that it may be called, which no public function has.
 pub const CASES: u64 = 1000000;

@@ -9,7 +9,7 @@ use rules::Fault;
 use std::io;
 use std::io::Write;
 
-// Octets as two capital hex digits and a space each.
+// Octets as two capital hex digits and a space each; `streams::Hex` has small ones with nothing between them.
 fn print_octets(out: &mut impl Write, octets: &[u8]) -> io::Result<()> {
     for x in octets {
         write!(out, "{x:02X} ")?;
@@ -29,12 +29,10 @@ fn show_in(
     texts: &[u8],
 ) -> io::Result<()> {
     let writing = writer::write(way, d, texts, area);
-    let answer = writing.answer;
-    match answer {
+    match writing.answer {
         Ok(size) => {
-            let n = size as usize;
-            if n <= area.len() {
-                print_octets(out, &area[..n])?;
+            if let Some(octets) = area.get(..size as usize) {
+                print_octets(out, octets)?;
             }
         }
         Err(fault) => print_fault(out, fault)?,
@@ -42,6 +40,8 @@ fn show_in(
     writeln!(out, "edition {}", writing.edition)
 }
 
+// Here and below an edition and a way are numbers: drafts of unknown ones are shown too. The area is an array that is
+// lent: no program has a heap.
 fn show_by(out: &mut impl Write, way: u8, d: Draft, texts: &[u8]) -> io::Result<()> {
     let mut area = [0u8; 258];
     show_in(out, &mut area, way, d, texts)
@@ -51,6 +51,7 @@ fn show(out: &mut impl Write, d: Draft, texts: &[u8]) -> io::Result<()> {
     show_by(out, rules::LENIENT, d, texts)
 }
 
+// Builders: each says in a word what most cases have in common, over the one that says it all.
 fn one_by(edition: u8, kind: u8, a: Entry) -> Draft {
     let mut d = draft::empty(edition, kind);
     d.entries[0] = a;
@@ -94,28 +95,20 @@ fn caller(start: usize, length: usize) -> Entry {
     }
 }
 
-fn time() -> Entry {
-    Entry {
-        kind: 0x01,
-        value: Value::Date {
-            month: 6,
-            day: 15,
-            hour: 14,
-            minute: 30,
-        },
-    }
-}
-
-fn midnight(month: u8, day: u8) -> Entry {
+fn time(month: u8, day: u8, hour: u8, minute: u8) -> Entry {
     Entry {
         kind: 0x01,
         value: Value::Date {
             month,
             day,
-            hour: 0,
-            minute: 0,
+            hour,
+            minute,
         },
     }
+}
+
+fn midnight(month: u8, day: u8) -> Entry {
+    time(month, day, 0, 0)
 }
 
 // Drafts of the old edition on both sides of its limits, beside one of the present edition.
@@ -163,7 +156,7 @@ fn show_unknown(out: &mut impl Write) -> io::Result<()> {
 fn main(rt: HostRuntime) -> io::Result<()> {
     let mut out = io::writer(&rt);
     let texts = b"740912";
-    show(&mut out, two(0x80, time(), caller(1, 5)), texts)?;
+    show(&mut out, two(0x80, time(6, 15, 14, 30), caller(1, 5)), texts)?;
     show(&mut out, one(0x82, code(0x0B, 0xFF)), texts)?;
     show(&mut out, one(0x82, code(0x13, 2)), texts)?;
     show(&mut out, two(0x82, code(0x13, 2), code(0x13, 5)), texts)?;

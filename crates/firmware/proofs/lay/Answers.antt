@@ -1,52 +1,19 @@
 -- `firmware::lay` meets its contract: all 16 octets are stored.
 -- Assumes nothing.
-use native.Mathlib.Omega.{arith}
-use lib.ListN.{length-set}
+use Rattle.std.proofs.Common.{◌≡◌, ◌/◌, ◌%◌, [], ◌∷◌, ℕ, List, get_or, ap, ◌∙◌, arith}
+use lib.Seq.{sets}
 use Rattle.firmware.specs.Record.{laid_fields}
 use Rattle.firmware.proofs.Cells.{stored}
 use Rattle.firmware.proofs.lay.Goals as goal
 
-pub bounds-cells-4 : goal.bounds-cells-4
-bounds-cells-4 c = simp length-set (omega arith)
-
-pub bounds-cells-5 : goal.bounds-cells-5
-bounds-cells-5 c = simp length-set (omega arith)
-
-pub bounds-cells-6 : goal.bounds-cells-6
-bounds-cells-6 c = simp length-set (omega arith)
-
-pub bounds-cells-7 : goal.bounds-cells-7
-bounds-cells-7 c = simp length-set (omega arith)
-
-pub bounds-cells-8 : goal.bounds-cells-8
-bounds-cells-8 c = simp length-set (omega arith)
-
-pub bounds-cells-9 : goal.bounds-cells-9
-bounds-cells-9 c = simp length-set (omega arith)
-
-pub bounds-cells-10 : goal.bounds-cells-10
-bounds-cells-10 c = simp length-set (omega arith)
-
-pub bounds-cells-11 : goal.bounds-cells-11
-bounds-cells-11 c = simp length-set (omega arith)
-
-pub bounds-cells-12 : goal.bounds-cells-12
-bounds-cells-12 c = simp length-set (omega arith)
-
-pub bounds-cells-13 : goal.bounds-cells-13
-bounds-cells-13 c = simp length-set (omega arith)
-
-pub bounds-cells-14 : goal.bounds-cells-14
-bounds-cells-14 c = simp length-set (omega arith)
-
-pub bounds-cells-15 : goal.bounds-cells-15
-bounds-cells-15 c = simp length-set (omega arith)
-
-pub shape_of-cells : goal.shape_of-cells
-shape_of-cells c = simp length-set
-
 pub returns : goal.returns
 unfolding laid_fields
 returns c =
-    stored (laid_fields c.args.edition c.args.way c.args.f) c.args.cells.now
-    (omega arith)
+    let f = c.args.f in
+    let cells = λ (low high : ℕ).
+        f.stage ∷ f.sum ∷ low ∷ high ∷ f.class ∷ f.length ∷ f.index ∷ f.memory ∷ f.room ∷ f.number
+        ∷ f.parameter ∷ c.args.edition ∷ c.args.way ∷ 0 ∷ 0 ∷ 0 ∷ [] in
+    let high : f.place / 256 % 256 ≡ f.place / 256 = omega arith in
+    ap (λ (r : List ℕ). sets c.args.cells.now 0 (cells (get_or r 0 0) (get_or r 1 0))) c.to_le_bytes.ensures
+    ∙ stored (cells (f.place % 256) (f.place / 256 % 256)) c.args.cells.now (omega arith)
+    ∙ ap (cells (f.place % 256)) high
