@@ -60,6 +60,13 @@ const COMMA: u8 = 0x2C;
 
 const SPACE: u8 = 0x20;
 
+// An octet beside the row that it is judged by.
+#[derive(Clone, Copy)]
+struct Octet {
+    row: u8,
+    value: u8,
+}
+
 // Does a row say that the kind admits its octet?
 #[tactic(auto, using(rules::proofs::Telling::eq_is), unfolding(rules::specs::OctetRows::admitted))]
 fn admits(row: u8, kind: u8) -> bool
@@ -75,62 +82,62 @@ fn digit_of(x: u8) -> u8
     if 48 <= x { x - 48 } else { 0 }
 }
 
-// The digits of a date: octet x stands beside the row that says whether it is one. No twins: tens may begin a number of
-// the range, ones must end one; and `two_digits` goes by rows alone, with no digit remembered.
+// The digits of a date. No twins: tens may begin a number of the range, ones must end one; and `two_digits` goes by rows
+// alone, with no digit remembered.
 #[tactic(auto, using(rules::proofs::Telling::telling), unfolding(rules::specs::ContentJudge::opens))]
-fn tens_ok(range: Range, row: u8, x: u8) -> bool
-    ensures { result ≡ tens_by (admitted row 1) range x }
+fn tens_ok(range: Range, octet: Octet) -> bool
+    ensures { result ≡ tens_by (admitted octet.row 1) range octet.value }
 {
-    admits(row, DIGIT)
+    admits(octet.row, DIGIT)
         && {
-            let t = 10 * (digit_of(x) as u16);
+            let t = 10 * (digit_of(octet.value) as u16);
             range.0 as u16 <= t + 9 && t <= range.1 as u16
         }
 }
 
 #[tactic(auto, using(rules::proofs::Telling::telling), unfolding(rules::specs::Contents::within))]
-fn ones_ok(range: Range, m: u8, row: u8, x: u8) -> bool
-    ensures { result ≡ ones_by (admitted row 1) range m x }
+fn ones_ok(range: Range, m: u8, octet: Octet) -> bool
+    ensures { result ≡ ones_by (admitted octet.row 1) range m octet.value }
 {
-    admits(row, DIGIT)
+    admits(octet.row, DIGIT)
         && {
-            let v = 10 * (m as u16) + digit_of(x) as u16;
+            let v = 10 * (m as u16) + digit_of(octet.value) as u16;
             range.0 as u16 <= v && v <= range.1 as u16
         }
 }
 
 // One of two digits for a number out of the range: the tens, or the ones after the tens m.
 #[tactic(auto, using(rules::proofs::Telling::telling))]
-fn pair_ok(range: Range, i: u8, m: u8, row: u8, x: u8) -> bool
-    ensures { result ≡ pick (i =? 0) (tens_by (admitted row 1) range x) (ones_by (admitted row 1) range m x) }
+fn pair_ok(range: Range, i: u8, m: u8, octet: Octet) -> bool
+    ensures { result ≡ pick (i =? 0) (tens_by (admitted octet.row 1) range octet.value) (ones_by (admitted octet.row 1) range m octet.value) }
 {
     match i {
-        0 => tens_ok(range, row, x),
-        _ => ones_ok(range, m, row, x),
+        0 => tens_ok(range, octet),
+        _ => ones_ok(range, m, octet),
     }
 }
 
 // The ones of a day, of which m are left from the tens on: more than 21 only after the tens 0, where 0 makes none.
 #[tactic(auto, using(rules::proofs::Telling::telling))]
-fn day_ok(m: u8, row: u8, x: u8) -> bool
-    ensures { result ≡ day_by (admitted row 1) m x }
+fn day_ok(m: u8, octet: Octet) -> bool
+    ensures { result ≡ day_by (admitted octet.row 1) m octet.value }
 {
-    admits(row, DIGIT) && digit_of(x) <= m && (m <= 21 || 1 <= digit_of(x))
+    admits(octet.row, DIGIT) && digit_of(octet.value) <= m && (m <= 21 || 1 <= digit_of(octet.value))
 }
 
 // Two digits each for the month, a day of that month, the hour and the minute (document 02, Q-2). Matches over the
 // index, here, in `moment_ok` and in `duration_ok`, and no list of ranges: the day's is what the month left, and is no
 // constant.
 #[tactic(auto, using(rules::proofs::Telling::telling))]
-fn date_ok(i: u8, m: u8, row: u8, x: u8) -> bool
-    ensures { result ≡ calendar_by (admitted row 1) time_ranges i m x }
+fn date_ok(i: u8, m: u8, octet: Octet) -> bool
+    ensures { result ≡ calendar_by (admitted octet.row 1) time_ranges i m octet.value }
 {
     match i {
-        0..=1 => pair_ok(MONTHS, i, m, row, x),
-        2 => tens_ok((1, m), row, x),
-        3 => day_ok(m, row, x),
-        4..=5 => pair_ok(HOURS, i - 4, m, row, x),
-        6..=7 => pair_ok(MINUTES, i - 6, m, row, x),
+        0..=1 => pair_ok(MONTHS, i, m, octet),
+        2 => tens_ok((1, m), octet),
+        3 => day_ok(m, octet),
+        4..=5 => pair_ok(HOURS, i - 4, m, octet),
+        6..=7 => pair_ok(MINUTES, i - 6, m, octet),
         _ => true,
     }
 }
@@ -193,25 +200,25 @@ fn code_ok(c: Class, x: u8) -> bool
 
 // The same, and two digits for the seconds, if they are sent (source 004, 5.4.10).
 #[tactic(auto, using(rules::proofs::Telling::telling))]
-fn moment_ok(i: u8, m: u8, row: u8, x: u8) -> bool
-    ensures { result ≡ calendar_by (admitted row 1) (time_ranges ++ second_range ∷ []) i m x }
+fn moment_ok(i: u8, m: u8, octet: Octet) -> bool
+    ensures { result ≡ calendar_by (admitted octet.row 1) (time_ranges ++ second_range ∷ []) i m octet.value }
 {
     match i {
-        0..=7 => date_ok(i, m, row, x),
-        8..=9 => pair_ok(MINUTES, i - 8, m, row, x),
+        0..=7 => date_ok(i, m, octet),
+        8..=9 => pair_ok(MINUTES, i - 8, m, octet),
         _ => true,
     }
 }
 
 // Two digits each for the hours, the minutes and the seconds (source 004, 5.4.21).
 #[tactic(auto, using(rules::proofs::Telling::telling))]
-fn duration_ok(i: u8, m: u8, row: u8, x: u8) -> bool
-    ensures { result ≡ pair_by (admitted row 1) duration_ranges i m x }
+fn duration_ok(i: u8, m: u8, octet: Octet) -> bool
+    ensures { result ≡ pair_by (admitted octet.row 1) duration_ranges i m octet.value }
 {
     match i {
-        0..=1 => pair_ok(LONG_HOURS, i, m, row, x),
-        2..=3 => pair_ok(MINUTES, i - 2, m, row, x),
-        4..=5 => pair_ok(MINUTES, i - 4, m, row, x),
+        0..=1 => pair_ok(LONG_HOURS, i, m, octet),
+        2..=3 => pair_ok(MINUTES, i - 2, m, octet),
+        4..=5 => pair_ok(MINUTES, i - 4, m, octet),
         _ => true,
     }
 }
@@ -238,12 +245,12 @@ fn in_units(flags: u8) -> bool
 
 // The second and third octet of a currency, behind letters (0) or dashes (1).
 #[tactic(auto, using(rules::proofs::Telling::telling), unfolding(rules::specs::Charge::currency_by, rules::specs::Charge::dash))]
-fn currency_ok(m: u8, row: u8, x: u8) -> bool
-    ensures { result ≡ currency_by (admitted row 8) m x }
+fn currency_ok(m: u8, octet: Octet) -> bool
+    ensures { result ≡ currency_by (admitted octet.row 8) m octet.value }
 {
     match m {
-        0 => admits(row, LETTER),
-        1 => x == DASH,
+        0 => admits(octet.row, LETTER),
+        1 => octet.value == DASH,
         _ => false,
     }
 }
@@ -262,38 +269,38 @@ fn flags_ok(m: u8, x: u8) -> bool
 
 // A digit, or the comma.
 #[tactic(auto, using(rules::proofs::Telling::telling), unfolding(rules::specs::Charge::comma))]
-fn cipher_ok(row: u8, x: u8) -> bool
-    ensures { result ≡ (comma x or admitted row 1) }
+fn cipher_ok(octet: Octet) -> bool
+    ensures { result ≡ (comma octet.value or admitted octet.row 1) }
 {
-    x == COMMA || admits(row, DIGIT)
+    octet.value == COMMA || admits(octet.row, DIGIT)
 }
 
 // Octet k of the ten behind the flags, where m is remembered: 0 a cost, 1 behind its comma, 2 units and a price, 3
 // behind its comma, 4 units alone, 5 nothing.
 #[tactic(auto, using(rules::proofs::Telling::telling), unfolding(rules::specs::Charge::amount_by, rules::specs::Charge::dash))]
-fn amount_ok(m: u8, k: u8, row: u8, x: u8) -> bool
-    ensures { result ≡ amount_by (admitted row 1) m k x }
+fn amount_ok(m: u8, k: u8, octet: Octet) -> bool
+    ensures { result ≡ amount_by (admitted octet.row 1) m k octet.value }
 {
     match (m, k) {
-        (0, _) => cipher_ok(row, x),
-        (1 | 3, _) => admits(row, DIGIT),
-        (2 | 4, 0..=4) => admits(row, DIGIT),
-        (2, _) => cipher_ok(row, x),
-        (4 | 5, _) => x == DASH,
+        (0, _) => cipher_ok(octet),
+        (1 | 3, _) => admits(octet.row, DIGIT),
+        (2 | 4, 0..=4) => admits(octet.row, DIGIT),
+        (2, _) => cipher_ok(octet),
+        (4 | 5, _) => octet.value == DASH,
         _ => false,
     }
 }
 
 // Currency, flags, and ten octets that they ask for (source 004, 5.4.18).
 #[tactic(auto, using(rules::proofs::Telling::telling), unfolding(rules::specs::Charge::charge_by, rules::specs::Charge::dash))]
-fn charge_ok(i: u8, m: u8, row: u8, x: u8) -> bool
-    ensures { result ≡ charge_by (admitted row 1) (admitted row 8) i m x }
+fn charge_ok(i: u8, m: u8, octet: Octet) -> bool
+    ensures { result ≡ charge_by (admitted octet.row 1) (admitted octet.row 8) i m octet.value }
 {
     match i {
-        0 => x == DASH || admits(row, LETTER),
-        1 | 2 => currency_ok(m, row, x),
-        3 => flags_ok(m, x),
-        4..=13 => amount_ok(m, i - 4, row, x),
+        0 => octet.value == DASH || admits(octet.row, LETTER),
+        1 | 2 => currency_ok(m, octet),
+        3 => flags_ok(m, octet.value),
+        4..=13 => amount_ok(m, i - 4, octet),
         _ => true,
     }
 }
@@ -309,13 +316,13 @@ fn selector_ok(n: usize, x: u8) -> bool
 
 // The selector, then a connection's code, or digits (source 004, 5.4.24).
 #[tactic(auto, using(rules::proofs::Telling::telling), unfolding(rules::specs::Terminal::terminal_by))]
-fn terminal_ok(n: u8, i: u8, m: u8, row: u8, x: u8) -> bool
-    ensures { result ≡ terminal_by (admitted row 2) n i m x }
+fn terminal_ok(n: u8, i: u8, m: u8, octet: Octet) -> bool
+    ensures { result ≡ terminal_by (admitted octet.row 2) n i m octet.value }
 {
     match (i, m) {
-        (0, _) => selector_ok(n as usize, x),
-        (_, 1) => x <= 7,
-        _ => admits(row, NUMBER),
+        (0, _) => selector_ok(n as usize, octet.value),
+        (_, 1) => octet.value <= 7,
+        _ => admits(octet.row, NUMBER),
     }
 }
 
@@ -337,51 +344,51 @@ fn mark_ok(x: u8) -> bool
 }
 
 #[tactic(auto, using(rules::proofs::Telling::telling), unfolding(rules::specs::ContentJudge::head_by))]
-fn display_ok(i: u8, row: u8, x: u8) -> bool
-    ensures { result ≡ head_by (admitted row 4) display_set i x }
+fn display_ok(i: u8, octet: Octet) -> bool
+    ensures { result ≡ head_by (admitted octet.row 4) display_set i octet.value }
 {
     match i {
-        0 => mark_ok(x),
-        _ => admits(row, NAME),
+        0 => mark_ok(octet.value),
+        _ => admits(octet.row, NAME),
     }
 }
 
 // A digit, or a space.
 #[tactic(auto, using(rules::proofs::Telling::telling), unfolding(rules::specs::Extension::blank))]
-fn country_ok(row: u8, x: u8) -> bool
-    ensures { result ≡ (blank x or admitted row 1) }
+fn country_ok(octet: Octet) -> bool
+    ensures { result ≡ (blank octet.value or admitted octet.row 1) }
 {
-    x == SPACE || admits(row, DIGIT)
+    octet.value == SPACE || admits(octet.row, DIGIT)
 }
 
 // One to three digits and spaces behind them, then seven characters (source 004, 5.4.27).
 #[tactic(auto, using(rules::proofs::Telling::telling), unfolding(rules::specs::Extension::extension_by, rules::specs::Extension::blank))]
-fn extension_ok(i: u8, m: u8, row: u8, x: u8) -> bool
-    ensures { result ≡ extension_by (admitted row 1) (admitted row 4) i m x }
+fn extension_ok(i: u8, m: u8, octet: Octet) -> bool
+    ensures { result ≡ extension_by (admitted octet.row 1) (admitted octet.row 4) i m octet.value }
 {
     match (i, m) {
-        (0, _) => admits(row, DIGIT),
-        (2, 1) => x == SPACE,
-        (1 | 2, _) => country_ok(row, x),
-        (3..=9, _) => admits(row, NAME),
+        (0, _) => admits(octet.row, DIGIT),
+        (2, 1) => octet.value == SPACE,
+        (1 | 2, _) => country_ok(octet),
+        (3..=9, _) => admits(octet.row, NAME),
         _ => true,
     }
 }
 
-// May octet x of contents of no one kind stand at index i of n, where m is remembered? These go one by one, as
-// `content_ok` is told them: a struct of them would be made for one call and taken apart in the next.
+// May an octet of contents of no one kind stand at index i of n, where m is remembered? Index and what is remembered go
+// one by one: a pair of digits behind others is asked by an index of its own.
 #[tactic(auto, unfolding(rules::specs::OctetRows::mixed_by))]
-fn mixed_ok(c: Class, n: u8, i: u8, m: u8, row: u8, x: u8) -> bool
-    ensures { result ≡ mixed_by c n i m row x }
+fn mixed_ok(c: Class, n: u8, i: u8, m: u8, octet: Octet) -> bool
+    ensures { result ≡ mixed_by c n i m octet.row octet.value }
 {
     match c {
-        Class::Date => date_ok(i, m, row, x),
-        Class::Moment => moment_ok(i, m, row, x),
-        Class::Charge => charge_ok(i, m, row, x),
-        Class::Duration => duration_ok(i, m, row, x),
-        Class::Terminal => terminal_ok(n, i, m, row, x),
-        Class::Display => display_ok(i, row, x),
-        _ => extension_ok(i, m, row, x),
+        Class::Date => date_ok(i, m, octet),
+        Class::Moment => moment_ok(i, m, octet),
+        Class::Charge => charge_ok(i, m, octet),
+        Class::Duration => duration_ok(i, m, octet),
+        Class::Terminal => terminal_ok(n, i, m, octet),
+        Class::Display => display_ok(i, octet),
+        _ => extension_ok(i, m, octet),
     }
 }
 
@@ -394,7 +401,7 @@ pub fn content_ok(c: Class, n: u8, i: u8, m: u8, row: u8, x: u8) -> bool
     match asked_of(c) {
         Asked::Code => i != 0 || code_ok(c, x),
         Asked::Kind(kind) => admits(row, kind),
-        Asked::Mixed => mixed_ok(c, n, i, m, row, x),
+        Asked::Mixed => mixed_ok(c, n, i, m, Octet { row, value: x }),
     }
 }
 
@@ -542,7 +549,8 @@ fn two_digits(range: Range, kinds: &[u8], a: u8, b: u8) -> bool
     admits(kinds[b as usize], DIGIT) && rules::among(range.0, range.1, 10 * (a - 48) + (b - 48))
 }
 
-// Are there two octets at a place that make a number out of the range?
+// Are there two octets at a place that make a number out of the range? The place counts from the front of the contents,
+// as `pair_along` answers and `date_along` compares: from the rest of them each would add its place again.
 fn pair_at(range: Range, kinds: &[u8], v: &[u8], at: usize) -> bool
     requires { Rowed kinds.now × (at ≤ 6) }
     ensures { result ≡ (2 ≤? pair_stands range (list.drop at v.now)) }
@@ -562,7 +570,11 @@ fn pair_along(range: Range, kinds: &[u8], v: &[u8], at: usize) -> usize
         return at;
     }
     let x = v[at];
-    if tens_ok(range, kinds[x as usize], x) {
+    let octet = Octet {
+        row: kinds[x as usize],
+        value: x,
+    };
+    if tens_ok(range, octet) {
         at + 1
     } else {
         at
@@ -644,7 +656,11 @@ fn short_along(c: Class, kinds: &[u8], v: &[u8]) -> usize
             return n;
         }
         let x = v[i];
-        if !mixed_ok(c, 0, index, memory, kinds[x as usize], x) {
+        let octet = Octet {
+            row: kinds[x as usize],
+            value: x,
+        };
+        if !mixed_ok(c, 0, index, memory, octet) {
             return i;
         }
         memory = remember(c, 0, index, memory, x);

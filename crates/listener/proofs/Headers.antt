@@ -2,9 +2,9 @@
 -- Assumes nothing.
 use Rattle.std.proofs.Common.{◌≡◌, ℕ, ◌+◌, ◌-◌, ◌*◌, ◌<◌, ◌≤◌, T, List, [], ◌∷◌, length, take, drop, sym, refl, ap, ◌∙◌, subst, add-zero, arith, length-drop, take_all, drop-drop}
 use Rattle.rules.specs.Tests.{◌=?◌, pick}
-use Rattle.rules.proofs.Tests.{clash, both, join, pick_yes, pick_not, eq_of, of_eq}
+use Rattle.rules.proofs.Tests.{both, join, pick_yes, pick_not, eq_of, of_eq}
 use Rattle.rules.specs.Contents.{within}
-use Rattle.rules.specs.Refusals.{noted, noted_in}
+use Rattle.rules.specs.Refusals.{noted_in}
 use Rattle.rules.specs.Octets.{Octets}
 use Rattle.rules.proofs.Octets.{octets-take, octets-drop}
 use Rattle.rules.specs.Table.{Rules}
@@ -19,11 +19,9 @@ use Rattle.rules.specs.declared.Spot.{Spot}
 use Rattle.rules.specs.declared.Stage.TheVariants.{Header}
 use Rattle.rules.specs.declared.State.{State}
 use Rattle.rules.specs.declared.State.TheVariants.{Waiting, Message, Refused}
-use Rattle.rules.specs.declared.Fault.{Fault}
 use Rattle.turns.specs.declared.Stop.{Stop}
-use Rattle.turns.specs.declared.Stop.TheVariants as stop
-use Rattle.turns.specs.Turns.{Along, Turned, from}
-use Rattle.turns.proofs.Between.{along_from, along-room, along_count, along_inside, near, place_of, stop_inside}
+use Rattle.turns.specs.Turns.{Turned, from}
+use Rattle.turns.proofs.Between.{along_from, along-room, along_count, along_inside, near, stop_inside}
 use Rattle.listener.specs.Heard.{stopped, taken, run_from, Onward}
 use Rattle.listener.proofs.Runs.{place-taken, taken_most}
 
@@ -57,7 +55,7 @@ module _ (R : Rules) (S : SoundRules R) (o : List ℕ) (i : ℕ) (room : ℕ) (q
       })
 
   -- ---- where the turns came to
-  module _ (h : i < length o) (b : Octets o) (range : T (in_range R w)) where
+  module _ (h : i < length o) (b : Octets o) (g : T (in_range R w)) where
     abbrev rest : List ℕ
     rest = take (length o - i) (drop i o)
 
@@ -72,7 +70,7 @@ module _ (R : Rules) (S : SoundRules R) (o : List ℕ) (i : ℕ) (room : ℕ) (q
     })) (all_there z)
 
     ends_in : T (in_range R (run M w (drop i o)))
-    ends_in = in_range-run (spoken R S) w (drop i o) (octets-drop i o b) range
+    ends_in = in_range-run (spoken R S) w (drop i o) (octets-drop i o b) g
 
     first_taken : (v : List ℕ) → 1 ≤ length v → 1 ≤ taken M w v
     unfolding taken stopped pick
@@ -96,18 +94,18 @@ module _ (R : Rules) (S : SoundRules R) (o : List ℕ) (i : ℕ) (room : ℕ) (q
     -- where the header stands
     room_here : T (within (5, 257) (q.place + room))
     unfolding in_range place_fits
-    room_here = (both _ _ range).0
+    room_here = (both _ _ g).0
 
     count_here : 3 * q.parameter + 2 ≤ q.place
     unfolding in_range count_fits
-    count_here = of_behind _ _ (both _ _ range).1
+    count_here = of_behind _ _ (both _ _ g).1
 
     module _ (s : Stop) (t : Turned R rest 0 room q.sum 0 s) where
       -- its place lies inside the octets, and is no further than a message's end
-      pub there_place : i + place_of s ≤ length o
+      pub there_place : i + s.place ≤ length o
       there_place = omega (arith, stop_inside R rest room q.sum s t, ap length all_there, length-drop i o)
 
-      pub near_place : room ≤ 255 → q.place + place_of s ≤ 65535
+      pub near_place : room ≤ 255 → q.place + s.place ≤ 65535
       near_place l =
           omega (
             arith,
@@ -116,106 +114,84 @@ module _ (R : Rules) (S : SoundRules R) (o : List ℕ) (i : ℕ) (room : ℕ) (q
                 (omega (arith, l)) (omega arith) s t,
           )
 
-      pub to_message : (m : ℕ) → s ≡ stop.Message m → Jump m (Message (q.place + m))
-      to_message m e = go s t e
+      -- and its parameter is one of a message's
+      pub few_begun : q.parameter + s.parameter ≤ 255
+      few_begun = go s t
         where
-          go : (s : Stop) → Turned R rest 0 room q.sum 0 s → s ≡ stop.Message m → Jump m (Message (q.place + m))
+          go : (s : Stop) → Turned R rest 0 room q.sum 0 s → q.parameter + s.parameter ≤ 255
+          go s (Turned.whole n f) = omega (arith, few R S (Header room) q g)
+          go s (Turned.early n r v c a x) =
+              omega (arith, along_count R rest a, (along-room R rest a).1, count_here, high _ _ _ room_here)
+          go s (Turned.unsealed n f) = omega (arith, few R S (Header room) q g)
+          go s (Turned.spoilt k n c x y z f) =
+              let e = sym begins ∙ f q.place q.parameter in
+              omega (arith, (refused-number R _ (subst (λ (x : State). T (in_range R x)) e ends_in)).2)
+
+      pub to_message : s.number ≡ 0 → Jump s.place (Message (q.place + s.place))
+      to_message e = go s t e
+        where
+          go : (s : Stop) → Turned R rest 0 room q.sum 0 s → s.number ≡ 0 →
+              Jump s.place (Message (q.place + s.place))
           go s (Turned.whole n f) e =
-              let k : n ≡ m = cc in
-              subst (λ (k : ℕ). Jump k (Message (q.place + k))) k
-              (answered n (Message (q.place + n)) (sym begins ∙ f q.place q.parameter) (message_stays M _ _) refl)
-          go s (Turned.early n r v c a x) e = clash cc
-          go s (Turned.unsealed n f) e = clash cc
-          go s (Turned.spoilt k n c x y z f) e = clash cc
+              answered n (Message (q.place + n)) (sym begins ∙ f q.place q.parameter) (message_stays M _ _) refl
+          go s (Turned.early n r v c a x) e = absurd (omega arith)
+          go s (Turned.unsealed n f) e = absurd (omega arith)
+          go s (Turned.spoilt k n c x y z f) e = absurd (x e)
 
-      -- a refusal's parameter is one of a message's
-      module _ (f : Fault) (e : s ≡ stop.Spoilt f) where
-        pub few_begun : q.parameter + f.parameter ≤ 255
-        few_begun = go s t e
-          where
-            go : (s : Stop) → Turned R rest 0 room q.sum 0 s → s ≡ stop.Spoilt f → q.parameter + f.parameter ≤ 255
-            go s (Turned.whole n g) e = clash cc
-            go s (Turned.early n r v c a x) e = clash cc
-            go s (Turned.unsealed n g) e =
-                let k : f ≡ noted 6 n = cc in
-                omega (arith, few R S (Header room) q range, ap (λ (h : Fault). h.parameter) k)
-            go s (Turned.spoilt k n c x y z g) e =
-                let l : f ≡ noted_in k n c = cc in
-                let d = sym begins ∙ g q.place q.parameter in
-                omega (
-                  arith,
-                  (refused-number R _ (subst (λ (x : State). T (in_range R x)) d ends_in)).2,
-                  ap (λ (h : Fault). h.parameter) l,
-                )
+      pub to_refusal : (s.number ≡ 0 → ⊥) → (s.number ≡ 8 → ⊥) → (b : ℕ) →
+          b ≡ pick (s.number =? 6) 0 (q.parameter + s.parameter) →
+          Jump (s.place + 1) (Refused (noted_in s.number (q.place + s.place) b))
+      to_refusal e d = go s t e d
+        where
+          go : (s : Stop) → Turned R rest 0 room q.sum 0 s → (s.number ≡ 0 → ⊥) → (s.number ≡ 8 → ⊥) → (b : ℕ) →
+              b ≡ pick (s.number =? 6) 0 (q.parameter + s.parameter) →
+              Jump (s.place + 1) (Refused (noted_in s.number (q.place + s.place) b))
+          go s (Turned.whole n f) e d b u = absurd (e refl)
+          go s (Turned.early n r v c a x) e d b u = absurd (d refl)
+          go s (Turned.unsealed n f) e d b u =
+              subst (λ (k : ℕ). Jump (n + 1) (Refused (noted_in 6 (q.place + n) k)))
+              (sym (u ∙ pick_yes _ _ _ (of_eq _ _ refl)))
+              (answered (n + 1) _ (sym begins ∙ f q.place q.parameter) (refused_stays M _ _) (omega arith))
+          go s (Turned.spoilt k n c x y z f) e d b u =
+              subst (λ (j : ℕ). Jump (n + 1) (Refused (noted_in k (q.place + n) j)))
+              (sym (u ∙ pick_not _ _ _ (λ h. y (eq_of _ _ h))))
+              (answered (n + 1) _ (sym begins ∙ f q.place q.parameter) (refused_stays M _ _) (omega arith))
 
-        pub to_refusal : (b : ℕ) → b ≡ pick (f.number =? 6) 0 (q.parameter + f.parameter) →
-            Jump (f.place + 1) (Refused (noted_in f.number (q.place + f.place) b))
-        to_refusal b u = go s t e
-          where
-            go : (s : Stop) → Turned R rest 0 room q.sum 0 s → s ≡ stop.Spoilt f →
-                Jump (f.place + 1) (Refused (noted_in f.number (q.place + f.place) b))
-            go s (Turned.whole n g) e = clash cc
-            go s (Turned.early n r v c a x) e = clash cc
-            go s (Turned.unsealed n g) e =
-                let l : noted 6 n ≡ f = cc in
-                subst (λ (h : Fault). b ≡ pick (h.number =? 6) 0 (q.parameter + h.parameter) →
-                Jump (h.place + 1) (Refused (noted_in h.number (q.place + h.place) b))) l
-                (λ w. subst (λ (k : ℕ). Jump (n + 1) (Refused (noted_in 6 (q.place + n) k)))
-                (sym (w ∙ pick_yes _ _ _ (of_eq _ _ refl)))
-                (answered (n + 1) _ (sym begins ∙ g q.place q.parameter) (refused_stays M _ _) (omega arith))) u
-            go s (Turned.spoilt k n c x y z g) e =
-                let l : noted_in k n c ≡ f = cc in
-                subst (λ (h : Fault). b ≡ pick (h.number =? 6) 0 (q.parameter + h.parameter) →
-                Jump (h.place + 1) (Refused (noted_in h.number (q.place + h.place) b))) l
-                (λ w. subst (λ (j : ℕ). Jump (n + 1) (Refused (noted_in k (q.place + n) j)))
-                (sym (w ∙ pick_not _ _ _ (λ h. y (eq_of _ _ h))))
-                (answered (n + 1) _ (sym begins ∙ g q.place q.parameter) (refused_stays M _ _) (omega arith))) u
+      abbrev there_spot : Stop → Spot
+      there_spot s = record {
+        sum = s.sum;
+        place = q.place + s.place;
+        parameter = q.parameter + s.parameter;
+      }
 
-      -- the last header on the way
-      module _ (n r v c : ℕ) (e : s ≡ stop.Ends n r v c) where
-        along : Along R rest 0 room q.sum 0 n r v c
-        along = go s t e
-          where
-            go : (s : Stop) → Turned R rest 0 room q.sum 0 s → s ≡ stop.Ends n r v c →
-                Along R rest 0 room q.sum 0 n r v c
-            go s (Turned.whole m f) e = clash cc
-            go s (Turned.early m r' v' c' a x) e =
-                let j : m ≡ n = cc in
-                let k : r' ≡ r = cc in
-                let l : v' ≡ v = cc in
-                let h : c' ≡ c = cc in
-                subst (λ (z : ℕ). Along R rest 0 room q.sum 0 n r v z) h
-                (subst (λ (z : ℕ). Along R rest 0 room q.sum 0 n r z c') l
-                (subst (λ (z : ℕ). Along R rest 0 room q.sum 0 n z v' c') k
-                (subst (λ (z : ℕ). Along R rest 0 room q.sum 0 z r' v' c') j a)))
-            go s (Turned.unsealed m f) e = clash cc
-            go s (Turned.spoilt k m c x y z f) e = clash cc
-
-        pub few_before : q.parameter + c ≤ 255
-        few_before =
-            omega (arith, along_count R rest along, (along-room R rest along).1, count_here, high _ _ _ room_here)
-
-        pub to_header : (n ≡ 0 → ⊥) →
-            Jump n (Waiting (Header r) (record { sum = v; place = q.place + n; parameter = q.parameter + c }))
-        unfolding in_range place_fits count_fits
-        to_header d =
-            let m = (along-room R rest along).1 in
-            let l = along_inside R rest along (omega arith) in
-            let k = along_count R rest along in
-            record {
-              further = omega arith;
-              there = omega (arith, l, ap length all_there, length-drop i o);
-              is_in_range =
-                  join _ _ (inside 5 257 _ (omega (arith, m, low _ _ _ room_here)) (omega
-                  (arith, m, high _ _ _ room_here)))
-                  (to_behind _ _ (omega (arith, k, count_here)));
-              same =
-                  ap (run M (Waiting (Header r) (record {
-                    sum = v;
-                    place = q.place + n;
-                    parameter = q.parameter + c;
-                  })))
-                  (sym (ap (drop n) all_there ∙ drop-drop n i o))
-                  ∙ sym (along_from R rest along q.place q.parameter) ∙ begins;
-              place_is = refl;
-            }
+      pub to_header : s.number ≡ 8 → (s.place ≡ 0 → ⊥) →
+          Jump s.place (Waiting (Header s.room) (there_spot s))
+      unfolding in_range place_fits count_fits
+      to_header e d = go s t e d
+        where
+          go : (s : Stop) → Turned R rest 0 room q.sum 0 s → s.number ≡ 8 → (s.place ≡ 0 → ⊥) →
+              Jump s.place (Waiting (Header s.room) (there_spot s))
+          go s (Turned.whole n f) e d = absurd (omega arith)
+          go s (Turned.unsealed n f) e d = absurd (omega arith)
+          go s (Turned.spoilt k n c x y z f) e d = absurd (z e)
+          go s (Turned.early n r v c a x) e d =
+              let m = (along-room R rest a).1 in
+              let l = along_inside R rest a (omega arith) in
+              let k = along_count R rest a in
+              record {
+                further = omega arith;
+                there = omega (arith, l, ap length all_there, length-drop i o);
+                is_in_range =
+                    join _ _ (inside 5 257 _ (omega (arith, m, low _ _ _ room_here)) (omega
+                    (arith, m, high _ _ _ room_here)))
+                    (to_behind _ _ (omega (arith, k, count_here)));
+                same =
+                    ap (run M (Waiting (Header r) (record {
+                      sum = v;
+                      place = q.place + n;
+                      parameter = q.parameter + c;
+                    })))
+                    (sym (ap (drop n) all_there ∙ drop-drop n i o))
+                    ∙ sym (along_from R rest a q.place q.parameter) ∙ begins;
+                place_is = refl;
+              }

@@ -18,7 +18,6 @@ ghost use Rattle.listener.specs.Heard.{answer_of, run_of, inside_of, Onward, hea
 ghost use Rattle.listener.specs.Heard as heard;
 
 use rules::{Book, Class, Fault, Spot, Stage, State};
-use turns::Stop;
 
 // Edition and way are the numbers told at its reset, known or not (document 02, Q-5 and Q-11): its record in C has
 // both, and gives back unknown ones.
@@ -303,41 +302,39 @@ fn by_turns(book: Book, room: u8, q: Spot, octets: &[u8], i: usize) -> Ran
     requires { T (in_range (rules_of book) (state.Waiting (stage.Header room) q)) × (i < list.length octets.now) }
     ensures { Onward (rules_of book) (state.Waiting (stage.Header room) q) octets.now i result }
 {
-    match turns::through(book, &octets[i..], room, q.sum) {
-        Stop::Message { place } => Ran {
-            state: State::Message(q.place + place),
-            taken: i + place as usize,
+    let stop = turns::through(book, &octets[i..], room, q.sum);
+    let gone = i + stop.place as usize;
+    let place = q.place + stop.place;
+    let begun = q.parameter + stop.parameter;
+    match (stop.number, stop.place) {
+        (0, _) => Ran {
+            state: State::Message(place),
+            taken: gone,
         },
-        Stop::Ends { place: 0, .. } => Ran {
+        (8, 0) => Ran {
             state: at_header(book, room, q, octets[i]),
             taken: i + 1,
         },
-        Stop::Ends {
-            place,
-            room,
-            sum,
-            parameter,
-        } => {
+        (8, _) => {
             let spot = Spot {
-                sum,
-                place: q.place + place,
-                parameter: q.parameter + parameter,
+                sum: stop.sum,
+                place,
+                parameter: begun,
             };
             Ran {
-                state: State::Waiting(Stage::Header { room }, spot),
-                taken: i + place as usize,
+                state: State::Waiting(Stage::Header { room: stop.room }, spot),
+                taken: gone,
             }
         }
-        Stop::Spoilt(stop) => {
-            let begun = q.parameter + stop.parameter;
+        _ => {
             let fault = Fault {
                 number: stop.number,
-                place: q.place + stop.place,
+                place,
                 parameter: parameter_of(stop.number, begun),
             };
             Ran {
                 state: State::Refused(fault),
-                taken: i + stop.place as usize + 1,
+                taken: gone + 1,
             }
         }
     }

@@ -2,7 +2,7 @@
 -- Assumes nothing.
 use Rattle.std.proofs.Common.{◌≡◌, ℕ, ◌+◌, ◌-◌, ◌%◌, ◌<◌, ◌≤◌, true, false, List, [], ◌∷◌, length, get_or, take, drop, sym, refl, ap, ◌∙◌, subst, ap₂, zero-add, arith, length-drop, take_all, Ok, Err}
 use Rattle.rules.specs.Tests.{◌=?◌, pick}
-use Rattle.rules.proofs.Tests.{clash}
+use Rattle.rules.proofs.Tests.{eq_of, pick_not}
 use Rattle.rules.proofs.Returns.{yes_le, no_le}
 use Rattle.rules.specs.Octets.{Octets}
 use Rattle.rules.specs.Message.{message_kind}
@@ -19,9 +19,8 @@ use Rattle.rules.specs.declared.Stage.TheVariants.{Kind, Size, Header}
 use Rattle.rules.specs.declared.State.{State}
 use Rattle.rules.specs.declared.State.TheVariants.{Waiting, Message, Refused}
 use Rattle.turns.specs.declared.Stop.{Stop}
-use Rattle.turns.specs.declared.Stop.TheVariants as stop
 use Rattle.turns.specs.Turns.{Turned, from}
-use Rattle.message.specs.Verdict.{judged, whole_at, verdict_at, verdict_of}
+use Rattle.message.specs.Verdict.{judged, verdict_at, verdict_of}
 
 commuted : (n : ℕ) → n + 2 ≡ 2 + n
 commuted n = omega arith
@@ -41,15 +40,16 @@ module _ (R : Rules) (o b : List ℕ) (room sum : ℕ) where
   waiting (Refused f) t = absurd t
 
   came_to : (s : Stop) → Turned R b 0 room sum 0 s →
-      verdict_at o s ≡ judged o on
-  unfolding verdict_at whole_at judged
+      verdict_at o s.number (s.place + 2) s.parameter ≡ judged o on
+  unfolding verdict_at judged pick ◌=?◌
   came_to s (Turned.whole n f) =
       ap (λ (k : ℕ). pick (length o =? k) (Ok k) (Err (noted 7 k))) (commuted n)
       ∙ sym (ap (judged o) (f 2 0))
   came_to s (Turned.early n r v c a w) = waiting on (w 2 0)
   came_to s (Turned.unsealed n f) = ap (λ (p : ℕ). Err (noted 6 p)) (commuted n) ∙ sym (ap (judged o) (f 2 0))
   came_to s (Turned.spoilt k n c x y z f) =
-      ap₂ (λ (p b : ℕ). Err (noted_in k p b)) (commuted n) (sym (zero-add c)) ∙ sym (ap (judged o) (f 2 0))
+      pick_not (k =? 0) _ _ (λ t. x (eq_of _ _ t)) ∙ pick_not (k =? 8) _ _ (λ t. z (eq_of _ _ t))
+      ∙ ap₂ (λ (p b : ℕ). Err (noted_in k p b)) (commuted n) (sym (zero-add c)) ∙ sym (ap (judged o) (f 2 0))
 
 module _ (R : Rules) where
   abbrev M : Machine
@@ -102,21 +102,21 @@ module _ (R : Rules) where
           (λ i. record { sum = (x + y) % 256; place = 2; parameter = 0 })))
 
       module _ (l : 3 ≤ y) (s : Stop) (t : Turned R b 0 y ((x + y) % 256) 0 s) where
-        verdict_from : verdict_at (x ∷ y ∷ b) s ≡ verdict_of R (x ∷ y ∷ b)
+        verdict_from : verdict_at (x ∷ y ∷ b) s.number (s.place + 2) s.parameter ≡ verdict_of R (x ∷ y ∷ b)
         unfolding verdict_of
         verdict_from =
             came_to R (x ∷ y ∷ b) b y ((x + y) % 256) s t ∙ sym (ap (judged (x ∷ y ∷ b)) (size_on l))
 
         -- octets that end early are fewer than 258
-        early_few : SoundRules R → Octets (x ∷ y ∷ b) → (n r v c : ℕ) → s ≡ stop.Ends n r v c → length (x ∷ y ∷ b) < 258
-        early_few S q n r v c e = (demand3 (spoken R S)).answers_by_258 (x ∷ y ∷ b) q (subst Waits (sym (size_on l)) (go s t e))
+        early_few : SoundRules R → Octets (x ∷ y ∷ b) → s.number ≡ 8 → length (x ∷ y ∷ b) < 258
+        early_few S q e = (demand3 (spoken R S)).answers_by_258 (x ∷ y ∷ b) q (subst Waits (sym (size_on l)) (go s t e))
           where
-            go : (s : Stop) → Turned R b 0 y ((x + y) % 256) 0 s → s ≡ stop.Ends n r v c →
+            go : (s : Stop) → Turned R b 0 y ((x + y) % 256) 0 s → s.number ≡ 8 →
                 Waits (from R b 0 y ((x + y) % 256) 0 2 0)
-            go s (Turned.whole m f) e = clash cc
-            go s (Turned.early m r' v' c' a w) e = w 2 0
-            go s (Turned.unsealed m f) e = clash cc
-            go s (Turned.spoilt k m b u w z f) e = clash cc
+            go s (Turned.whole n f) e = absurd (omega arith)
+            go s (Turned.early n r v c a w) e = w 2 0
+            go s (Turned.unsealed n f) e = absurd (omega arith)
+            go s (Turned.spoilt k n c u v z f) e = absurd (z e)
 
   -- ---- the same of octets that the code looks up
   pub kind_spoils : (o : List ℕ) → 1 ≤ length o → message_kind (get_or o 0 0) ≡ false →
@@ -143,7 +143,7 @@ module _ (R : Rules) where
     pub sized_verdict : (o : List ℕ) → 1 < length o → message_kind (get_or o 0 0) ≡ true → get_or o 0 0 < 256 →
         3 ≤ get_or o 1 0 → sum ≡ (get_or o 0 0 + get_or o 1 0) % 256 →
         Turned R (take (length o - 2) (drop 2 o)) 0 (get_or o 1 0) sum 0 s →
-        verdict_at o s ≡ verdict_of R o
+        verdict_at o s.number (s.place + 2) s.parameter ≡ verdict_of R o
     sized_verdict [] h k b l e t = absurd (omega arith)
     sized_verdict (x ∷ []) h k b l e t = absurd (omega arith)
     sized_verdict (x ∷ y ∷ o) h k b l e t =
@@ -152,10 +152,10 @@ module _ (R : Rules) where
 
     pub early_short : (o : List ℕ) → 1 < length o → message_kind (get_or o 0 0) ≡ true → get_or o 0 0 < 256 →
         3 ≤ get_or o 1 0 → sum ≡ (get_or o 0 0 + get_or o 1 0) % 256 →
-        Turned R (take (length o - 2) (drop 2 o)) 0 (get_or o 1 0) sum 0 s → SoundRules R → Octets o → (n r v c : ℕ) →
-        s ≡ stop.Ends n r v c → length o < 258
-    early_short [] h k b l e t S q n r v c z = absurd (omega arith)
-    early_short (x ∷ []) h k b l e t S q n r v c z = absurd (omega arith)
-    early_short (x ∷ y ∷ o) h k b l e t S q n r v c z =
+        Turned R (take (length o - 2) (drop 2 o)) 0 (get_or o 1 0) sum 0 s → SoundRules R → Octets o → s.number ≡ 8 →
+        length o < 258
+    early_short [] h k b l e t S q z = absurd (omega arith)
+    early_short (x ∷ []) h k b l e t S q z = absurd (omega arith)
+    early_short (x ∷ y ∷ o) h k b l e t S q z =
         early_few x k b y o l s (subst (λ (z : List ℕ). Turned R z 0 y ((x + y) % 256) 0 s) (behind (x ∷ y ∷ o))
-        (subst (λ (v : ℕ). Turned R (take (length (x ∷ y ∷ o) - 2) o) 0 y v 0 s) e t)) S q n r v c z
+        (subst (λ (v : ℕ). Turned R (take (length (x ∷ y ∷ o) - 2) o) 0 y v 0 s) e t)) S q z

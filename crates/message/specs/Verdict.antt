@@ -1,7 +1,7 @@
 -- The verdict on any octets (document 01, Numbers): what the machine says of them, and 8 or 7 where they end early or
 -- go on behind the message.
 -- Assumes nothing.
-use Rattle.std.specs.Prelude.{ℕ, ◌+◌, List, length, Result, Ok, Err}
+use Rattle.std.specs.Prelude.{ℕ, List, length, Result, Ok, Err}
 use Rattle.rules.specs.Tests.{◌=?◌, pick}
 use Rattle.rules.specs.Table.{Rules}
 use Rattle.rules.specs.Refusals.{noted, noted_in}
@@ -10,8 +10,6 @@ use Rattle.rules.specs.Judge.{machine}
 use Rattle.rules.specs.declared.State.{State}
 use Rattle.rules.specs.declared.State.TheVariants.{Waiting, Message, Refused}
 use Rattle.rules.specs.declared.Fault.{Fault}
-use Rattle.turns.specs.declared.Stop.{Stop}
-use Rattle.turns.specs.declared.Stop.TheVariants as stop
 
 -- ---- the verdict
 -- 8 at the number of octets while a message can still be completed; a message, or 7 at its size where octets follow;
@@ -24,11 +22,9 @@ judged o (Refused f) = Err f
 unfoldable pub verdict_of : Rules → List ℕ → Result ℕ Fault
 verdict_of R o = judged o (answer (machine R) o)
 
--- ---- the verdict where the parameters came to a stop, type and L before them
-unfoldable pub whole_at : List ℕ → ℕ → Result ℕ Fault
-whole_at o n = pick (length o =? n) (Ok n) (Err (noted 7 n))
-
-unfoldable pub verdict_at : List ℕ → Stop → Result ℕ Fault
-verdict_at o (stop.Message n) = whole_at o (n + 2)
-verdict_at o (stop.Ends n r v c) = Err (noted 8 (length o))
-verdict_at o (stop.Spoilt f) = Err (noted_in f.number (f.place + 2) f.parameter)
+-- ---- the verdict where the parameters came to a stop: with a number, at a place, in a parameter
+unfoldable pub verdict_at : List ℕ → ℕ → ℕ → ℕ → Result ℕ Fault
+verdict_at o k p b =
+    pick (k =? 0)
+    (pick (length o =? p) (Ok p) (Err (noted 7 p)))
+    (pick (k =? 8) (Err (noted 8 (length o))) (Err (noted_in k p b)))

@@ -6,24 +6,35 @@ ghost use Rattle.std.specs.Prelude.{◌≡◌, ◌<◌, ◌≤◌, true, length,
 ghost use Rattle.rules.specs.Table.{rules_of};
 ghost use Rattle.rules.specs.Message.{message_kind};
 ghost use Rattle.message.specs.Parts.{parameter_at, search_from, counted_at};
-ghost use Rattle.message.specs.Verdict.{whole_at, verdict_of};
+ghost use Rattle.message.specs.Verdict.{verdict_at, verdict_of};
 
 use rules::{Book, Fault};
-use turns::Stop;
 
-// A message of this size: 7 where octets follow it.
-#[tactic(auto, using(rules::proofs::Telling::telling), unfolding(crate::specs::Verdict::whole_at))]
-fn whole(s: &[u8], size: u16) -> Result<u16, Fault>
-    ensures { result ≡ whole_at s.now size }
+// Where the parameters came to, as a verdict: 8 at the number of octets where these end early, 7 where octets follow
+// the message.
+fn verdict_at(s: &[u8], number: u8, place: u16, parameter: u8) -> Result<u16, Fault>
+    requires { number ≡ 8 → length s.now < 258 }
+    ensures { result ≡ verdict_at s.now number place parameter }
 {
-    if s.len() == size as usize {
-        Ok(size)
+    if number == 0 {
+        if s.len() == place as usize {
+            Ok(place)
+        } else {
+            Err(rules::noted(7, place))
+        }
+    } else if number == 8 {
+        let end = s.len() as u16;
+        Err(rules::noted(8, end))
     } else {
-        Err(rules::noted(7, size))
+        Err(Fault {
+            number,
+            place,
+            parameter,
+        })
     }
 }
 
-// L, and then the parameters; where they came to, as a verdict: 8 at the number of octets where these end early.
+// L, and then the parameters.
 fn sized(book: Book, s: &[u8]) -> Result<u16, Fault>
     requires { (1 ≤ length s.now) × (message_kind (slice_index s.now 0) ≡ true) }
     ensures { result ≡ verdict_of (rules_of book) s.now }
@@ -36,14 +47,8 @@ fn sized(book: Book, s: &[u8]) -> Result<u16, Fault>
         return Err(rules::noted(2, 1));
     }
     let sum = std::num::wrapping_add_u8(s[0], size);
-    match turns::through(book, &s[2..], size, sum) {
-        Stop::Message { place } => whole(s, place + 2),
-        Stop::Ends { .. } => Err(rules::noted(8, s.len() as u16)),
-        Stop::Spoilt(fault) => Err(Fault {
-            place: fault.place + 2,
-            ..fault
-        }),
-    }
+    let stop = turns::through(book, &s[2..], size, sum);
+    verdict_at(s, stop.number, stop.place + 2, stop.parameter)
 }
 
 // The verdict on any octets: 1 to 6 and 10 as the listener gives them; 8 where they end early; 7 where octets follow

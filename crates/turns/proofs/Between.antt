@@ -18,15 +18,8 @@ use Rattle.rules.specs.declared.Stage.TheVariants.{Header}
 use Rattle.rules.specs.declared.State.{State}
 use Rattle.rules.specs.declared.State.TheVariants.{Waiting, Message, Refused}
 use Rattle.turns.specs.declared.Stop.{Stop}
-use Rattle.turns.specs.declared.Stop.TheVariants as stop
 use Rattle.turns.specs.Turns.{stands, span_of, summed, Along, Turned, from}
 use Rattle.turns.proofs.Steps.{count_on, passes_over, fits_facts}
-
--- its place
-unfoldable pub place_of : Stop → ℕ
-place_of (stop.Message n) = n
-place_of (stop.Ends n r v c) = n
-place_of (stop.Spoilt f) = f.place
 
 -- a parameter that stands takes its octets of the room, and they are there
 span_fits : (R : Rules) (room : ℕ) (o : List ℕ) → stands R room o ≡ true → (span_of o ≤ room) × (span_of o ≤ length o)
@@ -91,8 +84,8 @@ module _ (R : Rules) (o : List ℕ) where
   -- ---- how far
   -- the octets lie where a message of the most octets has them, so that a stop is no further than its end
   pub near : SoundRules R → Octets o → (at room sum count : ℕ) → at + room ≤ 255 → 3 * count ≤ at → (s : Stop) →
-      Turned R o at room sum count s → place_of s ≤ 256
-  unfolding in_range place_fits count_fits place_of
+      Turned R o at room sum count s → s.place ≤ 256
+  unfolding in_range place_fits count_fits
   near S b at room sum count h l s t = go s t (in_range-run (spoken R S) _ (drop at o) (octets-drop at o b) starts)
     where
       starts : T (in_range R (Waiting (Header room) (record {
@@ -103,7 +96,7 @@ module _ (R : Rules) (o : List ℕ) where
       starts = join _ _ (inside 5 257 _ (omega arith) (omega arith)) (to_behind _ _ (omega arith))
 
       go : (s : Stop) → Turned R o at room sum count s →
-          T (in_range R (from R o at room sum count (257 - (at + room)) 0)) → place_of s ≤ 256
+          T (in_range R (from R o at room sum count (257 - (at + room)) 0)) → s.place ≤ 256
       go s (Turned.whole n f) q =
           omega (arith, (message_size R _ (subst (λ (w : State). T (in_range R w)) (f (257 - (at + room)) 0) q)).1)
       go s (Turned.early n r v c a w) q = omega (arith, (along-room a).1)
@@ -125,13 +118,12 @@ module _ (R : Rules) (o : List ℕ) where
   within_octets (Message n) (x ∷ h) = omega (arith, ap place (message_stays (machine R) n h))
   within_octets (Refused f) (x ∷ h) = omega (arith, ap place (refused_stays (machine R) f h))
 
-  pub stop_inside : (room sum : ℕ) (s : Stop) → Turned R o 0 room sum 0 s → place_of s ≤ length o
-  unfolding place_of
+  pub stop_inside : (room sum : ℕ) (s : Stop) → Turned R o 0 room sum 0 s → s.place ≤ length o
   stop_inside room sum s t =
       go s t (within_octets (Waiting (Header room) (record { sum = sum; place = 0 + 0; parameter = 0 + 0 })) o)
     where
       go : (s : Stop) → Turned R o 0 room sum 0 s → place (from R o 0 room sum 0 0 0) ≤ 0 + 0 + length o →
-          place_of s ≤ length o
+          s.place ≤ length o
       go s (Turned.whole n f) q = omega (arith, q, ap place (f 0 0))
       go s (Turned.early n r v c a w) q = along_inside a (omega arith)
       go s (Turned.unsealed n f) q = omega (arith, q, ap place (f 0 0))

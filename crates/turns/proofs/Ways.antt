@@ -6,7 +6,6 @@ use Rattle.rules.specs.Tests.{◌and◌, pick}
 use Rattle.rules.proofs.Tests.{picked, clash}
 use Rattle.rules.proofs.Returns.{and_t, and_f, yes_le, no_le, yes_eq}
 use Rattle.rules.specs.Table.{Rules, class_of, class_fault, length_fits}
-use Rattle.rules.specs.Refusals.{noted, noted_in}
 use Rattle.rules.specs.ContentJudge.{judge_of, passing, good_front}
 use Rattle.rules.specs.Machine.{run, Waits}
 use Rattle.rules.specs.Judge.{machine, possible, room_fits, stands_in}
@@ -16,8 +15,7 @@ use Rattle.rules.specs.declared.Stage.TheVariants.{Header}
 use Rattle.rules.specs.declared.State.{State}
 use Rattle.rules.specs.declared.State.TheVariants.{Waiting, Message, Refused}
 use Rattle.turns.specs.declared.Stop.{Stop}
-use Rattle.turns.specs.declared.Stop.TheVariants as stop
-use Rattle.turns.specs.Turns.{stands, span_of, summed, Along, Turned, from, fits_at, Headed, stop_in}
+use Rattle.turns.specs.Turns.{stop, stands, span_of, summed, Along, Turned, from, fits_at, Headed, stop_in}
 use Rattle.rules.proofs.Standing.{passing_most}
 use Rattle.turns.proofs.Steps.{count_on, sealed, not_sealed, type_on, type_spoils, length_spoils, fits_facts, header_waits, contents_wait, contents_spoil, passes_over}
 
@@ -55,7 +53,7 @@ not_either b n f g e = go (picked b 3 10 n e)
     go (inl x) = f x.1
     go (inr x) = g x.1
 
-pub fault_given : (c : Class) → (class_fault c ≡ 0 → ⊥) × (class_fault c ≡ 6 → ⊥) × (class_fault c ≡ 8 → ⊥)
+fault_given : (c : Class) → (class_fault c ≡ 0 → ⊥) × (class_fault c ≡ 6 → ⊥) × (class_fault c ≡ 8 → ⊥)
 unfolding class_fault
 fault_given c = (
   not_either _ 0 (λ e. absurd (omega arith)) (λ e. absurd (omega arith)),
@@ -95,7 +93,7 @@ module _ (R : Rules) (o : List ℕ) (at room sum count : ℕ) where
 
   -- ---- the octets' own end
   -- before the header
-  pub none_left : length o ≤ at → Turned R o at room sum count (stop.Ends at room sum count)
+  pub none_left : length o ≤ at → Turned R o at room sum count (stop 8 at room sum count)
   unfolding stands run
   none_left h =
       let e = drop_of_length-le o h in
@@ -103,7 +101,7 @@ module _ (R : Rules) (o : List ℕ) (at room sum count : ℕ) where
 
   -- behind its type
   pub type_left : at < length o → length o ≤ at + 1 → (room ≡ 0 → ⊥) → possible (class_of R (get_or o at 0)) room ≡ true →
-      Turned R o at room sum count (stop.Ends at room sum count)
+      Turned R o at room sum count (stop 8 at room sum count)
   unfolding stands run
   type_left h l some k =
       let e : drop at o ≡ get_or o at 0 ∷ [] =
@@ -112,7 +110,7 @@ module _ (R : Rules) (o : List ℕ) (at room sum count : ℕ) where
       (λ p b. subst Waits (sym (ap (on p b) e ∙ type_on R room (spot p b) (get_or o at 0) [] some k)) tt)
 
   pub type_wrong : at < length o → (room ≡ 0 → ⊥) → possible (class_of R (get_or o at 0)) room ≡ false →
-      Turned R o at room sum count (stop.Spoilt (noted_in (class_fault (class_of R (get_or o at 0))) at (count + 1)))
+      Turned R o at room sum count (stop (class_fault (class_of R (get_or o at 0))) at 0 0 (count + 1))
   type_wrong h some k =
       let g = fault_given (class_of R (get_or o at 0)) in
       Turned.spoilt _ at (count + 1) g.0 g.1 g.2
@@ -125,14 +123,14 @@ module _ (R : Rules) (o : List ℕ) (at room sum count : ℕ) where
 
   -- ---- the checksum
   module _ (h : at < length o) (z : room ≡ 0) (c : ℕ) (e : (c + sum) % 256 ≡ 0) (l : c < 256) (u : sum < 256) where
-    pub sums_up : get_or o at 0 ≡ c → Turned R o at room sum count (stop.Message (at + 1))
+    pub sums_up : get_or o at 0 ≡ c → Turned R o at room sum count (stop 0 (at + 1) 0 0 0)
     sums_up k =
         Turned.whole (at + 1)
         (λ p b. ap (on p b) (front o at h)
         ∙ ap (λ (r : ℕ). run (machine R) (Waiting (Header r) (spot p b)) (get_or o at 0 ∷ drop (at + 1) o)) z
         ∙ sealed R (spot p b) (get_or o at 0) c (drop (at + 1) o) e l u k ∙ ap Message (omega arith))
 
-    pub sums_not : (get_or o at 0 ≡ c → ⊥) → Turned R o at room sum count (stop.Spoilt (noted 6 at))
+    pub sums_not : (get_or o at 0 ≡ c → ⊥) → Turned R o at room sum count (stop 6 at 0 0 0)
     sums_not k =
         Turned.unsealed at
         (λ p b. ap (on p b) (front o at h)
@@ -151,7 +149,7 @@ module _ (R : Rules) (o : List ℕ) (at room sum count : ℕ) where
 
     -- ---- a length that may not stand
     pub length_wrong : (room ≡ 0 → ⊥) → possible (class_of R (get_or o at 0)) room ≡ true → fitting ≡ false →
-        Turned R o at room sum count (stop.Spoilt (noted_in 4 (at + 1) (count + 1)))
+        Turned R o at room sum count (stop 4 (at + 1) 0 0 (count + 1))
     unfolding machine stands_in
     length_wrong some k f =
         Turned.spoilt 4 (at + 1) (count + 1) (λ q. absurd (omega arith)) (λ q. absurd (omega arith))
@@ -173,7 +171,7 @@ module _ (R : Rules) (o : List ℕ) (at room sum count : ℕ) where
           ∙ sym (and_t _ _ _ k (and_f _ _ _ (no_le _ _ (omega (arith, length-drop (at + 2) o))) refl))
 
       -- the octets end behind the length
-      pub length_left : length o ≤ at + 2 → Turned R o at room sum count (stop.Ends at room sum count)
+      pub length_left : length o ≤ at + 2 → Turned R o at room sum count (stop 8 at room sum count)
       length_left l =
           Turned.early at room sum count (stays_here (not_whole (omega (arith, room_for.0))))
           (λ p b. subst Waits (sym (on_front p b))
@@ -185,7 +183,7 @@ module _ (R : Rules) (o : List ℕ) (at room sum count : ℕ) where
 
       -- the octets end in them
       pub contents_left : length o < at + 2 + n → at + 2 + reached ≡ length o →
-          Turned R o at room sum count (stop.Ends at room sum count)
+          Turned R o at room sum count (stop 8 at room sum count)
       contents_left l g =
           Turned.early at room sum count (stays_here (not_whole l))
           (λ p b. subst Waits (sym (on_front p b))
@@ -195,7 +193,8 @@ module _ (R : Rules) (o : List ℕ) (at room sum count : ℕ) where
       -- one of the octets that have come may not stand
       spoilt_at : (w v : List ℕ) → w ++ v ≡ rest → length w ≤ n →
           passing (judge_of (class_of R (get_or o at 0))) n 0 0 w < length w →
-          Turned R o at room sum count (stop.Spoilt (noted_in 5 (at + 2 + passing (judge_of (class_of R (get_or o at 0))) n 0 0 w) (count + 1)))
+          Turned R o at room sum count (stop 5 (at + 2 + passing (judge_of (class_of R (get_or o at 0))) n 0 0 w) 0 0
+          (count + 1))
       spoilt_at w v e l g =
           Turned.spoilt 5 (at + 2 + passing (judge_of (class_of R (get_or o at 0))) n 0 0 w) (count + 1)
           (λ q. absurd (omega arith)) (λ q. absurd (omega arith)) (λ q. absurd (omega arith))
@@ -204,7 +203,7 @@ module _ (R : Rules) (o : List ℕ) (at room sum count : ℕ) where
           (place_inside p at _) (count_on b count))
 
       pub cut_spoilt : length o < at + 2 + n → at + 2 + reached < length o →
-          Turned R o at room sum count (stop.Spoilt (noted_in 5 (at + 2 + reached) (count + 1)))
+          Turned R o at room sum count (stop 5 (at + 2 + reached) 0 0 (count + 1))
       cut_spoilt l g =
           spoilt_at rest [] (append-nil rest) (omega (arith, length-drop (at + 2) o))
           (omega (arith, length-drop (at + 2) o))
@@ -221,9 +220,9 @@ module _ (R : Rules) (o : List ℕ) (at room sum count : ℕ) where
             ap (λ (j : ℕ). passing (judge_of (class_of R (get_or o at 0))) j 0 0 (take n rest)) (sym inside)
 
         pub contents_spoilt : whole_reached < n →
-            Turned R o at room sum count (stop.Spoilt (noted_in 5 (at + 2 + whole_reached) (count + 1)))
+            Turned R o at room sum count (stop 5 (at + 2 + whole_reached) 0 0 (count + 1))
         contents_spoilt g =
-            subst (λ (j : ℕ). Turned R o at room sum count (stop.Spoilt (noted_in 5 (at + 2 + j) (count + 1)))) counted_so
+            subst (λ (j : ℕ). Turned R o at room sum count (stop 5 (at + 2 + j) 0 0 (count + 1))) counted_so
             (spoilt_at (take n rest) (drop n rest) (take-append-drop n rest) (omega (arith, inside))
             (omega (arith, inside, counted_so)))
 
@@ -317,14 +316,14 @@ module _ (R : Rules) (o : List ℕ) (at : ℕ) (c : Class) (n left sum count : �
           passing_most (judge_of (class_of R (get_or o at 0))) (get_or o (at + 1) 0) 0 0 (drop (at + 2) o),
         )
 
-    pub cut_off : length o ≤ at + 2 + g → Turned R o at held sum count (stop.Ends at held sum count)
+    pub cut_off : length o ≤ at + 2 + g → Turned R o at held sum count (stop 8 at held sum count)
     cut_off l =
         contents_left R o at held sum count begun h.fits (omega (arith, h.length_is))
         (omega (arith, so_far, cut_near))
 
-    pub cut_wrong : at + 2 + g < length o → Turned R o at held sum count (stop.Spoilt (noted_in 5 (at + 2 + g) (count + 1)))
+    pub cut_wrong : at + 2 + g < length o → Turned R o at held sum count (stop 5 (at + 2 + g) 0 0 (count + 1))
     cut_wrong l =
-        subst (λ (k : ℕ). Turned R o at held sum count (stop.Spoilt (noted_in 5 (at + 2 + k) (count + 1)))) (sym so_far)
+        subst (λ (k : ℕ). Turned R o at held sum count (stop 5 (at + 2 + k) 0 0 (count + 1))) (sym so_far)
         (cut_spoilt R o at held sum count begun h.fits (omega (arith, h.length_is)) (omega (arith, so_far)))
 
   module _ (g : ℕ) (there : at + 2 + n ≤ length o)
@@ -335,9 +334,9 @@ module _ (R : Rules) (o : List ℕ) (at : ℕ) (c : Class) (n left sum count : �
     whole_so : g ≡ good_front (class_of R (get_or o at 0)) (take (get_or o (at + 1) 0) (drop (at + 2) o))
     whole_so = e ∙ (λ i. good_front (h.type i) (take (part_is i) (drop (at + 2) o)))
 
-    pub held_wrong : g < n → Turned R o at held sum count (stop.Spoilt (noted_in 5 (at + 2 + g) (count + 1)))
+    pub held_wrong : g < n → Turned R o at held sum count (stop 5 (at + 2 + g) 0 0 (count + 1))
     held_wrong l =
-        subst (λ (k : ℕ). Turned R o at held sum count (stop.Spoilt (noted_in 5 (at + 2 + k) (count + 1)))) (sym whole_so)
+        subst (λ (k : ℕ). Turned R o at held sum count (stop 5 (at + 2 + k) 0 0 (count + 1))) (sym whole_so)
         (contents_spoilt R o at held sum count begun h.fits (omega (arith, h.length_is))
         (omega (arith, whole_so, h.length_is)))
 

@@ -2,11 +2,11 @@
 -- how far octets go along whole parameters, and what the octets behind them come to.
 -- Assumes nothing.
 use Rattle.std.specs.Prelude.{◌≡◌, ℕ, suc, ◌+◌, ◌-◌, ◌/◌, ◌%◌, ◌<◌, ◌≤◌, Bool, true, false, List, [], ◌∷◌, length, take, drop, ◌≢◌, slice_index}
-use Rattle.rules.specs.Tests.{◌≤?◌, ◌=?◌, ◌and◌, pick}
+use Rattle.rules.specs.Tests.{◌≤?◌, ◌=?◌, ◌and◌}
 use Rattle.rules.specs.Octets.{total}
 use Rattle.rules.specs.Table.{Rules, class_of, length_fits}
 use Rattle.rules.specs.ContentJudge.{good_front}
-use Rattle.rules.specs.Refusals.{noted, noted_in}
+use Rattle.rules.specs.Refusals.{noted}
 use Rattle.rules.specs.Machine.{run, Waits}
 use Rattle.rules.specs.Judge.{machine, room_fits}
 use Rattle.rules.specs.declared.Class.{Class}
@@ -14,7 +14,9 @@ use Rattle.rules.specs.declared.Stage.TheVariants.{Header}
 use Rattle.rules.specs.declared.State.{State}
 use Rattle.rules.specs.declared.State.TheVariants.{Waiting, Message, Refused}
 use Rattle.turns.specs.declared.Stop.{Stop}
-use Rattle.turns.specs.declared.Stop.TheVariants as stop
+
+abbrev pub stop : ℕ → ℕ → ℕ → ℕ → ℕ → Stop
+stop k n r v b = record { number = k; place = n; room = r; sum = v; parameter = b }
 
 -- a parameter stands whole at the front of the octets, and may stand there in the room
 unfoldable pub stands : Rules → ℕ → List ℕ → Bool
@@ -63,27 +65,22 @@ from R o at room sum count p b =
 
 -- where the octets from `at` on come to
 pub data Turned (R : Rules) (o : List ℕ) (at room sum count : ℕ) : Stop → Type 0 where
-  -- to the end of a message, n octets on
+  -- 0: to the end of a message, n octets on
   whole : (n : ℕ) → ((p b : ℕ) → from R o at room sum count p b ≡ Message (p + n)) →
-      Turned R o at room sum count (stop.Message n)
-  -- to their own end; the last header on the way is at n, behind c parameters
+      Turned R o at room sum count (stop 0 n 0 0 0)
+  -- 8: to their own end; the last header on the way is at n, behind c parameters
   early : (n r v c : ℕ) → Along R o at room sum count n r v c →
-      ((p b : ℕ) → Waits (from R o at room sum count p b)) → Turned R o at room sum count (stop.Ends n r v c)
-  -- to octet n, which is no checksum: 6
+      ((p b : ℕ) → Waits (from R o at room sum count p b)) → Turned R o at room sum count (stop 8 n r v c)
+  -- 6: to octet n, which is no checksum
   unsealed : (n : ℕ) → ((p b : ℕ) → from R o at room sum count p b ≡ Refused (noted 6 (p + n))) →
-      Turned R o at room sum count (stop.Spoilt (noted 6 n))
+      Turned R o at room sum count (stop 6 n 0 0 0)
   -- else to octet n, which spoils the message in parameter c
   spoilt : (k n c : ℕ) → (k ≢ 0) → (k ≢ 6) → (k ≢ 8) →
       ((p b : ℕ) → from R o at room sum count p b ≡
-      Refused (noted_in k (p + n) (b + c))) →
-      Turned R o at room sum count (stop.Spoilt (noted_in k n c))
+      Refused (record { number = k; place = p + n; parameter = b + c })) →
+      Turned R o at room sum count (stop k n 0 0 c)
 
--- the stop that a number, a place, a room, a sum and a parameter tell: 0 a message, 8 the octets' own end
-unfoldable pub stop_of : ℕ → ℕ → ℕ → ℕ → ℕ → Stop
-stop_of k n r v b =
-    pick (k =? 0) (stop.Message n) (pick (k =? 8) (stop.Ends n r v b) (stop.Spoilt (noted_in k n b)))
-
--- the stop that a word holds
+-- the stop that a number holds
 unfoldable pub stop_in : ℕ → Stop
 stop_in w =
-    stop_of (w % 256) (w / 256 % 65536) (w / 16777216 % 256) (w / 4294967296 % 256) (w / 1099511627776 % 256)
+    stop (w % 256) (w / 256 % 65536) (w / 16777216 % 256) (w / 4294967296 % 256) (w / 1099511627776 % 256)

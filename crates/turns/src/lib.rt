@@ -3,65 +3,35 @@
 // so the two become one loop that needs no stack for a parameter.
 #![tactic(auto)]
 
-ghost use Rattle.std.specs.Prelude.{◌≡◌, ℕ, ◌+◌, ◌-◌, ◌*◌, ◌<◌, ◌≤◌, ◌≢◌, true, length as long, take, drop};
+ghost use Rattle.std.specs.Prelude.{◌≡◌, ℕ, ◌+◌, ◌-◌, ◌*◌, ◌<◌, ◌≤◌, true, length as long, take, drop};
 ghost use Rattle.rules.specs.Table.{Rules, rules_of};
 ghost use Rattle.rules.specs.ContentJudge.{passing, judge_of};
-ghost use Rattle.rules.specs.Refusals.{noted_in};
-ghost use Rattle.turns.specs.declared.Stop.TheVariants as stop;
-ghost use Rattle.turns.specs.Turns.{stop_of, stop_in, summed, Turned, fits_at, Headed};
+ghost use Rattle.turns.specs.Turns.{stop, stop_in, summed, Turned, fits_at, Headed};
 
-use rules::{Book, Class, Fault};
+use rules::{Book, Class};
 
-// Where octets come to: behind a message; to their own end, where the last header on the way stands at a place, in a
-// room, with the sum so far and so many parameters before it; or to the octet that spoils the message, with its number
-// and the parameter that it stands in, 0 for the checksum. Place and parameter count from the first of the octets.
+// Where octets come to: behind a message (0); to their own end (8), where the last header on the way stands at
+// `place`, in a room, with the sum so far and so many parameters before it; or to the octet that spoils the message,
+// with its number and the parameter that it stands in, 0 for the checksum. Place and parameter count from the first
+// of the octets. Numbers for the ends, as in the word that it is read from: with an enum of the three all proved, and the
+// shortest message cost 3 instructions in 100 more, and with what else has changed 7, where 5 are the limit.
 #[derive(Clone, Copy)]
-pub enum Stop {
-    Message {
-        place: u16,
-    },
-    Ends {
-        place: u16,
-        room: u8,
-        sum: u8,
-        parameter: u8,
-    },
-    Spoilt(Fault),
+pub struct Stop {
+    pub number: u8,
+    pub parameter: u8,
+    pub place: u16,
+    pub room: u8,
+    pub sum: u8,
 }
 
-// A stop as one number, and so in one register: that keeps `header` and `contents` one loop. Its lowest octet is 0 for a
-// message, 8 for the octets' own end, else a refusal's.
+// A stop as one number, and so in one register: that keeps `header` and `contents` one loop.
 #[tactic(auto, using(crate::proofs::Words::unpacked))]
 fn word(number: u8, place: usize, room: u8, sum: u8, parameter: usize) -> u64
     requires { (place ≤ 65535) × (parameter ≤ 255) }
-    ensures { stop_in result ≡ stop_of number place room sum parameter }
+    ensures { stop_in result ≡ stop number place room sum parameter }
 {
     let low = number as u64 + 256 * (place as u64) + 16777216 * (room as u64);
     low + 4294967296 * (sum as u64) + 1099511627776 * (parameter as u64)
-}
-
-#[tactic(auto, using(rules::proofs::Telling::telling), unfolding(crate::specs::Turns::stop_of))]
-fn whole(place: usize) -> u64
-    requires { place ≤ 65535 }
-    ensures { stop_in result ≡ stop.Message place }
-{
-    word(0, place, 0, 0, 0)
-}
-
-#[tactic(auto, using(rules::proofs::Telling::telling), unfolding(crate::specs::Turns::stop_of))]
-fn ends(place: usize, room: u8, sum: u8, parameter: usize) -> u64
-    requires { (place ≤ 65535) × (parameter ≤ 255) }
-    ensures { stop_in result ≡ stop.Ends place room sum parameter }
-{
-    word(8, place, room, sum, parameter)
-}
-
-#[tactic(auto, using(rules::proofs::Telling::telling), unfolding(crate::specs::Turns::stop_of))]
-fn spoilt(number: u8, place: usize, parameter: usize) -> u64
-    requires { (number ≢ 0) × (number ≢ 8) × (place ≤ 65535) × (parameter ≤ 255) }
-    ensures { stop_in result ≡ stop.Spoilt (noted_in number place parameter) }
-{
-    word(number, place, 0, 0, parameter)
 }
 
 // The sum after the octets from a place to another (000, section 2).
@@ -84,9 +54,9 @@ fn check(s: &[u8], at: usize, sum: u8) -> u64
     ensures { (R : Rules) (count : ℕ) → Turned R s.now at 0 sum count (stop_in result) }
 {
     if s[at] == std::num::wrapping_sub_u8(0, sum) {
-        whole(at + 1)
+        word(0, at + 1, 0, 0, 0)
     } else {
-        spoilt(6, at, 0)
+        word(6, at, 0, 0, 0)
     }
 }
 
@@ -99,7 +69,7 @@ fn last(book: Book, s: &[u8], at: usize, room: u8, sum: u8, count: usize) -> u64
 {
     let n = s.len();
     if n <= at {
-        return ends(at, room, sum, count);
+        return word(8, at, room, sum, count);
     }
     if room == 0 {
         return check(s, at, sum);
@@ -107,15 +77,15 @@ fn last(book: Book, s: &[u8], at: usize, room: u8, sum: u8, count: usize) -> u64
     let class = rules::class_of(book, s[at]);
     if rules::possible(class, room) {
         if n <= at + 1 {
-            return ends(at, room, sum, count);
+            return word(8, at, room, sum, count);
         }
         if rules::length_fits(class, room, s[at + 1]) {
-            ends(at, room, sum, count)
+            word(8, at, room, sum, count)
         } else {
-            spoilt(4, at + 1, count + 1)
+            word(4, at + 1, 0, 0, count + 1)
         }
     } else {
-        spoilt(rules::class_fault(class), at, count + 1)
+        word(rules::class_fault(class), at, 0, 0, count + 1)
     }
 }
 
@@ -155,9 +125,9 @@ fn cut(
     let start = at + 2;
     let good = reached(class, &s[start..], length);
     if start + good < s.len() {
-        spoilt(5, start + good, count + 1)
+        word(5, start + good, 0, 0, count + 1)
     } else {
-        ends(at, room + 2 + length, sum, count)
+        word(8, at, room + 2 + length, sum, count)
     }
 }
 
@@ -205,31 +175,23 @@ fn contents(
     }
     let good = contents::first_wrong(class, &s[start..end]);
     if good < length as usize {
-        return spoilt(5, start + good, count + 1);
+        return word(5, start + good, 0, 0, count + 1);
     }
     header(book, m, end, room, sum_on(s, at, end, sum), count + 1)
 }
 
 // Goes along parameters from the first octet on, in a room and with the sum so far, to the end of the message, of the
 // octets, or to the octet that spoils it.
+#[tactic(auto, unfolding(crate::specs::Turns::stop_in))]
 pub fn through(book: Book, s: &[u8], room: u8, sum: u8) -> Stop
     ensures { Turned (rules_of book) s.now 0 room sum 0 result }
 {
     let w = header(book, &s, 0, room, sum, 0);
-    let place = (w / 256 % 65536) as u16;
-    let parameter = (w / 1099511627776 % 256) as u8;
-    match (w % 256) as u8 {
-        0 => Stop::Message { place },
-        8 => Stop::Ends {
-            place,
-            room: (w / 16777216 % 256) as u8,
-            sum: (w / 4294967296 % 256) as u8,
-            parameter,
-        },
-        number => Stop::Spoilt(Fault {
-            number,
-            place,
-            parameter,
-        }),
+    Stop {
+        number: (w % 256) as u8,
+        place: (w / 256 % 65536) as u16,
+        room: (w / 16777216 % 256) as u8,
+        sum: (w / 4294967296 % 256) as u8,
+        parameter: (w / 1099511627776 % 256) as u8,
     }
 }

@@ -20,8 +20,8 @@ returns-then-pair_at c = pair_done _ _ _ _ c.pair_at.ensures c.if-pair_at.true
 pub returns-then-v-at : goal.returns-then-v-at
 returns-then-v-at c = none_left _ _ _ c.if-v-at.true
 
-pub overflow_cast-x : goal.overflow_cast-x
-overflow_cast-x c =
+pub overflow_cast-octet : goal.overflow_cast-octet
+overflow_cast-octet c =
     let x = get_or c.args.v.now c.args.at 0 in
     let octet : x < 256 = omega (arith, c.type_inv.v c.args.at) in search rules
 

@@ -1,11 +1,10 @@
 -- `message::sized` meets its contract: L is at least 3, and the verdict is where the parameters came to.
 -- Assumes nothing.
-use Rattle.std.proofs.Common.{◌-◌, length, take, drop, sym, ap, ◌∙◌, arith, Err}
+use Rattle.std.proofs.Common.{◌-◌, length, take, drop, ap, ◌∙◌, arith, Err}
 use Rattle.rules.specs.Table.{rules_of}
 use Rattle.rules.proofs.ContentLaw.{sound_rules}
 use Rattle.rules.proofs.Octets.{octets_known, octets-take, octets-drop}
-use Rattle.turns.proofs.Between.{near, place_of}
-use Rattle.message.specs.Verdict.{verdict_at}
+use Rattle.turns.proofs.Between.{near}
 use Rattle.message.proofs.Opening.{kind_alone, size_spoils, sized_verdict, early_short}
 use Rattle.message.proofs.sized.Goals as goal
 
@@ -22,64 +21,30 @@ returns-then-size-lt3 c =
     ∙ size_spoils _ c.args.s.now c.if-s-le1.false c.requires.1
     (omega (arith, c.type_inv.s 0)) c.if-size-lt3.true
 
-pub overflow_add-result : goal.overflow_add-result
-unfolding place_of
-overflow_add-result c =
+pub overflow_add-stop : goal.overflow_add-stop
+overflow_add-stop c =
     let o = c.args.s.now in
     let q = octets_known o c.type_inv.s in
     let b = octets-take (length o - 2) (drop 2 o) (octets-drop 2 o q) in
     omega (
       arith,
-      ap place_of c.in-Spoilt.is,
       near (rules_of c.args.book) (take (length o - 2) (drop 2 o)) (sound_rules c.args.book) b 0 _ _ 0
-          (omega (arith, c.type_inv.s 1)) (omega arith) _ c.through.ensures,
+          (omega (arith, c.type_inv.s 1)) (omega arith) _ c.through-stop.ensures,
     )
 
-pub overflow_add-place : goal.overflow_add-place
-unfolding place_of
-overflow_add-place c =
+pub verdict_at-requires : goal.verdict_at-requires
+verdict_at-requires c =
     let o = c.args.s.now in
     let q = octets_known o c.type_inv.s in
-    let b = octets-take (length o - 2) (drop 2 o) (octets-drop 2 o q) in
-    omega (
-      arith,
-      ap place_of c.in-Message.is,
-      near (rules_of c.args.book) (take (length o - 2) (drop 2 o)) (sound_rules c.args.book) b 0 _ _ 0
-          (omega (arith, c.type_inv.s 1)) (omega arith) _ c.through.ensures,
-    )
+    early_short (rules_of c.args.book) _ _ o c.if-s-le1.false c.requires.1
+    (omega (arith, c.type_inv.s 0)) c.if-size-lt3.false
+    c.wrapping_add_u8-sum.ensures.value c.through-stop.ensures (sound_rules
+    c.args.book) q
 
-pub overflow_cast-s : goal.overflow_cast-s
-overflow_cast-s c =
-    let o = c.args.s.now in
-    omega (
-      arith,
-      early_short (rules_of c.args.book) _ _ o c.if-s-le1.false c.requires.1 (omega (arith, c.type_inv.s 0))
-          c.if-size-lt3.false c.wrapping_add_u8-sum.ensures.value c.through.ensures (sound_rules c.args.book)
-          (octets_known o c.type_inv.s) _ _ _ _ c.in-Ends.is,
-    )
-
-pub returns-in-Message : goal.returns-in-Message
-unfolding verdict_at
-returns-in-Message c =
-    let o = c.args.s.now in
-    c.whole.ensures
-    ∙ sym (ap (verdict_at o) c.in-Message.is)
-    ∙ sized_verdict (rules_of c.args.book) _ _ o c.if-s-le1.false c.requires.1 (omega (arith, c.type_inv.s 0))
-    c.if-size-lt3.false c.wrapping_add_u8-sum.ensures.value c.through.ensures
-
-pub returns-in-Ends : goal.returns-in-Ends
-unfolding verdict_at
-returns-in-Ends c =
-    let o = c.args.s.now in
-    ap Err c.noted-in-Ends.ensures
-    ∙ sym (ap (verdict_at o) c.in-Ends.is)
-    ∙ sized_verdict (rules_of c.args.book) _ _ o c.if-s-le1.false c.requires.1 (omega (arith, c.type_inv.s 0))
-    c.if-size-lt3.false c.wrapping_add_u8-sum.ensures.value c.through.ensures
-
-pub returns-in-Spoilt : goal.returns-in-Spoilt
-unfolding verdict_at
-returns-in-Spoilt c =
-    let o = c.args.s.now in
-    sym (ap (verdict_at o) c.in-Spoilt.is)
-    ∙ sized_verdict (rules_of c.args.book) _ _ o c.if-s-le1.false c.requires.1 (omega (arith, c.type_inv.s 0))
-    c.if-size-lt3.false c.wrapping_add_u8-sum.ensures.value c.through.ensures
+pub returns : goal.returns
+returns c =
+    c.verdict_at.ensures
+    ∙ sized_verdict (rules_of c.args.book) _ _ c.args.s.now c.if-s-le1.false
+    c.requires.1
+    (omega (arith, c.type_inv.s 0)) c.if-size-lt3.false
+    c.wrapping_add_u8-sum.ensures.value c.through-stop.ensures

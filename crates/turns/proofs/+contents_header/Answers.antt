@@ -7,7 +7,7 @@ use Rattle.turns.proofs.+contents_header.Goals as goal
 
 pub contents-returns-then-good-length : goal.contents-returns-then-good-length
 contents-returns-then-good-length t c =
-    as_word _ _ _ _ _ _ _ _ c.spoilt.ensures
+    as_word _ _ _ _ _ _ _ _ c.word.ensures
     (held_wrong _ _ _ _ _ _ _ _ c.requires.0 _ c.if-s-end.false c.first_wrong-good.ensures c.if-good-length.true)
 
 pub contents-header-requires : goal.contents-header-requires

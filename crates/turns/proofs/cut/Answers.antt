@@ -16,12 +16,12 @@ overflow_add-start-2 c =
 
 pub returns-then-start-good : goal.returns-then-start-good
 returns-then-start-good c =
-    as_word _ _ _ _ _ _ _ _ c.spoilt.ensures
+    as_word _ _ _ _ _ _ _ _ c.word.ensures
     (cut_wrong _ _ _ _ _ _ _ _ c.requires.0 _ c.requires.1 c.reached-good.ensures
     c.if-start-good.true)
 
 pub returns-else-start-good : goal.returns-else-start-good
 returns-else-start-good c =
-    as_word _ _ _ _ _ _ _ _ c.ends.ensures
+    as_word _ _ _ _ _ _ _ _ c.word-else-start-good.ensures
     (cut_off _ _ _ _ _ _ _ _ c.requires.0 _ c.requires.1 c.reached-good.ensures
     c.if-start-good.false)
