@@ -536,7 +536,9 @@ fn two_digits(range: Range, kinds: &[u8], a: u8, b: u8) -> bool
     admits(kinds[b as usize], DIGIT) && rules::among(range.0, range.1, 10 * (a - 48) + (b - 48))
 }
 
-// Are there two octets at a place that make a number out of the range?
+// Are there two octets at a place that make a number out of the range? Octets and place, here, in `pair_along` and in
+// `date_along`, and no slice from there: the answer of `pair_along` is a place of the whole, and a date's four follow
+// by it.
 fn pair_at(range: Range, kinds: &[u8], v: &[u8], at: usize) -> bool
     requires { Rowed kinds.now × (at ≤ 6) }
     ensures { result ≡ (2 ≤? pair_stands range (list.drop at v.now)) }
