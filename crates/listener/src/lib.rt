@@ -297,7 +297,7 @@ fn parameter_of(number: u8, begun: u8) -> u8
 }
 
 // Parameters from a header on: to the message or the refusal that they come to, or to the last header on the way; one
-// octet where that is this one.
+// octet where that is this one. The ends are numbers, as `turns::Stop` has them and says why.
 fn by_turns(book: Book, room: u8, q: Spot, octets: &[u8], i: usize) -> Ran
     requires { T (in_range (rules_of book) (state.Waiting (stage.Header room) q)) × (i < list.length octets.now) }
     ensures { Onward (rules_of book) (state.Waiting (stage.Header room) q) octets.now i result }

@@ -11,7 +11,7 @@ ghost use Rattle.message.specs.Verdict.{verdict_at, verdict_of};
 use rules::{Book, Fault};
 
 // Where the parameters came to, as a verdict: 8 at the number of octets where these end early, 7 where octets follow
-// the message.
+// the message. They are numbers, as `turns::Stop` has them and says why.
 fn verdict_at(s: &[u8], number: u8, place: u16, parameter: u8) -> Result<u16, Fault>
     requires { number ≡ 8 → length s.now < 258 }
     ensures { result ≡ verdict_at s.now number place parameter }
