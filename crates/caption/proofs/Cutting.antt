@@ -14,7 +14,7 @@ use lib.Dec.{T}
 use Rattle.rules.specs.Tests.{◌=?◌, pick}
 use Rattle.rules.proofs.Tests.{clash, pick_yes, pick_not, both, le_of}
 use Rattle.rules.proofs.Returns.{T_of, holds}
-use Rattle.rules.proofs.Telling.{telling, pick_is, eq_is, same_is}
+use Rattle.rules.proofs.Telling.{telling, same_is}
 use Rattle.rules.proofs.Pairwise.{octets_are}
 use Rattle.caption.specs.Lines.{on_first, lines_of, before, behind, names}
 use Rattle.caption.specs.Caption.{lookup_from, entry_at}

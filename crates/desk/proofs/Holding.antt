@@ -22,8 +22,7 @@ use Rattle.rules.proofs.First.{index_most}
 use Rattle.desk.specs.References.{place_count, free, held, place_with, absent, may_stand, places_fit}
 use Rattle.desk.specs.Holding.{Fit, Open}
 
--- ---- the first place that is p
--- is p
+-- ---- the first place that is p: it is p
 pub first_is : (p : ℕ) (ps : List ℕ) → place_with p ps < length ps → get_or ps (place_with p ps) 0 ≡ p
 unfolding index_of pick
 first_is p [] h = absurd (omega arith)

@@ -11,7 +11,7 @@ use lib.ListN.{length, get_or, take, drop, take-append-drop}
 use Rattle.std.proofs.lemmas.List.{take_more, map-append}
 use Rattle.rules.specs.Tests.{pick}
 use Rattle.rules.specs.Table as table
-use Rattle.rules.specs.Table.{rules_of, listed, class_of, contents_fit, ascii}
+use Rattle.rules.specs.Table.{rules_of, listed, ascii}
 use Rattle.rules.specs.declared.Book.TheVariants.{PresentLenient}
 use Rattle.rules.specs.Counting.{carried_in}
 use Rattle.message.specs.declared.Part.{Part}
