@@ -21,8 +21,8 @@ fn low_octets(n: usize) -> [u8; 2]
     [octets[0], octets[1]]
 }
 
-// Octets over the first of others. A loop of its own, since std's copy would have the archive ask for memmove, which
-// the header does not name.
+// Octets over the first of others, as many as are told at run time. A loop of its own, since std's copy of so many
+// would have the archive ask for memmove, which the header does not name.
 fn copy(from: &[u8], to: &mut [u8])
     requires { length from.now ≤ length to.old }
     ensures { to.new ≡ laid from.now to.old }
