@@ -12,7 +12,8 @@ use desk::{Desk, Lamp, PLACES};
 // The octets of a desk's record.
 pub(crate) const DESK: usize = 52;
 
-// 0 unknown, and then no number; 1 known.
+// C: the record's octets 0 and 1, here, in `waiting_of`, `waiting_code` and `waiting_number`: 0 unknown, and then no
+// number; 1 known.
 #[tactic(auto, using(rules::proofs::Telling::telling), unfolding(crate::specs::DeskRecord::is_waiting))]
 fn is_waiting(code: u8, number: u8) -> bool
     ensures { result ≡ record_of.is_waiting code number }
@@ -33,7 +34,8 @@ fn waiting_of(code: u8, number: u8) -> Option<u8>
     }
 }
 
-// 0 unknown, 1 off, 2 on. Total, since `is_desk` has judged the code before: a TryFrom would refuse once more.
+// C: the record's octet 2, here and in `lamp_code`: 0 unknown, 1 off, 2 on. Total, since `is_desk` has judged the code
+// before: a TryFrom would refuse once more.
 #[tactic(auto, using(rules::proofs::Telling::telling), unfolding(crate::specs::DeskRecord::lamp_of))]
 fn lamp_of(code: u8) -> Lamp
     ensures { result ≡ record_of.lamp_of code }
@@ -60,7 +62,7 @@ pub(crate) fn is_record(cells: &[u8]) -> bool
     cells.len() == DESK && is_desk(cells[0], cells[1], cells[2], cells[3])
 }
 
-// A place: three octets, the low one first, as C has it; no number of Rust has three.
+// A place: three octets, the low one first, as C has it; the fourth of a u32 is 0.
 #[tactic(auto, unfolding(crate::specs::DeskRecord::place_in))]
 fn place_in(cells: &[u8]) -> u32
     ensures { result ≡ record_of.place_in cells.now }
@@ -144,6 +146,7 @@ fn lay_places(cells: &mut [u8], places: [u32; PLACES])
     }
 }
 
+// C: the record's first four octets, each where the header has it, and the places.
 pub(crate) fn encode(cells: &mut [u8], d: Desk)
     requires { length cells.old ≡ desk_size }
     ensures { cells.new ≡ record_of.desk_record d }

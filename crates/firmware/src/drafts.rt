@@ -21,8 +21,8 @@ fn low_octets(n: usize) -> [u8; 2]
     [octets[0], octets[1]]
 }
 
-// Octets over the first of others. A loop of its own, since std's copy would have the archive ask for memmove, which
-// the header does not name.
+// Octets over the first of others, as many as are told at run time. A loop of its own, since std's copy of so many
+// would have the archive ask for memmove, which the header does not name.
 fn copy(from: &[u8], to: &mut [u8])
     requires { length from.now ≤ length to.old }
     ensures { to.new ≡ laid from.now to.old }
@@ -137,14 +137,15 @@ fn lay_entry(cells: &mut [u8], e: Entry)
     }
 }
 
-// How many entries were laid down, and how many text octets.
+// How many entries were laid down, and how many text octets: the one goes into the record, the other into the word.
 #[derive(Clone, Copy)]
 struct Filled {
     count: usize,
     used: usize,
 }
 
-// The entries of the message's parameters, each at its place, and their texts one behind the other, in one walk.
+// The entries of the message's parameters, each at its place, and their texts one behind the other, in one walk. No
+// plainer as one value of the four, here and in `lay_draft`: all but the book are slices that C lends, used once.
 fn lay_entries(book: Book, octets: &[u8], cells: &mut [u8], texts: &mut [u8]) -> Filled
     requires { (cells.old ≡ replicate draft_size 0) × (text_size (rules_of book) octets.now ≤ length texts.old) }
     ensures count { result.count ≡ (draft_of (rules_of book) (message_in octets.now)).count }
@@ -167,7 +168,8 @@ fn lay_entries(book: Book, octets: &[u8], cells: &mut [u8], texts: &mut [u8]) ->
     Filled { count, used }
 }
 
-// The record of a message's draft, whatever it held, and the texts; how many text octets there are.
+// The record of a message's draft, whatever it held, and the texts; how many text octets there are. C: the kind, the
+// count and the edition are the record's octets 0 to 2.
 pub(crate) fn lay_draft(book: Book, octets: &[u8], cells: &mut [u8], texts: &mut [u8]) -> usize
     requires { (length cells.old ≡ draft_size) × (text_size (rules_of book) octets.now ≤ length texts.old) }
     ensures used { result ≡ text_size (rules_of book) octets.now }

@@ -32,7 +32,9 @@ const LISTENER: usize = 16;
 // The octets of a draft's record.
 const DRAFT: usize = 688;
 
-// The numbers that a listener's record holds; what a state does not use is 0.
+// The numbers that a listener's record holds (C: include/anthercup.h has each at its octet): a stage
+// by its number, and 0 for what a state does not use. `fields_waiting`, `fields_ended`, `fields_at` and
+// `fields_for` make them so.
 #[derive(Clone, Copy)]
 struct Fields {
     stage: u8,
@@ -48,6 +50,8 @@ struct Fields {
     parameter: u8,
 }
 
+// C lends each record as a slice, whose size is judged once: what reads or lays it (here, `lay`, `encode`, `read_into`,
+// `lay_shown` and `caption_into`) has the size in its `requires`.
 #[tactic(auto, unfolding(crate::specs::Record::fields_of))]
 fn fields_of(cells: &[u8]) -> Fields
     requires { length cells.now ≡ listener_size }
@@ -68,6 +72,9 @@ fn fields_of(cells: &[u8]) -> Fields
     }
 }
 
+// A listener of the record's edition and way. No plainer as one value of the two, here, in `opening_of`,
+// `parameter_of`, `ended_of` and `state_of`: a Listener holds the two numbers, unknown ones too, for which `listen`
+// answers 16.
 #[tactic(auto, using(rules::proofs::Telling::telling), unfolding(crate::specs::Record::known))]
 fn known(edition: u8, way: u8, ok: bool, state: State) -> Option<Listener>
     ensures { result ≡ record_of.known edition way ok state }
@@ -129,22 +136,25 @@ fn parameter_of(edition: u8, way: u8, f: Fields) -> Option<Listener>
     let class = rules::class_coded(f.class);
     let idle = f.number as u64 + f.spare as u64;
     let spot = spot_of(f);
-    if f.stage == 3 {
-        let unused = f.length as u64 + f.index as u64 + f.memory as u64 + idle;
-        let stage = Stage::Length {
-            class,
-            room: f.room,
-        };
-        known(edition, way, unused == 0, State::Waiting(stage, spot))
-    } else {
-        let stage = Stage::Content {
-            class,
-            length: f.length,
-            index: f.index,
-            memory: f.memory,
-            room: f.room,
-        };
-        known(edition, way, idle == 0, State::Waiting(stage, spot))
+    match f.stage {
+        3 => {
+            let unused = f.length as u64 + f.index as u64 + f.memory as u64 + idle;
+            let stage = Stage::Length {
+                class,
+                room: f.room,
+            };
+            known(edition, way, unused == 0, State::Waiting(stage, spot))
+        }
+        _ => {
+            let stage = Stage::Content {
+                class,
+                length: f.length,
+                index: f.index,
+                memory: f.memory,
+                room: f.room,
+            };
+            known(edition, way, idle == 0, State::Waiting(stage, spot))
+        }
     }
 }
 
@@ -280,6 +290,7 @@ fn fields_for(s: State) -> Fields
     }
 }
 
+// C: the sixteen octets of the record, each where the header has it.
 fn lay(cells: &mut [u8], edition: u8, way: u8, f: Fields)
     requires { length cells.old ≡ listener_size }
     ensures { cells.new ≡ record_of.laid_fields edition way f }
@@ -311,7 +322,8 @@ fn encode(cells: &mut [u8], l: Listener)
     lay(cells, l.edition, l.way, fields_for(state));
 }
 
-// The edition is 0 or 1, and the parameter one of at most 85: so the two share an octet.
+// C: the word's octets, where the header has them; 0 in what an answer has not. The edition is 0 or 1, and the
+// parameter one of at most 85: so the two share an octet.
 fn packed(edition: u8, number: u8, place: u16, parameter: u8, size: u16, taken: usize) -> u64
     requires { taken ≤ 258 }
     ensures { result ≡ word.packed edition number place parameter size taken }
@@ -329,6 +341,7 @@ fn refused(edition: u8, f: Fault, taken: usize) -> u64
     packed(edition, f.number, f.place, f.parameter, 0, taken)
 }
 
+// No plainer as a From, here and in `desk_word`: the edition, and here the octets taken, stand beside the answer.
 #[tactic(auto, unfolding(listener::specs::Told::told))]
 fn word_of(edition: u8, a: Answer, taken: usize) -> u64
     requires { taken ≤ 258 }
@@ -348,7 +361,8 @@ fn plain(number: u8) -> u64
     packed(0, number, 0, 0, 0, 0)
 }
 
-// The texts, and the record where they were laid down.
+// The texts, and the record where they were laid down. The edition and the way are known; they stay numbers here, in
+// `counted_by` and in `counted_in`, since the word names the edition by number (`exports.packed_word`).
 fn read_into(edition: u8, way: u8, octets: &[u8], cells: &mut [u8], texts: &mut [u8]) -> u64
     requires { length cells.old ≡ draft_size }
     ensures answer { result ≡ exports.packed_word edition (pack_of (rules_of (book_of edition way)) octets.now (length texts.old)) }
@@ -414,7 +428,7 @@ fn lay_shown(cells: &mut [u8], shown: Shown)
     }
 }
 
-// The record of the part that is found; as it was with a refusal.
+// The record of the part that is found; as it was with a refusal. `caption::find` judges the two numbers.
 fn caption_into(edition: u8, way: u8, octets: &[u8], directory: &[u8], cells: &mut [u8]) -> u64
     requires { length cells.old ≡ part_size }
     ensures answer { result ≡ exports.found_word (find_in edition way octets.now directory.now) }
@@ -430,6 +444,10 @@ fn caption_into(edition: u8, way: u8, octets: &[u8], directory: &[u8], cells: &m
         Err(fault) => refused(named, fault, 0),
     }
 }
+
+// C (include/anthercup.h): the exports below have these names, and take an edition and a way as numbers. Each asks for
+// the size and then for the numbers itself: one function for all would be handed closures over what C lends, and would
+// be no plainer than two lines of `if`.
 
 // Makes the record that of a new listener of an edition and a way, whatever it holds; another size than 16 is 17, an
 // unknown edition or way 16, and the record stays.

@@ -9,8 +9,7 @@ ghost use Rattle.firmware.specs.Sizes.{part_size};
 // The octets of a part's record.
 pub(crate) const PART: usize = 24;
 
-// A number in eight octets, the lowest first, over the beginning of what is lent: the record's octets, each laid where
-// C reads it (include/anthercup.h).
+// A number in eight octets, the lowest first, over the beginning of what is lent, as C reads it (include/anthercup.h).
 fn lay_number(cells: &mut [u8], n: usize)
     requires { 8 ≤ list.length cells.old }
     ensures { cells.new ≡ laid (record_of.low_first 8 n) cells.old }
@@ -18,7 +17,7 @@ fn lay_number(cells: &mut [u8], n: usize)
     cells[..8].copy_from_slice(&(n as u64).to_le_bytes());
 }
 
-// The side, and seven octets kept at 0.
+// C: the record's octet 0, the side as a number, and seven octets kept at 0.
 #[tactic(auto, unfolding(crate::specs::PartRecord::side_cells, rules::specs::Laying::laid))]
 fn lay_side(cells: &mut [u8], side: u8)
     requires { 8 ≤ list.length cells.old }

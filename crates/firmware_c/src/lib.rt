@@ -1,5 +1,5 @@
 // The exports of the archive for the boxes' firmware, which is C (include/anthercup.h): each calls the function of its
-// name in `firmware` and promises the same.
+// name in `firmware` and promises the same. C: the names, and an edition and a way as two numbers, are the header's.
 #![tactic(auto)]
 
 ghost use Rattle.std.specs.Prelude.{◌≡◌};

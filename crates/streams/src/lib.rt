@@ -34,9 +34,9 @@ fn fill<R: Read>(input: &mut R, octets: &mut [u8]) -> io::Result<usize>
     Ok(filled)
 }
 
-// The next octets, as many as there is room for or, where the input ends before, what is left of it. The room is an array
-// of the program's (showmsg, makemsg, rows, replay, parts, round): with a Vec it proved, but each program then had a
-// heap and could run out of memory, which none of them can.
+// The next octets, as many as there is room for or, where the input ends before, what is left of it. The room is an
+// array of the program's (showmsg, makemsg, rows, replay, parts, round): with a Vec it proved, but each program then
+// had a heap and could run out of memory, which none of them can.
 pub fn up_to<'a, R: Read>(input: &mut R, room: &'a mut [u8]) -> io::Result<&'a [u8]>
     ensures within { IfOk result (λ octets. length octets.now ≤ length room.old) }
     ensures taken { IfOk result (λ octets. Consumes (R.remaining input.old) (R.remaining input.new) octets.now) }

@@ -156,7 +156,11 @@ fn show_unknown(out: &mut impl Write) -> io::Result<()> {
 fn main(rt: HostRuntime) -> io::Result<()> {
     let mut out = io::writer(&rt);
     let texts = b"740912";
-    show(&mut out, two(0x80, time(6, 15, 14, 30), caller(1, 5)), texts)?;
+    show(
+        &mut out,
+        two(0x80, time(6, 15, 14, 30), caller(1, 5)),
+        texts,
+    )?;
     show(&mut out, one(0x82, code(0x0B, 0xFF)), texts)?;
     show(&mut out, one(0x82, code(0x13, 2)), texts)?;
     show(&mut out, two(0x82, code(0x13, 2), code(0x13, 5)), texts)?;

@@ -11,8 +11,8 @@ unfolding laid_fields
 returns c =
     let f = c.args.f in
     let cells = λ (low high : ℕ).
-        f.stage ∷ f.sum ∷ low ∷ high ∷ f.class ∷ f.length ∷ f.index ∷ f.memory ∷ f.room ∷ f.number
-        ∷ f.parameter ∷ c.args.edition ∷ c.args.way ∷ 0 ∷ 0 ∷ 0 ∷ [] in
+    f.stage ∷ f.sum ∷ low ∷ high ∷ f.class ∷ f.length ∷ f.index ∷ f.memory ∷ f.room ∷ f.number
+    ∷ f.parameter ∷ c.args.edition ∷ c.args.way ∷ 0 ∷ 0 ∷ 0 ∷ [] in
     let high : f.place / 256 % 256 ≡ f.place / 256 = omega arith in
     ap (λ (r : List ℕ). sets c.args.cells.now 0 (cells (get_or r 0 0) (get_or r 1 0))) c.to_le_bytes.ensures
     ∙ stored (cells (f.place % 256) (f.place / 256 % 256)) c.args.cells.now (omega arith)

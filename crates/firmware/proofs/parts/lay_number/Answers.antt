@@ -1,6 +1,6 @@
 -- `firmware::parts::lay_number` meets its contract: each octet is that of the quotient of the one before it.
 -- Assumes nothing.
-use Rattle.std.proofs.Common.{◌≡◌, ◌/◌, ◌%◌, ◌++◌, [], ◌∷◌, ℕ, List, length, drop, sym, ap, ◌∙◌, arith}
+use Rattle.std.proofs.Common.{◌≡◌, ◌/◌, ◌%◌, ◌++◌, [], ◌∷◌, ℕ, List, drop, ap, ◌∙◌, arith}
 use Rattle.rules.specs.Laying.{laid}
 use Rattle.firmware.specs.PartRecord.{low_first}
 use Rattle.firmware.proofs.parts.lay_number.Goals as goal
