@@ -54,11 +54,11 @@ enum Asked {
 }
 
 // Octets of a charge that are no digits, and the space of an extension (source 004, 5.4.18 and 5.4.27).
-const DASH: u8 = 0x2D;
+const DASH: u8 = b'-';
 
-const COMMA: u8 = 0x2C;
+const COMMA: u8 = b',';
 
-const SPACE: u8 = 0x20;
+const SPACE: u8 = b' ';
 
 // An octet beside the row that it is judged by.
 #[derive(Clone, Copy)]
@@ -79,7 +79,7 @@ fn admits(row: u8, kind: u8) -> bool
 fn digit_of(x: u8) -> u8
     ensures { result ≡ x - 48 }
 {
-    if 48 <= x { x - 48 } else { 0 }
+    x.saturating_sub(b'0')
 }
 
 // The digits of a date. No twins: tens may begin a number of the range, ones must end one; and `two_digits` goes by rows
@@ -122,7 +122,9 @@ fn pair_ok(range: Range, i: u8, m: u8, octet: Octet) -> bool
 fn day_ok(m: u8, octet: Octet) -> bool
     ensures { result ≡ day_by (admitted octet.row 1) m octet.value }
 {
-    admits(octet.row, DIGIT) && digit_of(octet.value) <= m && (m <= 21 || 1 <= digit_of(octet.value))
+    admits(octet.row, DIGIT)
+        && digit_of(octet.value) <= m
+        && (m <= 21 || 1 <= digit_of(octet.value))
 }
 
 // Two digits each for the month, a day of that month, the hour and the minute (document 02, Q-2). Matches over the
@@ -267,25 +269,25 @@ fn flags_ok(m: u8, x: u8) -> bool
     }
 }
 
-// A digit, or the comma.
-#[tactic(auto, using(rules::proofs::Telling::telling), unfolding(rules::specs::Charge::comma))]
-fn cipher_ok(octet: Octet) -> bool
-    ensures { result ≡ (comma octet.value or admitted octet.row 1) }
+// A digit, or this other octet.
+#[tactic(auto, using(rules::proofs::Telling::telling))]
+fn digit_or(other: u8, octet: Octet) -> bool
+    ensures { result ≡ (octet.value =? other or admitted octet.row 1) }
 {
-    octet.value == COMMA || admits(octet.row, DIGIT)
+    octet.value == other || admits(octet.row, DIGIT)
 }
 
 // Octet k of the ten behind the flags, where m is remembered: 0 a cost, 1 behind its comma, 2 units and a price, 3
 // behind its comma, 4 units alone, 5 nothing.
-#[tactic(auto, using(rules::proofs::Telling::telling), unfolding(rules::specs::Charge::amount_by, rules::specs::Charge::dash))]
+#[tactic(auto, using(rules::proofs::Telling::telling), unfolding(rules::specs::Charge::amount_by, rules::specs::Charge::comma, rules::specs::Charge::dash))]
 fn amount_ok(m: u8, k: u8, octet: Octet) -> bool
     ensures { result ≡ amount_by (admitted octet.row 1) m k octet.value }
 {
     match (m, k) {
-        (0, _) => cipher_ok(octet),
+        (0, _) => digit_or(COMMA, octet),
         (1 | 3, _) => admits(octet.row, DIGIT),
         (2 | 4, 0..=4) => admits(octet.row, DIGIT),
-        (2, _) => cipher_ok(octet),
+        (2, _) => digit_or(COMMA, octet),
         (4 | 5, _) => octet.value == DASH,
         _ => false,
     }
@@ -353,14 +355,6 @@ fn display_ok(i: u8, octet: Octet) -> bool
     }
 }
 
-// A digit, or a space.
-#[tactic(auto, using(rules::proofs::Telling::telling), unfolding(rules::specs::Extension::blank))]
-fn country_ok(octet: Octet) -> bool
-    ensures { result ≡ (blank octet.value or admitted octet.row 1) }
-{
-    octet.value == SPACE || admits(octet.row, DIGIT)
-}
-
 // One to three digits and spaces behind them, then seven characters (source 004, 5.4.27).
 #[tactic(auto, using(rules::proofs::Telling::telling), unfolding(rules::specs::Extension::extension_by, rules::specs::Extension::blank))]
 fn extension_ok(i: u8, m: u8, octet: Octet) -> bool
@@ -369,7 +363,7 @@ fn extension_ok(i: u8, m: u8, octet: Octet) -> bool
     match (i, m) {
         (0, _) => admits(octet.row, DIGIT),
         (2, 1) => octet.value == SPACE,
-        (1 | 2, _) => country_ok(octet),
+        (1 | 2, _) => digit_or(SPACE, octet),
         (3..=9, _) => admits(octet.row, NAME),
         _ => true,
     }
@@ -429,8 +423,7 @@ fn month_days(tens: u8, x: u8) -> u8
 fn days_left(m: u8, x: u8) -> u8
     ensures { result ≡ m - 10 * (x - 48) }
 {
-    let t = digit_of(x);
-    if t <= m / 10 { m - 10 * t } else { 0 }
+    m.saturating_sub(digit_of(x).saturating_mul(10))
 }
 
 // Of a date: the tens of the month, its days, what is left of them; behind the day the digit alone.
@@ -574,11 +567,7 @@ fn pair_along(range: Range, kinds: &[u8], v: &[u8], at: usize) -> usize
         row: kinds[x as usize],
         value: x,
     };
-    if tens_ok(range, octet) {
-        at + 1
-    } else {
-        at
-    }
+    if tens_ok(range, octet) { at + 1 } else { at }
 }
 
 // The days of the month that contents begin with.
