@@ -46,7 +46,7 @@ fn sized(book: Book, s: &[u8]) -> Result<u16, Fault>
     if size < 3 {
         return Err(rules::noted(2, 1));
     }
-    let sum = std::num::wrapping_add_u8(s[0], size);
+    let sum = s[0].wrapping_add(size);
     let stop = turns::through(book, &s[2..], size, sum);
     verdict_at(s, stop.number, stop.place + 2, stop.parameter)
 }

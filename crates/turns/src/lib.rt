@@ -53,7 +53,7 @@ fn check(s: &[u8], at: usize, sum: u8) -> u64
     requires { (at ≤ 255) × (at < long s.now) }
     ensures { (R : Rules) (count : ℕ) → Turned R s.now at 0 sum count (stop_in result) }
 {
-    if s[at] == std::num::wrapping_sub_u8(0, sum) {
+    if s[at] == 0u8.wrapping_sub(sum) {
         word(0, at + 1, 0, 0, 0)
     } else {
         word(6, at, 0, 0, 0)

@@ -1,6 +1,6 @@
 -- `message::sized` meets its contract: L is at least 3, and the verdict is where the parameters came to.
 -- Assumes nothing.
-use Rattle.std.proofs.Common.{◌-◌, length, take, drop, ap, ◌∙◌, arith, Err}
+use Rattle.std.proofs.Common.{◌-◌, length, take, drop, ap, ◌∙◌, refl, arith, Err}
 use Rattle.rules.specs.Table.{rules_of}
 use Rattle.rules.proofs.ContentLaw.{sound_rules}
 use Rattle.rules.proofs.Octets.{octets_known, octets-take, octets-drop}
@@ -38,7 +38,7 @@ verdict_at-requires c =
     let q = octets_known o c.type_inv.s in
     early_short (rules_of c.args.book) _ _ o c.if-s-le1.false c.requires.1
     (omega (arith, c.type_inv.s 0)) c.if-size-lt3.false
-    c.wrapping_add_u8-sum.ensures.value c.through-stop.ensures (sound_rules
+    refl c.through-stop.ensures (sound_rules
     c.args.book) q
 
 pub returns : goal.returns
@@ -47,4 +47,4 @@ returns c =
     ∙ sized_verdict (rules_of c.args.book) _ _ c.args.s.now c.if-s-le1.false
     c.requires.1
     (omega (arith, c.type_inv.s 0)) c.if-size-lt3.false
-    c.wrapping_add_u8-sum.ensures.value c.through-stop.ensures
+    refl c.through-stop.ensures

@@ -6,14 +6,12 @@ use Rattle.turns.proofs.check.Goals as goal
 
 pub returns-then-s-at : goal.returns-then-s-at
 returns-then-s-at c R count =
-    let asked = c.wrapping_sub_u8 in
     as_word R _ _ _ _ count _ _ c.word.ensures
-    (sums_up R _ _ _ _ count c.requires.1 refl _ asked.ensures.value (omega arith) (omega arith)
+    (sums_up R _ _ _ _ count c.requires.1 refl _ (omega arith) (omega arith) (omega arith)
     c.if-s-at.true)
 
 pub returns-else-s-at : goal.returns-else-s-at
 returns-else-s-at c R count =
-    let asked = c.wrapping_sub_u8 in
     as_word R _ _ _ _ count _ _ c.word-else-s-at.ensures
-    (sums_not R _ _ _ _ count c.requires.1 refl _ asked.ensures.value (omega arith) (omega arith)
+    (sums_not R _ _ _ _ count c.requires.1 refl _ (omega arith) (omega arith) (omega arith)
     c.if-s-at.false)
