@@ -127,9 +127,9 @@ fn day_ok(m: u8, octet: Octet) -> bool
         && (m <= 21 || 1 <= digit_of(octet.value))
 }
 
-// Two digits each for the month, a day of that month, the hour and the minute (document 02, Q-2). Matches over the
-// index, here, in `moment_ok` and in `duration_ok`, and no list of ranges: the day's is what the month left, and is no
-// constant.
+// Two digits each for the month, a day of that month, the hour and the minute (document 02, Q-2). A match over the index
+// and no list of ranges: the day's is what the month left, and is no constant. `moment_ok` goes on from here;
+// `duration_ok` has the same form, since a list of its three would be searched for each octet.
 #[tactic(auto, using(rules::proofs::Telling::telling))]
 fn date_ok(i: u8, m: u8, octet: Octet) -> bool
     ensures { result ≡ calendar_by (admitted octet.row 1) time_ranges i m octet.value }

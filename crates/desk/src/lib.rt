@@ -187,14 +187,9 @@ fn contents_of<'a>(book: Book, octets: &'a [u8], t: u8) -> Option<&'a [u8]>
     ensures some { IfSome result (λ v. counted_in (rules_of book) octets.now t ≡ some v.now) }
     ensures none { IfNone result (counted_in (rules_of book) octets.now t ≡ none) }
 {
-    let part = message::counted(book, octets, t);
-    match part {
-        Some(Part { start, length }) => {
-            let end = start + length as usize;
-            Some(&octets[start..end])
-        }
-        None => None,
-    }
+    let Part { start, length } = message::counted(book, octets, t)?;
+    let end = start + length as usize;
+    Some(&octets[start..end])
 }
 
 // What a message does to a reference: as 0DH says where it counts.

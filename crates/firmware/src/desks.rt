@@ -73,6 +73,7 @@ fn place_in(cells: &[u8]) -> u32
     u32::from_le_bytes([low, middle, high, 0])
 }
 
+// Place by place and not by `from_fn`: the clause says the whole list, which `record_of.places_in` takes off in turn.
 fn places_in(cells: &[u8]) -> [u32; PLACES]
     requires { length cells.now ≡ desk_size }
     ensures { result ≡ record_of.places_in place_count (drop 4 cells.now) }
@@ -102,20 +103,14 @@ pub(crate) fn decode(cells: &[u8]) -> Desk
 fn waiting_code(waiting: Option<u8>) -> u8
     ensures { result ≡ record_of.waiting_code waiting }
 {
-    match waiting {
-        None => 0,
-        Some(_) => 1,
-    }
+    u8::from(waiting.is_some())
 }
 
 #[tactic(auto, unfolding(crate::specs::DeskRecord::waiting_number))]
 fn waiting_number(waiting: Option<u8>) -> u8
     ensures { result ≡ record_of.waiting_number waiting }
 {
-    match waiting {
-        None => 0,
-        Some(number) => number,
-    }
+    waiting.unwrap_or(0)
 }
 
 #[tactic(auto, unfolding(crate::specs::DeskRecord::lamp_code))]

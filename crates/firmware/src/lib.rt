@@ -73,7 +73,8 @@ fn fields_of(cells: &[u8]) -> Fields
     }
 }
 
-// A listener of the record's edition and way. No plainer as one value of the two, here, in `opening_of`,
+// A listener of the record's edition and way, where what its stage does not use is 0 (`ok`, told as `record_of.known` has
+// it). No plainer as one value of the two, here, in `opening_of`,
 // `parameter_of`, `ended_of` and `state_of`: a Listener holds the two numbers, unknown ones too, for which `listen`
 // answers 16.
 #[tactic(auto, using(rules::proofs::Telling::telling), unfolding(crate::specs::Record::known))]
@@ -324,7 +325,7 @@ fn encode(cells: &mut [u8], l: Listener)
 }
 
 // C: the word's octets, where the header has them; 0 in what an answer has not. The edition is 0 or 1, and the
-// parameter one of at most 85: so the two share an octet.
+// parameter one of at most 85: so the two share an octet. Put together by powers of 256, as `word.packed` has it.
 fn packed(edition: u8, number: u8, place: u16, parameter: u8, size: u16, taken: usize) -> u64
     requires { taken ≤ 258 }
     ensures { result ≡ word.packed edition number place parameter size taken }
@@ -446,9 +447,9 @@ fn caption_into(edition: u8, way: u8, octets: &[u8], directory: &[u8], cells: &m
     }
 }
 
-// C (include/anthercup.h): the exports below have these names, and take an edition and a way as numbers. Each asks for
-// the size and then for the numbers itself: one function for all would be handed closures over what C lends, and would
-// be no plainer than two lines of `if`.
+// C (include/anthercup.h): the exports below have these names, and take an edition and a way as numbers. Those that are
+// told both and a record's size ask for the size and then for the numbers themselves: one function for them would be
+// handed closures over what C lends, and would be no plainer than two lines of `if`.
 
 // Makes the record that of a new listener of an edition and a way, whatever it holds; another size than 16 is 17, an
 // unknown edition or way 16, and the record stays.

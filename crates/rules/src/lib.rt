@@ -213,6 +213,8 @@ pub fn book_of(edition: u8, way: u8) -> Book
 }
 
 // The book of an edition and a way that are known; where one is unknown the answer is 16 (document 02, Q-5 and Q-11).
+// What to do with either each of `find`, `step_at`, `read_way` and `write` says itself: one function for them would be
+// handed a closure and ask that it may be called, and no public function asks anything.
 #[tactic(auto, using(crate::proofs::Telling::telling))]
 pub fn known_book(edition: u8, way: u8) -> Option<Book>
     ensures { result ≡ known_book edition way }

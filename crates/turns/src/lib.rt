@@ -181,7 +181,7 @@ fn contents(
 }
 
 // Goes along parameters from the first octet on, in a room and with the sum so far, to the end of the message, of the
-// octets, or to the octet that spoils it.
+// octets, or to the octet that spoils it. The word is taken apart by powers of 256, as `stop_in` has it.
 #[tactic(auto, unfolding(crate::specs::Turns::stop_in))]
 pub fn through(book: Book, s: &[u8], room: u8, sum: u8) -> Stop
     ensures { Turned (rules_of book) s.now 0 room sum 0 result }
