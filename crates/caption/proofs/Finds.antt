@@ -120,6 +120,15 @@ module _ (book : Book) where
     part_number (InMessage start n) = refl
     part_number (InDirectory start n) = refl
 
+    abbrev Unrefused : Result Shown Fault → Type 0
+    Unrefused r = ((told r).number ≡ 0) × ((f : Fault) → r ≡ Err f → ⊥)
+
+    pub by_caller-part : (p : Option Part) → Unrefused (Ok (by_caller p o d))
+    by_caller-part p = (part_number _, λ f e. clash cc)
+
+    pub by_name-part : (p : Option Part) → Unrefused (Ok (by_name (rules_of book) p o d))
+    by_name-part p = (part_number _, λ f e. clash cc)
+
     accepted_is : (v : Result ℕ Fault) (n : ℕ) → v ≡ Ok n →
         find_under (rules_of book) v o d ≡ Ok (by_name (rules_of book) (counted_at (rules_of book) o 0x07) o d)
     unfolding find_under

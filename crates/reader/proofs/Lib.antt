@@ -2,6 +2,7 @@
 pub mod Settled
 pub mod Promised
 pub mod One
+pub mod Copies
 pub mod Laying
 pub mod Turns
 pub mod Told

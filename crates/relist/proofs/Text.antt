@@ -1,12 +1,12 @@
 -- Texts cut at the first of an octet: what stands before it has none of it, so the cut is where it was put. Of a text
 -- this is its first line, of a line its key.
 -- Assumes nothing.
-use Rattle.std.proofs.Common.{◌≡◌, ℕ, suc, Bool, true, false, T, eqb, ◌⊎◌, List, [], ◌∷◌, ◌++◌, length, take, drop, sym, refl, ap, ◌∙◌, ap₂, inl, inr, arith, length-append, take-append-drop}
-use lib.Seq.{take-append_seam, drop-append_seam}
+use Rattle.std.proofs.Common.{◌≡◌, ℕ, suc, ◌<◌, get_or, Bool, true, false, T, eqb, ◌⊎◌, List, [], ◌∷◌, ◌++◌, length, take, drop, sym, refl, ap, ◌∙◌, ap₂, inl, inr, arith, length-append, take-append-drop}
+use lib.Seq.{take-append_seam, drop-append_seam, drop-cons}
 use lib.Dec.{eqb_refl}
 use Rattle.rules.specs.First.{index_of}
 use Rattle.rules.specs.Tests.{◌≤?◌, ◌=?◌, ◌or◌, pick}
-use Rattle.rules.proofs.Tests.{every_head, every_tail, le_of, eq_of}
+use Rattle.rules.proofs.Tests.{every_head, every_tail, le_of, eq_of, pick_not}
 use Rattle.rules.proofs.Returns.{holds}
 use Rattle.rules.proofs.Telling.{eq_is, telling}
 use Rattle.std.specs.List.{list_any}
@@ -55,6 +55,20 @@ module _ (b : ℕ) where
       go false e (inl h) = inl (rw (sym e) (ap suc h))
       go false e (inr w) =
           inr (x ∷ w.0, w.1, rw (sym e) (ap suc w.2), ap (λ (v : List ℕ). x ∷ v) w.3)
+
+  -- ---- a text looked through from a place on
+  module _ (t : List ℕ) (i : ℕ) (h : i < length t) where
+    -- the octet stands there
+    pub found_at : get_or t i 0 ≡ b → index_of b (drop i t) ≡ 0
+    found_at e =
+        ap (index_of b) (drop-cons t i 0 h ∙ ap (λ (x : ℕ). x ∷ drop (suc i) t) e) ∙ found (drop (suc i) t)
+
+    -- or from the next place on
+    pub sought_on : (get_or t i 0 ≡ b → ⊥) → index_of b (drop i t) ≡ suc (index_of b (drop (suc i) t))
+    unfolding index_of
+    sought_on n =
+        ap (index_of b) (drop-cons t i 0 h)
+        ∙ pick_not _ _ _ (λ k. n (eq_of _ _ k))
 
   -- two cuts of one text are one
   pub same_cut : (l t m u : List ℕ) → index_of b l ≡ length l → index_of b m ≡ length m → l ++ b ∷ t ≡ m ++ b ∷ u →

@@ -9,7 +9,8 @@ use lib.ListN.{get_or}
 use lib.Dec.{T}
 use Rattle.rules.specs.Tests.{◌=?◌, ◌and◌, ◌or◌, pick, every}
 use Rattle.rules.proofs.Tests.{both}
-use Rattle.rules.proofs.Returns.{holds}
+use Rattle.rules.proofs.Returns.{holds, T_of}
+use Rattle.rules.specs.declared.Class.{Class}
 use Rattle.rules.specs.Table.{Row, rules_of, old_book, plain_row, rows01, rows_old, row_in, row_of, listed_in, listed, rowed, class_of, rival_of}
 use Rattle.rules.specs.declared.Book.{Book}
 use Rattle.rules.specs.declared.Book.TheVariants.{PresentStrict, PresentLenient, OldStrict, OldLenient}
@@ -48,6 +49,23 @@ class_is PresentStrict t = refl
 class_is PresentLenient t = refl
 class_is OldStrict t = refl
 class_is OldLenient t = refl
+
+-- the same of any class that is the book's own
+pub in_old : (b : Book) (t : ℕ) (o r : Class) → o ≡ (rules_of b).others → old_book b ≡ true →
+    r ≡ (row_in (plain_row t o) rows_old t).class → r ≡ class_of (rules_of b) t
+unfolding old_book rules_of class_of row_of
+in_old PresentStrict t o r e f q = absurd (T_of false f)
+in_old PresentLenient t o r e f q = absurd (T_of false f)
+in_old OldStrict t o r e f q = q ∙ ap (λ (c : Class). (row_in (plain_row t c) rows_old t).class) e
+in_old OldLenient t o r e f q = q ∙ ap (λ (c : Class). (row_in (plain_row t c) rows_old t).class) e
+
+pub in_present : (b : Book) (t : ℕ) (o r : Class) → o ≡ (rules_of b).others → old_book b ≡ false →
+    r ≡ (row_in (plain_row t o) rows01 t).class → r ≡ class_of (rules_of b) t
+unfolding old_book rules_of class_of row_of
+in_present PresentStrict t o r e f q = q ∙ ap (λ (c : Class). (row_in (plain_row t c) rows01 t).class) e
+in_present PresentLenient t o r e f q = q ∙ ap (λ (c : Class). (row_in (plain_row t c) rows01 t).class) e
+in_present OldStrict t o r e f q = absurd (T_of false (sym f))
+in_present OldLenient t o r e f q = absurd (T_of false (sym f))
 
 -- ---- the pairs as the code has them, by the number of an edition
 unfoldable pub rivals : ℕ → ℕ → ℕ
