@@ -30,8 +30,8 @@ struct CallerText {
     length: usize,
 }
 
-// Where an octet first stands. relist has one too: one function for both would be a public one that says no more than
-// std's `position` does.
+// Where an octet first stands: a function of its own, since `unwrap_or` behind `position` leaves a goal open in one
+// piece. relist and desk have one too; one for all would be a public one that says no more than std's.
 fn place_of(x: u8, s: &[u8]) -> Option<usize>
     ensures { result ≡ position (λ (y : ℕ). y == x) s.now }
 {

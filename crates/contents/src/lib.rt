@@ -35,7 +35,7 @@ const MINUTES: Range = (0, 59);
 // The hours of a duration (document 02, Q-4).
 const LONG_HOURS: Range = (0, 99);
 
-// The kinds of content octets, each a bit of a row.
+// The kinds of content octets: numbers, since each is a bit of a row, and a row has several.
 const DIGIT: u8 = 1;
 
 const NUMBER: u8 = 2;
@@ -45,7 +45,7 @@ const NAME: u8 = 4;
 const LETTER: u8 = 8;
 
 // How the octets of a class are judged: by the code that the first of them is, by the kind that all of them are of, or
-// each by a rule of its own.
+// each by a rule of its own. A kind is its bit of a row.
 #[derive(Clone, Copy)]
 enum Asked {
     Code,
@@ -129,7 +129,7 @@ fn day_ok(m: u8, octet: Octet) -> bool
 
 // Two digits each for the month, a day of that month, the hour and the minute (document 02, Q-2). A match over the index
 // and no list of ranges: the day's is what the month left, and is no constant. `moment_ok` goes on from here;
-// `duration_ok` has the same form, since a list of its three would be searched for each octet.
+// `duration_ok` has three arms, which a list with a division and a remainder of the index would not make plainer.
 #[tactic(auto, using(rules::proofs::Telling::telling))]
 fn date_ok(i: u8, m: u8, octet: Octet) -> bool
     ensures { result ≡ calendar_by (admitted octet.row 1) time_ranges i m octet.value }
@@ -200,7 +200,7 @@ fn code_ok(c: Class, x: u8) -> bool
     }
 }
 
-// The same, and two digits for the seconds, if they are sent (source 004, 5.4.10).
+// A date, and two digits for the seconds, if they are sent (source 004, 5.4.10).
 #[tactic(auto, using(rules::proofs::Telling::telling))]
 fn moment_ok(i: u8, m: u8, octet: Octet) -> bool
     ensures { result ≡ calendar_by (admitted octet.row 1) (time_ranges ++ second_range ∷ []) i m octet.value }
@@ -226,7 +226,8 @@ fn duration_ok(i: u8, m: u8, octet: Octet) -> bool
 }
 
 // Do the flags of a charge say that it is not available (source 004, 5.4.18, bit 4)? By division, here and in
-// `in_units`, word for word as `missing` and `units` have it.
+// `in_units`, word for word as `missing` and `units` have it: a function for each, since one with the bit's number would
+// say no more.
 #[tactic(auto, using(rules::proofs::Telling::telling), unfolding(rules::specs::Charge::missing))]
 fn is_missing(flags: u8) -> bool
     ensures { result ≡ missing flags }
@@ -518,7 +519,7 @@ pub fn remember(c: Class, n: u8, i: u8, m: u8, x: u8) -> u8
 // `Option`: `good_front` says so. The table of rows is lent to each and its rows required (`Rowed`): named in each it
 // would be copied to the stack in each, and a type around it would hold that one constant.
 
-// Octets of a kind, as far as they go.
+// Octets of a kind, as far as they go: a `for`, since the clause `kind_front` takes the octets off in turn.
 fn kind_along(kinds: &[u8], kind: u8, v: &[u8]) -> usize
     requires { Rowed kinds.now × ContentKind kind }
     ensures { result ≡ kind_front kind v.now }

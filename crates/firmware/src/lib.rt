@@ -32,9 +32,8 @@ const LISTENER: usize = 16;
 // The octets of a draft's record.
 const DRAFT: usize = 688;
 
-// The numbers that a listener's record holds (C: include/anthercup.h has each at its octet): a stage
-// by its number, and 0 for what a state does not use. `fields_waiting`, `fields_ended`, `fields_at` and
-// `fields_for` make them so.
+// The numbers that a listener's record holds (C: include/anthercup.h has each at its octet): a stage by its number, and
+// 0 for what a state does not use. `fields_waiting`, `fields_ended`, `fields_at` and `fields_for` make them so.
 #[derive(Clone, Copy)]
 struct Fields {
     stage: u8,

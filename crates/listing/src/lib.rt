@@ -23,8 +23,8 @@ use rules::{Book, Class, Fault};
 // No listing is longer.
 const LONGEST: usize = 553;
 
-// A listing: its first `length` octets; those behind them are 0. It is handed out by value, with no heap: so it is an
-// array with a length, and `text` gives the slice.
+// A listing: its first `length` octets; those behind them are 0. Both fields are public and
+// `buffer_of` names them: so it is an array with a length, and `text` gives the slice.
 #[derive(Clone, Copy)]
 pub struct ListingText {
     pub octets: [u8; LONGEST],

@@ -75,7 +75,7 @@ pub struct Found {
     pub length: u8,
 }
 
-// Where contents stand.
+// Where contents stand: a part has no type, since it is asked for by one.
 #[derive(Clone, Copy)]
 pub struct Part {
     pub start: usize,

@@ -23,7 +23,7 @@ const HEARD: usize = 300;
 
 const LENT: usize = 200;
 
-// The number of no edition.
+// The number of no edition: 16 is promised of it.
 const UNKNOWN: u8 = 2;
 
 // A code that is no side: with a refusal `caption` leaves it (document 01, The caption).
@@ -93,7 +93,8 @@ fn say_mark(out: &mut impl Write, value: Flat) -> io::Result<()> {
     Ok(())
 }
 
-// Type, kind of value, and the value: its numbers, or a text in hex, behind its mark if it has one.
+// Type, kind of value, and the value: its numbers, or a text in hex, behind its mark if it has one. By the kind's number,
+// since `draft::has_text`, which is run here, takes it.
 fn say_entry(out: &mut impl Write, entry: Entry, texts: &[u8]) -> io::Result<()> {
     let flat = draft::flatten(entry.value);
     let form = u8::from(flat.form);

@@ -15,7 +15,8 @@ use std::io::{Read, Write};
 const MOST: usize = 300;
 
 // The numbers of an edition and a way, and octets that are heard and judged by them: numbers, since a listener is asked
-// by unknown ones too. A case is said by functions over a writer: a listing is octets, and Display prints text.
+// by unknown ones too. A case is said by functions over a writer: a listing is octets, and Display prints text. parts'
+// has a message that is read, and other methods.
 #[derive(Clone, Copy)]
 struct Case<'a> {
     edition: u8,
@@ -32,7 +33,8 @@ fn in_one_line(lines: &mut [u8]) {
     }
 }
 
-// A refusal with its place and its parameter.
+// A refusal with its place and its parameter, as parts says it behind a text: one for both would be longer, with its
+// contract, than what it saves.
 fn say_fault(out: &mut impl Write, fault: Fault) -> io::Result<()> {
     write!(
         out,

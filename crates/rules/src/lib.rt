@@ -473,7 +473,7 @@ pub fn is_strict(b: Book) -> bool
     matches!(b, Book::PresentStrict | Book::OldStrict)
 }
 
-// The lengths from the least to the most.
+// The lengths from the least to the most; crate `contents` has a range of its own, of digits.
 #[derive(Clone, Copy)]
 struct Lengths {
     least: u8,
@@ -546,7 +546,7 @@ pub fn class_fault(c: Class) -> u8
 }
 
 // Is a number from the first to the second? Told two numbers, as its clause `within (lo, hi)` has them; `Lengths` asks
-// it.
+// it. Over `contains` of a range a goal stays open.
 #[tactic(auto, using(crate::proofs::Telling::telling), unfolding(crate::specs::Contents::within))]
 pub fn among(lo: u8, hi: u8, x: u8) -> bool
     ensures { result ≡ within (lo, hi) x }

@@ -24,7 +24,8 @@ pub struct Stop {
     pub sum: u8,
 }
 
-// A stop as one number, and so in one register: that keeps `header` and `contents` one loop.
+// A stop as one number, and so in one register: that keeps `header` and `contents` one loop. By powers of 256, word for
+// word as `stop_in` has it.
 #[tactic(auto, using(crate::proofs::Words::unpacked))]
 fn word(number: u8, place: usize, room: u8, sum: u8, parameter: usize) -> u64
     requires { (place ≤ 65535) × (parameter ≤ 255) }
@@ -34,7 +35,8 @@ fn word(number: u8, place: usize, room: u8, sum: u8, parameter: usize) -> u64
     low + 4294967296 * (sum as u64) + 1099511627776 * (parameter as u64)
 }
 
-// The sum after the octets from a place to another (000, section 2).
+// The sum after the octets from a place to another (000, section 2); writer's `sum_of` begins at 0, and is not below
+// this crate.
 #[tactic(auto, using(rules::proofs::Sums::summing))]
 fn sum_on(s: &[u8], start: usize, end: usize, sum: u8) -> u8
     requires { (start ≤ end) × (end ≤ long s.now) }

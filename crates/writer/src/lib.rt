@@ -282,8 +282,8 @@ fn write_by(book: Book, draft: Draft, texts: &[u8], out: &mut [u8]) -> Result<u1
     Ok(size)
 }
 
-// The sum of octets modulo 256 (000, section 2). turns has a sum too, private, which goes on from a sum so far; this
-// one is public and begins at 0.
+// The sum of octets modulo 256 (000, section 2). turns has a sum too, which goes on from a sum so far: neither crate
+// stands on the other, and the law of both is one (rules/proofs/Sums).
 #[tactic(auto, using(rules::proofs::Sums::summing))]
 pub fn sum_of(s: &[u8]) -> u8
     ensures { result ≡ total s.now % 256 }
