@@ -82,8 +82,8 @@ fn digit_of(x: u8) -> u8
     x.saturating_sub(b'0')
 }
 
-// The digits of a date. No twins: tens may begin a number of the range, ones must end one; and `two_digits` goes by rows
-// alone, with no digit remembered.
+// The digits of a date. No twins: tens may begin a number of the range, ones must end one; and `two_digits` goes by
+// rows alone, with no digit remembered.
 #[tactic(auto, using(rules::proofs::Telling::telling), unfolding(rules::specs::ContentJudge::opens))]
 fn tens_ok(range: Range, octet: Octet) -> bool
     ensures { result ≡ tens_by (admitted octet.row 1) range octet.value }
@@ -127,8 +127,8 @@ fn day_ok(m: u8, octet: Octet) -> bool
         && (m <= 21 || 1 <= digit_of(octet.value))
 }
 
-// Two digits each for the month, a day of that month, the hour and the minute (document 02, Q-2). A match over the index
-// and no list of ranges: the day's is what the month left, and is no constant. `moment_ok` goes on from here;
+// Two digits each for the month, a day of that month, the hour and the minute (document 02, Q-2). A match over the
+// index and no list of ranges: the day's is what the month left, and is no constant. `moment_ok` goes on from here;
 // `duration_ok` has three arms, which a list with a division and a remainder of the index would not make plainer.
 #[tactic(auto, using(rules::proofs::Telling::telling))]
 fn date_ok(i: u8, m: u8, octet: Octet) -> bool
@@ -226,8 +226,8 @@ fn duration_ok(i: u8, m: u8, octet: Octet) -> bool
 }
 
 // Do the flags of a charge say that it is not available (source 004, 5.4.18, bit 4)? By division, here and in
-// `in_units`, word for word as `missing` and `units` have it: a function for each, since one with the bit's number would
-// say no more.
+// `in_units`, word for word as `missing` and `units` have it: a function for each, since one with the bit's number
+// would say no more.
 #[tactic(auto, using(rules::proofs::Telling::telling), unfolding(rules::specs::Charge::missing))]
 fn is_missing(flags: u8) -> bool
     ensures { result ≡ missing flags }

@@ -72,10 +72,9 @@ fn fields_of(cells: &[u8]) -> Fields
     }
 }
 
-// A listener of the record's edition and way, where what its stage does not use is 0 (`ok`, told as `record_of.known` has
-// it). No plainer as one value of the two, here, in `opening_of`,
-// `parameter_of`, `ended_of` and `state_of`: a Listener holds the two numbers, unknown ones too, for which `listen`
-// answers 16.
+// A listener of the record's edition and way, where what its stage does not use is 0 (`ok`, told as `record_of.known`
+// has it). No plainer as one value of the two, here, in `opening_of`, `parameter_of`, `ended_of` and `state_of`: a
+// Listener holds the two numbers, unknown ones too, for which `listen` answers 16.
 #[tactic(auto, using(rules::proofs::Telling::telling), unfolding(crate::specs::Record::known))]
 fn known(edition: u8, way: u8, ok: bool, state: State) -> Option<Listener>
     ensures { result ≡ record_of.known edition way ok state }

@@ -10,8 +10,8 @@ use std::io::Write;
 // The most octets that are read of a listing.
 const TEXT: usize = 8192;
 
-// Two lines, where round and writemsg say a refusal in other words, and rows and parts its parameter too: so there is no
-// Display of one.
+// Two lines, where round and writemsg say a refusal in other words, and rows and parts its parameter too: so there is
+// no Display of one.
 fn say_fault(out: &mut impl Write, fault: Fault) -> io::Result<()> {
     writeln!(out, "refused={}", fault.number)?;
     writeln!(out, "at={}", fault.place)

@@ -93,8 +93,8 @@ fn say_mark(out: &mut impl Write, value: Flat) -> io::Result<()> {
     Ok(())
 }
 
-// Type, kind of value, and the value: its numbers, or a text in hex, behind its mark if it has one. By the kind's number,
-// since `draft::has_text`, which is run here, takes it.
+// Type, kind of value, and the value: its numbers, or a text in hex, behind its mark if it has one. By the kind's
+// number, since `draft::has_text`, which is run here, takes it.
 fn say_entry(out: &mut impl Write, entry: Entry, texts: &[u8]) -> io::Result<()> {
     let flat = draft::flatten(entry.value);
     let form = u8::from(flat.form);

@@ -10,10 +10,10 @@ ghost use Rattle.turns.specs.Turns.{stop, stop_in, summed, Turned, fits_at, Head
 
 use rules::{Book, Class};
 
-// Where octets come to: behind a message (0); to their own end (8), where the last header on the way stands at
-// `place`, in a room, with the sum so far and so many parameters before it; or to the octet that spoils the message,
-// with its number and the parameter that it stands in, 0 for the checksum. Place and parameter count from the first
-// of the octets. Numbers for the ends, as in the word that it is read from: with an enum of the three all proved, and the
+// Where octets come to: behind a message (0); to their own end (8), where the last header on the way stands at `place`,
+// in a room, with the sum so far and so many parameters before it; or to the octet that spoils the message, with its
+// number and the parameter that it stands in, 0 for the checksum. Place and parameter count from the first of the
+// octets. Numbers for the ends, as in the word that it is read from: with an enum of the three all proved, and the
 // shortest message cost 3 instructions in 100 more, and with what else has changed 7, where 5 are the limit.
 #[derive(Clone, Copy)]
 pub struct Stop {
