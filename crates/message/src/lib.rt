@@ -12,6 +12,7 @@ use rules::{Book, Fault};
 
 // Where the parameters came to, as a verdict: 8 at the number of octets where these end early, 7 where octets follow
 // the message. They are numbers, as `turns::Stop` has them and says why.
+#[tactic(auto, using(rules::proofs::Telling::telling), unfolding(crate::specs::Verdict::verdict_at))]
 fn verdict_at(s: &[u8], number: u8, place: u16, parameter: u8) -> Result<u16, Fault>
     requires { number ≡ 8 → length s.now < 258 }
     ensures { result ≡ verdict_at s.now number place parameter }
@@ -91,6 +92,7 @@ pub fn octet(s: &[u8], i: usize) -> u8
 
 // The parameter that begins at a place, of any octets: of a message, the first begins at 2. Numbers are compared, and
 // no slice is matched: contents may be told that end beyond the octets, where there is none.
+#[tactic(auto, using(rules::proofs::Telling::telling), unfolding(crate::specs::Parts::parameter_at))]
 pub fn parameter(s: &[u8], at: usize) -> Option<Found>
     ensures { result ≡ parameter_at s.now at }
 {
