@@ -94,7 +94,7 @@ pub fn list<W: Write>(out: &mut W, octets: &[u8]) -> io::Result<()>
     out.write_all(listing.text())
 }
 
-// The most octets that a message has (document 01, The message).
+// The most octets that a message has (docs/RULES.md).
 pub const MESSAGE: usize = 258;
 
 // The most cases that rows, replay, round and parts read, so that each ends whatever comes. Each `main` goes over its
