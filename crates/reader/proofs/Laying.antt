@@ -9,7 +9,7 @@ use mathlib.Core.Path.{◌≡◌, refl, sym, ◌∙◌, ap, ap₂, subst}
 use mathlib.Core.List.{List, [], ◌∷◌, ◌++◌, append-nil, append_assoc}
 use native.Mathlib.Numerals.{add-one}
 use native.Mathlib.Omega.{arith}
-use lib.ListN.{length, length-append, length-set, length-replicate, take, drop, set, get_or, replicate, take-append-drop}
+use lib.ListN.{length, length-append, length-drop, length-set, length-replicate, take, drop, set, get_or, replicate, take-append-drop}
 use lib.Seq.{drop-drop, take-suc-set, drop-set-lt, length-take-le}
 use Rattle.rules.specs.Table.{Rules}
 use Rattle.rules.specs.declared.Fault.{Fault}
@@ -25,8 +25,15 @@ use Rattle.rules.specs.Laying.{laid, laid_at}
 use Rattle.rules.proofs.Laying.{laid_front, laid_behind, laid_length}
 use Rattle.draft.specs.Packing.{text_of, texts_of, entry_of, entries_of, draft_of}
 use Rattle.draft.proofs.Packing.{entries_length}
-use Rattle.reader.specs.Read.{stands, text_size, pack_of, draft_from, read_of}
-use Rattle.reader.proofs.Turns.{stood, Lie, founds_stand, size_within}
+use Rattle.reader.specs.Read.{text_with, stands, text_at, text_size, pack_of, draft_from, read_of}
+use Rattle.reader.proofs.Turns.{stood, Lie, founds_stand, size_within, text_here}
+
+-- a text found at a place is as long as it says
+pub text_long_lem : (R : Rules) (o : List ℕ) (at start n place : ℕ) → text_with start n place ≡ text_at R o at →
+    length (take n (drop start o)) ≡ n
+text_long_lem R o at start n place e =
+    let here = text_here R o 1 at (omega arith) start n place e in
+    length-take-le n (drop start o) (omega (arith, length-drop start o, here.lies))
 
 module _ (R : Rules) (o : List ℕ) where
   -- those found from the first parameter on
