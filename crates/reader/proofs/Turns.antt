@@ -8,6 +8,7 @@ use mathlib.Core.List.{List, [], ◌∷◌, ◌++◌}
 use native.Mathlib.Omega.{arith}
 use lib.ListN.{length, length-append, length-drop, take, drop}
 use lib.Seq.{length-take-le, take-nil, drop-drop, drop-length}
+use Rattle.rules.proofs.Tests.{clash}
 use Rattle.rules.proofs.Laying.{rest_whole}
 use Rattle.rules.specs.Table.{Rules}
 use Rattle.rules.specs.declared.Form.{Form}
@@ -24,7 +25,6 @@ use Rattle.draft.specs.declared.Entry.{Entry}
 use Rattle.draft.specs.Draft.{text_long}
 use Rattle.draft.specs.Meaning.{Meaning, date_is, code_is, state_is, text_is, carried_is, moment_is, duration_is, marked_is, kind_of, meant, text_in}
 use Rattle.draft.specs.Packing.{value_at, meaning_in, entry_of, text_of, entries_of, texts_of}
-use Rattle.rules.proofs.Tests.{clash}
 use Rattle.reader.specs.declared.Taken.{Taken}
 use Rattle.reader.specs.Read.{Text, text_with, parameter_with, standing, stands, taken_with, taken_from, taken_at, text_part, text_from, text_at, text_size}
 
@@ -320,6 +320,44 @@ module _ (R : Rules) (o : List ℕ) (f : Found) (used : ℕ) (v : List ℕ) (p :
       ∙ ap (λ (k : ℕ). drop (length v - k) v) same
       ∙ text_ends R f.kind v
       ∙ ap (λ (u : List ℕ). text_of R (parameter_with f.kind u)) p
+
+-- what was taken at a place is of the parameter that is found there
+module _ (R : Rules) (o : List ℕ) (at used : ℕ) where
+  pub record Took (t : Taken) : Type 0 where
+    pub found : Found
+    pub here : parameter_at o at ≡ Some found
+    pub entry : t.entry ≡ entry_of R used (stands o found)
+    pub text : t.text ≡ length (text_of R (stands o found))
+    pub place : t.place ≡ found.start + found.length
+
+  pub took : (t : Taken) → Some t ≡ taken_at R o at used → Took t
+  unfolding taken_at taken_from
+  took t = go (parameter_at o at) refl
+    where
+      go : (x : Option Found) → parameter_at o at ≡ x → Some t ≡ taken_from R o used x → Took t
+      go None p q = clash (cc q)
+      go (Some f) p q =
+          let z : t ≡ record {
+            entry = entry_of R used (stands o f);
+            text = length (text_of R (stands o f));
+            place = f.start + f.length;
+          } =
+          cc q in
+          record {
+            found = f;
+            here = p;
+            entry = ap (λ (x : Taken). x.entry) z;
+            text = ap (λ (x : Taken). x.text) z;
+            place = ap (λ (x : Taken). x.place) z;
+          }
+
+  pub took_none : None ≡ taken_at R o at used → parameter_at o at ≡ None
+  unfolding taken_at taken_from
+  took_none = go (parameter_at o at) refl
+    where
+      go : (x : Option Found) → parameter_at o at ≡ x → None ≡ taken_from R o used x → parameter_at o at ≡ None
+      go None p q = p
+      go (Some f) p q = clash (cc q)
 
 -- ---- the parameters that a walk finds
 unfoldable pub stood : List ℕ → List Found → List Parameter
