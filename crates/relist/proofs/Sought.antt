@@ -1,8 +1,9 @@
 -- The laws of Reading on lines and on the lines of some types, said over the place where an octet first stands.
 -- Assumes nothing.
-use Rattle.std.proofs.Common.{◌≡◌, ℕ, suc, ◌+◌, ◌<◌, ◌≤◌, List, length, drop, take_all, sym, refl, ap, ◌∙◌, arith, length-drop, length-take-le, eqb, Option, None}
+use Rattle.std.proofs.Common.{◌≡◌, ℕ, suc, ◌+◌, ◌<◌, ◌≤◌, Bool, true, false, List, length, drop, take_all, sym, refl, ap, ◌∙◌, arith, length-drop, length-take-le, eqb, Option, None}
 use Rattle.std.specs.List.{list_any}
 use Rattle.rules.specs.First.{index_of}
+use Rattle.relist.specs.First.{index_after}
 use Rattle.rules.proofs.First.{index_most}
 use Rattle.rules.proofs.Returns.{yes_le, no_le}
 use Rattle.rules.specs.Table.{Rules, Row, rival_of}
@@ -10,6 +11,12 @@ use Rattle.relist.specs.Relist.{line_in, among}
 use Rattle.relist.specs.Reading.{LineRead, RowRead}
 use Rattle.relist.proofs.Text.{among_is}
 use Rattle.relist.proofs.Reading as reading
+
+-- the octet that is sought is not the first
+after_some : (q : Bool) (k n : ℕ) → index_after q k ≡ suc n → (q ≡ false) × (k ≡ n)
+unfolding index_after
+after_some true k n e = absurd (omega arith)
+after_some false k n e = (refl, omega arith)
 
 -- ---- a line by its places, where its end was sought
 module _ (t : List ℕ) (at : ℕ) (i : at ≤ length t) (r : ℕ) (e : r ≡ at + index_of 0x0A (drop at t)) where
