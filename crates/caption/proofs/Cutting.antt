@@ -14,14 +14,14 @@ use lib.Dec.{T}
 use Rattle.rules.specs.Tests.{◌=?◌, pick}
 use Rattle.rules.proofs.Tests.{clash, pick_yes, pick_not, both, le_of}
 use Rattle.rules.proofs.Returns.{T_of, holds}
-use Rattle.rules.proofs.Telling.{telling, same_is}
+use Rattle.rules.proofs.Telling.{telling}
 use Rattle.rules.proofs.Pairwise.{octets_are}
 use Rattle.caption.specs.Lines.{on_first, lines_of, before, behind, names}
 use Rattle.caption.specs.Caption.{lookup_from, entry_at}
 
 -- ---- the search for an octet x, from an index on
 -- what the tests on a line tell
-pub ruleset line_words = (telling, same_is, found, index_most)
+pub ruleset line_words = (telling, found, index_most)
 
 -- ---- the first line of a directory ends at its first 0AH, or with it
 pub lines_cut : (d : List ℕ) → 0 < length d →

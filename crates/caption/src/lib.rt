@@ -44,7 +44,7 @@ fn is_for(caller: &[u8], line: &[u8]) -> bool
     ensures { result ≡ names caller.now line.now }
 {
     match place_of(b'=', line) {
-        Some(equals) => &line[..equals] == caller,
+        Some(equals) => rules::same_octets(&line[..equals], caller),
         None => false,
     }
 }

@@ -1,15 +1,18 @@
--- What is found in octets is what counts there; in each book the contents of 13H that count are one octet, those of
+-- Contents that count in an accepted message are never empty, so that they begin with the octet at their start; what is
+-- found in octets is what counts there; in each book the contents of 13H that count are one octet, those of
 -- 0BH one of two.
 -- Assumes nothing.
 use Rattle.std.proofs.Common.{Option, Some, None}
-use Prim.Native.Nat.{ℕ, ◌+◌, ◌-◌, ◌<◌}
+use Prim.Native.Nat.{ℕ, ◌+◌, ◌-◌, ◌≤◌, ◌<◌}
 use mathlib.Core.Path.{◌≡◌, refl, sym, ◌∙◌, ap, subst}
 use mathlib.Core.Bool.{Bool, false}
 use mathlib.Core.Logic.{◌⊎◌, inl, inr}
 use mathlib.Core.List.{List, [], ◌∷◌}
 use mathlib.Core.Option.{Option as Maybe, none, some}
+use native.Mathlib.Nat.{add-zero}
 use native.Mathlib.Omega.{arith}
-use lib.ListN.{take, drop, get_or}
+use lib.ListN.{length, length-take, length-drop, take, drop, get_or}
+use lib.Seq.{get_or-take, get_or-drop}
 use lib.Dec.{T}
 use Rattle.rules.specs.Tests.{◌≤?◌, ◌=?◌, ◌and◌, ◌or◌, pick}
 use Rattle.rules.proofs.Tests.{clash, pick_case, both, either, le_of}
@@ -18,14 +21,16 @@ use Rattle.rules.specs.Octets.{Octets, reference_of}
 use Rattle.rules.proofs.Octets.{octets-take, octets-drop, octet_at}
 use Rattle.rules.specs.Contents.{Range, Whole, columns, within, in_set, columns_fit}
 use Rattle.rules.specs.Table.{Rules, rules_of, listed_in, listed, class_of, row_of, row_in, any_octet, lamp_set, identity_set, contents_fit, whole}
+use Rattle.rules.proofs.ContentLaw.{lawful}
 use Rattle.rules.specs.declared.Book.{Book}
 use Rattle.rules.specs.declared.Book.TheVariants.{PresentStrict, PresentLenient, OldStrict, OldLenient}
 use Rattle.rules.specs.Message as message
-use Rattle.rules.specs.Message.{LegalMessage}
+use Rattle.rules.specs.Message.{LegalMessage, Accepts}
 use Rattle.rules.specs.Counting.{counted}
 use Rattle.rules.proofs.Counting.{counted_iff, legal_counts}
 use Rattle.message.specs.declared.Part.{Part}
 use Rattle.message.specs.Parts.{part_at, counted_at, part_of}
+use Rattle.message.proofs.Searching.{counted_part}
 use Rattle.desk.specs.declared.Change.TheVariants.{Nothing, Adds, Removes}
 use Rattle.desk.specs.References.{change_by}
 use Rattle.desk.proofs.Changes.{AddsReference}
@@ -38,6 +43,24 @@ legal_counted R m l t v e = legal_counts R m l t v ((counted_iff R m t v).0 e)
 
 legal_listed : (R : Rules) (m : message.Message) (t : ℕ) (v : List ℕ) → counted R m t ≡ some v → T (listed R t)
 legal_listed R m t v e = ((counted_iff R m t v).0 e).listed
+
+-- ---- contents that count in an accepted message hold at least one octet
+module _ (R : Rules) (o : List ℕ) (a : Accepts R o) (t start n : ℕ) (e : counted_at R o t ≡ part_at start n) where
+  holds : counted R a.0 t ≡ some (take n (drop start o))
+  unfolding part_of
+  holds = sym (counted_part R a.0 t) ∙ ap (λ (x : List ℕ). part_of x (counted_at R x t)) a.2 ∙ ap (part_of o) e
+
+  some_octets : 1 ≤ length (take n (drop start o))
+  some_octets =
+      (lawful (class_of R t)).least _ ((lawful (class_of R t)).fit_length _ (legal_counted R a.0 a.1 t _ holds))
+
+  pub start_inside : start < length o
+  start_inside = omega (arith, some_octets, length-take n (drop start o), length-drop start o)
+
+  pub first_octet : get_or (take n (drop start o)) 0 0 ≡ get_or o start 0
+  first_octet =
+      get_or-take n (drop start o) 0 0 (omega (arith, some_octets, length-take n (drop start o)))
+      ∙ get_or-drop start o 0 0 ∙ ap (λ (k : ℕ). get_or o k 0) (add-zero start)
 
 -- ---- what is found is what counts
 module _ (R : Rules) (o : List ℕ) (t : ℕ) (p : Option Part) (f : p ≡ counted_at R o t) where

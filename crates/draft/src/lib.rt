@@ -234,13 +234,16 @@ pub fn lies(texts: &[u8], start: usize, length: usize) -> bool
 // Texts are equal where both lie inside and their octets agree. From here to `same` a draft, or a part of it, and its
 // area go as two arguments, as `same`'s promise and its callers have them: a struct would be made for one call, anew in
 // each.
-#[tactic(auto, using(rules::proofs::Telling::telling, rules::proofs::Telling::same_is), unfolding(crate::specs::Same::same_text))]
+#[tactic(auto, using(rules::proofs::Telling::telling), unfolding(crate::specs::Same::same_text))]
 fn same_text(s: &[u8], x: Flat, t: &[u8], y: Flat) -> bool
     ensures { result ≡ same_text s.now x t.now y }
 {
     lies(s, x.start, x.length)
         && lies(t, y.start, y.length)
-        && s[x.start..x.start + x.length] == t[y.start..y.start + y.length]
+        && rules::same_octets(
+            &s[x.start..x.start + x.length],
+            &t[y.start..y.start + y.length],
+        )
 }
 
 #[tactic(auto, using(rules::proofs::Telling::telling, rules::proofs::Telling::same_is, crate::proofs::Meaning::forms_tell), unfolding(crate::specs::Same::same_flat, crate::specs::Same::same_numbers))]

@@ -512,7 +512,8 @@ fn run(book: Book, s: State, octets: &[u8]) -> Ran
     }
 }
 
-// What a state answers: less than it holds, so that a caller sees no stage.
+// What a state answers: less than it holds. The state comes back beside it, in `Heard`'s listener, so no answer has a
+// stage.
 impl From<State> for Answer {
     ghost from_gives = { λ s a. a ≡ answer_of s };
 

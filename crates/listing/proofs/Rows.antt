@@ -3,15 +3,19 @@
 -- Assumes nothing.
 use Rattle.std.proofs.Common.{Option, Some, None, zero, not, cond, filter, map}
 use Prim.Native.Nat.{ℕ, suc, ◌+◌, ◌-◌, ◌≤◌, ◌<◌}
-use mathlib.Core.Path.{◌≡◌, refl, ◌∙◌, ap}
+use mathlib.Core.Path.{◌≡◌, refl, sym, ◌∙◌, ap}
 use mathlib.Core.List.{List, [], ◌∷◌, ◌++◌, append-nil}
 use mathlib.Core.Bool.{Bool, true, false}
 use native.Mathlib.Omega.{arith}
 use lib.ListN.{length, get_or, take, drop, take-append-drop}
+use lib.Dec.{T}
 use Rattle.std.proofs.lemmas.List.{take_more, map-append}
-use Rattle.rules.specs.Tests.{pick}
+use Rattle.rules.specs.Tests.{◌≤?◌, ◌and◌, pick}
+use Rattle.rules.proofs.Returns.{and_t, and_f, yes_le, no_le, T_of}
+use Rattle.rules.specs.Pairwise.{same_octets}
 use Rattle.rules.specs.Table as table
-use Rattle.rules.specs.Table.{rules_of, listed, ascii}
+use Rattle.rules.specs.Table.{rules_of, listed, class_of, contents_fit, ascii}
+use Rattle.rules.specs.declared.Class.{Class}
 use Rattle.rules.specs.declared.Book.TheVariants.{PresentLenient}
 use Rattle.rules.specs.Counting.{carried_in}
 use Rattle.message.specs.declared.Part.{Part}
@@ -23,7 +27,7 @@ use Rattle.message.specs.Walk.{found_then, founds_from}
 use Rattle.listing.specs.declared.Row.{Row}
 use Rattle.listing.specs.Seen.{seen}
 use Rattle.std.proofs.lemmas.Grind.{common_steps}
-use Rattle.listing.specs.Listing.{line_text, written, written_one, written-append, line_of, lines_for, part_lines, rows_at, kind_line, carried_line, lines_at, number_line}
+use Rattle.listing.specs.Listing.{line_text, written, written_one, written-append, line_of, says_line, row_at, row_count, lines_for, part_lines, rows_at, kind_line, carried_line, lines_at, number_line}
 
 -- ---- where contents stand, they lie inside
 pub part_inside : (o : List ℕ) (t : ℕ) (p : Part) → counted_at (rules_of PresentLenient) o t ≡ Some p →
@@ -45,6 +49,36 @@ pub row_none : (o : List ℕ) (r : table.Row) → counted_at (rules_of PresentLe
     written (part_lines (rules_of PresentLenient) o r) ≡ []
 unfolding part_lines lines_for part_of written
 row_none o r e = ap (λ (x : Option Part). written (lines_for (rules_of PresentLenient) r (part_of o x))) e
+
+-- ---- a line compared with that of a row
+module _ (i : ℕ) (v l : List ℕ) where
+  abbrev said : Bool
+  said = suc i ≤? row_count and says_line (rules_of PresentLenient) (row_at i) v l
+
+  pub no_row_says : row_count ≤ i → false ≡ said
+  no_row_says h = and_f _ _ _ (no_le (suc i) row_count (omega arith)) refl
+
+  -- k is the row's type
+  module _ (h : i < row_count) (k : ℕ) (t : k ≡ (row_at i).kind) (c : Class) (e : c ≡ class_of (rules_of PresentLenient) k)
+      (b : Bool) (q : b ≡ contents_fit c v) where
+    row_fits : b ≡ contents_fit (class_of (rules_of PresentLenient) (row_at i).kind) v
+    row_fits = q ∙ ap (λ (k : Class). contents_fit k v) (e ∙ ap (class_of (rules_of PresentLenient)) t)
+
+    in_rows : (r : Bool) → r ≡ says_line (rules_of PresentLenient) (row_at i) v l → r ≡ said
+    in_rows r z = and_t r _ _ (yes_le (suc i) row_count (omega arith)) z
+
+    pub row_says_not : b ≡ false → false ≡ said
+    unfolding says_line
+    row_says_not z = in_rows false (and_f _ _ _ (sym row_fits ∙ z) refl)
+
+    module _ (z : b ≡ true) where
+      pub row_takes : T (contents_fit (class_of (rules_of PresentLenient) (row_at i).kind) v)
+      row_takes = T_of _ (sym row_fits ∙ z)
+
+      pub row_says_lem : (r : Bool) → r ≡ same_octets (line_text (line_of (rules_of PresentLenient) (row_at i) v)) l →
+          r ≡ said
+      unfolding says_line
+      row_says_lem r d = in_rows r (and_t r _ _ (sym row_fits ∙ z) d)
 
 -- ---- line after line
 abbrev rows : List table.Row

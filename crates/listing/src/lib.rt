@@ -445,14 +445,13 @@ fn put_line(row: &Row, contents: &[u8], page: &mut Page)
 }
 
 // Is this the line of a row with contents that fit its class?
-#[tactic(auto, using(rules::proofs::Telling::same_is))]
 fn is_line(row: &Row, contents: &[u8], line: &[u8]) -> bool
     requires { length (line_text (line_of (rules_of book.PresentLenient) (seen row.now) contents.now)) ≤ buffer_size }
     ensures { result ≡ same_octets (line_text (line_of (rules_of book.PresentLenient) (seen row.now) contents.now)) line.now }
 {
     let mut page: Page = ArrayVec::new();
     put_line(row, contents, &mut page);
-    page.as_slice() == line
+    rules::same_octets(page.as_slice(), line)
 }
 
 // The line of a row, if its type counts. The length goes by `as`: the proof of the slice's end does not close with
@@ -603,18 +602,16 @@ pub fn says(i: usize, contents: &[u8], line: &[u8]) -> bool
 }
 
 // Is this the line of a message's kind?
-#[tactic(auto, using(rules::proofs::Telling::same_is))]
 pub fn says_kind(x: u8, line: &[u8]) -> bool
     ensures { result ≡ same_octets (line_text (kind_line x)) line.now }
 {
-    kind_text(x) == line
+    rules::same_octets(kind_text(x), line)
 }
 
 // Is this the line that no parameter is carried?
-#[tactic(auto, using(rules::proofs::Telling::telling, rules::proofs::Telling::same_is), unfolding(crate::specs::Listing::carried_line, crate::specs::Listing::line_text, crate::specs::Numerals::decimal, crate::specs::Numerals::digits_by, rules::specs::Table::ascii))]
+#[tactic(auto, using(rules::proofs::Telling::telling), unfolding(crate::specs::Listing::carried_line, crate::specs::Listing::line_text, crate::specs::Numerals::decimal, crate::specs::Numerals::digits_by, rules::specs::Table::ascii))]
 pub fn says_end(line: &[u8]) -> bool
     ensures { result ≡ same_octets (line_text (carried_line 0)) line.now }
 {
-    let text: &[u8] = b"carried=0\n";
-    text == line
+    rules::same_octets(b"carried=0\n", line)
 }

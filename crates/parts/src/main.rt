@@ -57,8 +57,8 @@ fn say_edition(out: &mut impl Write, edition: u8) -> io::Result<()> {
 }
 
 fn say_whether(out: &mut impl Write, text: &str, same: bool) -> io::Result<()> {
-    let whether = if same { "same" } else { "other" };
-    writeln!(out, "{text} {whether}")
+    let whether = if same { " same\n" } else { " other\n" };
+    write!(out, "{text}{whether}")
 }
 
 // The text of a value, which lies in the area (document 01, Drafts): start and length as the draft has them, since

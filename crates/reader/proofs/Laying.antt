@@ -1,7 +1,7 @@
 -- How texts are laid down one behind the other, and entries taken one after the other: what holds between the turns
 -- of the loops.
 -- Assumes nothing.
-use Rattle.std.proofs.Common.{Result, Ok, Err, true, false}
+use Rattle.std.proofs.Common.{Result, Ok, Err, true, false, Some, None}
 use Rattle.std.specs.Result.{is_ok}
 use Rattle.rules.proofs.Tests.{clash}
 use Prim.Native.Nat.{ℕ, suc, ◌+◌, ◌-◌, ◌≤◌, ◌<◌}
@@ -9,7 +9,7 @@ use mathlib.Core.Path.{◌≡◌, refl, sym, ◌∙◌, ap, ap₂, subst}
 use mathlib.Core.List.{List, [], ◌∷◌, ◌++◌, append-nil, append_assoc}
 use native.Mathlib.Numerals.{add-one}
 use native.Mathlib.Omega.{arith}
-use lib.ListN.{length, length-append, length-set, length-replicate, take, drop, set, get_or, replicate, take-append-drop}
+use lib.ListN.{length, length-append, length-drop, length-set, length-replicate, take, drop, set, get_or, replicate, take-append-drop}
 use lib.Seq.{drop-drop, take-suc-set, drop-set-lt, length-take-le}
 use Rattle.rules.specs.Table.{Rules}
 use Rattle.rules.specs.declared.Fault.{Fault}
@@ -17,7 +17,7 @@ use Rattle.rules.specs.Message.{Parameter, most}
 use Rattle.message.specs.declared.Found.{Found}
 use Rattle.message.specs.Walk.{founds_from}
 use Rattle.message.specs.Parameters.{parameters_in, message_in}
-use Rattle.message.proofs.Walking.{founds_few}
+use Rattle.message.proofs.Walking.{founds_few, none_left, one_left, ended}
 use Rattle.draft.specs.declared.Entry.{Entry}
 use Rattle.draft.specs.declared.Draft.{Draft}
 use Rattle.draft.specs.Draft.{no_entry, empty_of}
@@ -25,8 +25,24 @@ use Rattle.rules.specs.Laying.{laid, laid_at}
 use Rattle.rules.proofs.Laying.{laid_front, laid_behind, laid_length}
 use Rattle.draft.specs.Packing.{text_of, texts_of, entry_of, entries_of, draft_of}
 use Rattle.draft.proofs.Packing.{entries_length}
-use Rattle.reader.specs.Read.{stands, text_size, pack_of, draft_from, read_of}
-use Rattle.reader.proofs.Turns.{stood, Lie, founds_stand, size_within}
+use Rattle.reader.specs.Read.{text_with, stands, text_at, text_size, taken_at, pack_of, draft_from, read_of}
+use Rattle.reader.specs.declared.Taken.{Taken}
+use Rattle.reader.proofs.Turns.{stood, Lie, founds_stand, size_within, Took, took, took_none, text_here}
+
+-- those that are left at a place, when so many were found before it
+abbrev pub founds_at : List ℕ → ℕ → ℕ → List Found
+founds_at o count place = founds_from (most - count) o place
+
+-- none are left after 85
+pub founds_full : (o : List ℕ) (count place : ℕ) → most ≤ count → founds_at o count place ≡ []
+founds_full o count place h = sym (none_left (most - count) o place (omega (arith, h)))
+
+-- a text found at a place is as long as it says
+pub text_long_lem : (R : Rules) (o : List ℕ) (at start n place : ℕ) → text_with start n place ≡ text_at R o at →
+    length (take n (drop start o)) ≡ n
+text_long_lem R o at start n place e =
+    let here = text_here R o 1 at (omega arith) start n place e in
+    length-take-le n (drop start o) (omega (arith, length-drop start o, here.lies))
 
 module _ (R : Rules) (o : List ℕ) where
   -- those found from the first parameter on
@@ -174,6 +190,29 @@ module _ (R : Rules) (o : List ℕ) where
               (taken.rest ∙ (let z : most - count ≡ suc (most - (count + 1)) = omega (arith, filled_room) in
               ap (λ (k : ℕ). replicate k no_entry) z));
         }
+
+  -- ---- taken one by one, each at the place behind the one before it
+  module _ (count place used : ℕ) (entries : List Entry)
+      (taken : TakenEntries (founds_at o count place) count used entries) (h : count < most) where
+    module _ (t : Taken) (e : Some t ≡ taken_at R o place used) where
+      one : Took R o place used t
+      one = took R o place used t e
+
+      on : founds_at o count place ≡ one.found ∷ founds_at o (count + 1) t.place
+      on =
+          one_left (most - count) o place (omega (arith, h)) one.found one.here
+          ∙ (let z : most - count - 1 ≡ most - (count + 1) = omega arith in
+          ap₂ (λ (n at : ℕ). one.found ∷ founds_from n o at) z (sym one.place))
+
+      pub turned_small : used + t.text ≤ length o
+      turned_small = sized_within one.found _ _ on used taken.sized t.text one.text
+
+      pub turned_more : TakenEntries (founds_at o (count + 1) t.place) (count + 1) (used + t.text)
+          (set entries count t.entry)
+      turned_more = filled_more one.found _ _ on count used entries taken t.entry t.text one.entry one.text
+
+  pub turned_end : (count place used : ℕ) → None ≡ taken_at R o place used → founds_at o count place ≡ []
+  turned_end count place used e = ended (most - count) o place (took_none R o place used e)
 
   pub filled_end : (left : List Found) → left ≡ [] → (count used : ℕ) (entries : List Entry) →
       TakenEntries left count used entries → (d : Draft) → d.kind ≡ get_or o 0 0 → d.edition ≡ R.edition →

@@ -1,17 +1,20 @@
 -- What a read answers, and what the text area then holds (document 01, Drafts; Numbers: 1 to 6, then 8, then 7, then
 -- 9; document 02, Q-11: 10).
 -- Assumes nothing.
-use Rattle.std.specs.Prelude.{ℕ, ◌+◌, List, length, take, drop, Result, Ok, Err, Option, Some, None}
+use Rattle.std.specs.Prelude.{ℕ, ◌+◌, ◌-◌, List, length, take, drop, Result, Ok, Err, Option, Some, None}
 use Rattle.rules.specs.Tests.{◌≤?◌, pick}
 use Rattle.rules.specs.Table.{Rules, rules_of}
 use Rattle.rules.specs.Editions.{known, book_of}
 use Rattle.rules.specs.Message.{Parameter}
 use Rattle.rules.specs.declared.Fault.{Fault}
+use Rattle.rules.specs.declared.Form.{Form}
+use Rattle.rules.specs.declared.Form.TheVariants.{DateValue, CodeValue, StateValue, TextValue, CarriedValue, MomentValue, DurationValue, MarkedValue}
 use Rattle.message.specs.Verdict.{verdict_of}
 use Rattle.message.specs.Parts.{parameter_at}
 use Rattle.message.specs.Parameters.{parameters_in, message_in}
 use Rattle.message.specs.declared.Found.{Found}
 use Rattle.draft.specs.declared.Draft.{Draft}
+use Rattle.draft.specs.declared.Entry.{Entry}
 use Rattle.draft.specs.Draft.{empty_of}
 use Rattle.rules.specs.Laying.{laid}
 use Rattle.rules.specs.Refusals.{noted}
@@ -84,6 +87,9 @@ stands o f = standing o f.kind f.start f.length
 
 -- the entry of the parameter at a place, its text to be packed at another; how long its text is; the place behind the
 -- parameter
+abbrev pub taken_with : Entry → ℕ → ℕ → Option Taken
+taken_with e n place = Some (record { entry = e; text = n; place = place })
+
 unfoldable pub taken_from : Rules → List ℕ → ℕ → Option Found → Option Taken
 taken_from R o used (Some one) =
     Some (record {
@@ -95,3 +101,33 @@ taken_from R o used None = None
 
 unfoldable pub taken_at : Rules → List ℕ → ℕ → ℕ → Option Taken
 taken_at R o at used = taken_from R o used (parameter_at o at)
+
+-- where the text of a parameter stands, how long it is, and the place behind the parameter, where it ends
+pub record Text : Type 0 where
+  pub start : ℕ
+  pub size : ℕ
+  pub place : ℕ
+
+abbrev pub text_with : ℕ → ℕ → ℕ → Option Text
+text_with start n place = Some (record { start = start; size = n; place = place })
+
+unfoldable pub text_from : Rules → List ℕ → Option Found → Option Text
+text_from R o (Some one) =
+    let l = length (text_of R (stands o one)) in
+    text_with (one.start + one.length - l) l (one.start + one.length)
+text_from R o None = None
+
+unfoldable pub text_at : Rules → List ℕ → ℕ → Option Text
+text_at R o at = text_from R o (parameter_at o at)
+
+-- how long the text of a value of this kind is that n octets of contents say: it is all of them, those behind the first
+-- (document 02, Q-4), or there is none
+unfoldable pub text_part : Form → ℕ → ℕ
+text_part DateValue n = 0
+text_part CodeValue n = 0
+text_part StateValue n = 0
+text_part TextValue n = n
+text_part CarriedValue n = n
+text_part MomentValue n = 0
+text_part DurationValue n = 0
+text_part MarkedValue n = n - 1

@@ -266,18 +266,22 @@ pub fn entry(book: Book, octets: &[u8], at: usize, used: usize) -> Option<Taken>
     })
 }
 
-// An entry for each parameter; the other places are not used. Each is stored at the draft's own number of entries: over
-// `zip` with the places that number would have to be counted too.
+// An entry for each parameter, one behind the other as `entry` takes them; the other places are not used. `entry` tells
+// the next place, so no iterator goes along; each is stored at the draft's own number of entries.
 fn draft_of(book: Book, octets: &[u8]) -> Draft
     ensures { result ≡ draft_of (rules_of book) (message_in octets.now) }
 {
     let mut draft = draft::empty(rules::edition_of(book), message::octet(octets, 0));
+    let mut place: usize = 2;
     let mut used: usize = 0;
-    for found in Parameters::new(octets, MOST) {
-        let entry = entry_of(book, found.kind, contents_of(octets, found), used);
-        draft.entries[draft.count] = entry;
+    for _ in 0..MOST {
+        let Some(taken) = entry(book, octets, place, used) else {
+            break;
+        };
+        draft.entries[draft.count] = taken.entry;
         draft.count += 1;
-        used += draft::text_length(entry.value);
+        used += taken.text;
+        place = taken.place;
     }
     draft
 }

@@ -4,6 +4,7 @@ pub mod Values
 pub mod Said
 pub mod Digits
 pub mod Reading
+pub mod Sought
 pub mod Sealing
 pub mod Rows
 pub mod Answering

@@ -3,7 +3,7 @@
 -- of 264 octets at most and two octets more: so no line of another length is the row's, and what stands between its
 -- marks is the value.
 -- Assumes nothing.
-use Rattle.std.proofs.Common.{◌≡◌, ℕ, suc, ◌+◌, ◌-◌, ◌<◌, ◌≤◌, Bool, true, false, T, List, length, take, drop, sym, refl, ap, ◌∙◌, ap₂, arith, length-append, length-drop, length-take-le, take_all, drop-drop, eqb, subst, Option, Some, None}
+use Rattle.std.proofs.Common.{◌≡◌, ℕ, suc, ◌+◌, ◌-◌, ◌<◌, ◌≤◌, Bool, true, false, T, List, length, take, drop, sym, refl, ap, ◌∙◌, ap₂, arith, length-append, length-drop, length-take, length-take-le, take_all, drop-drop, eqb, subst, Option, Some, None}
 use lib.Seq.{take-append_seam, drop-append_seam}
 use Rattle.rules.specs.First.{index_of}
 use Rattle.rules.specs.Tests.{◌≤?◌, ◌and◌}
@@ -90,6 +90,11 @@ module _ (t : List ℕ) (at : ℕ) (i : at ≤ length t) where
 -- ---- a line that a row says
 module _ (R : Rules) (r : Row) (l : List ℕ) (s : T (row_says R r l)) where
   -- its contents
+  pub says_some : 1 ≤ length (row_contents R r l)
+  says_some =
+      (lawful (class_of R r.kind)).least _
+      ((lawful (class_of R r.kind)).fit_length (row_contents R r l) (says_fit R r l s))
+
   pub says_few : length (row_contents R r l) ≤ 253
   says_few =
       (lawful (class_of R r.kind)).most _
@@ -115,6 +120,10 @@ module _ (R : Rules) (r : Row) (l : List ℕ) (s : T (row_says R r l)) where
   not_longer h = let n = says_long in omega arith
 
 -- ---- what was read
+-- it lies in the area
+pub held_inside : (v area : List ℕ) (n : ℕ) → Holds v area n → n ≤ length area
+held_inside v area n h = omega (arith, h.long, ap length h.octets, length-take n area)
+
 pub held_long : (v area : List ℕ) (n : ℕ) → Holds v area n → n ≡ length (take n area)
 held_long v area n h = h.long ∙ ap length (sym h.octets)
 

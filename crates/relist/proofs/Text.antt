@@ -1,10 +1,12 @@
 -- Texts cut at the first of an octet: what stands before it has none of it, so the cut is where it was put. Of a text
 -- this is its first line, of a line its key.
 -- Assumes nothing.
-use Rattle.std.proofs.Common.{◌≡◌, ℕ, suc, ◌<◌, get_or, Bool, true, false, T, eqb, ◌⊎◌, List, [], ◌∷◌, ◌++◌, length, take, drop, sym, refl, ap, ◌∙◌, ap₂, inl, inr, arith, length-append, take-append-drop}
+use Rattle.std.proofs.Common.{◌≡◌, ℕ, suc, ◌<◌, get_or, Bool, true, false, T, eqb, ◌⊎◌, List, [], ◌∷◌, ◌++◌, length, take, drop, ◌≤◌, sym, refl, ap, ◌∙◌, ap₂, inl, inr, arith, length-append, take-append-drop}
+use lib.ListN.{drop_of_length-le}
 use lib.Seq.{take-append_seam, drop-append_seam, drop-cons}
 use lib.Dec.{eqb_refl}
 use Rattle.rules.specs.First.{index_of}
+use Rattle.relist.specs.First.{index_after}
 use Rattle.rules.specs.Tests.{◌≤?◌, ◌=?◌, ◌or◌, pick}
 use Rattle.rules.proofs.Tests.{every_head, every_tail, le_of, eq_of, pick_not}
 use Rattle.rules.proofs.Returns.{holds}
@@ -21,6 +23,15 @@ after_some true k n e = absurd (omega arith)
 after_some false k n e = (refl, omega arith)
 
 module _ (b : ℕ) where
+  -- the place goes on from octet to octet
+  pub index_goes : (x : ℕ) (l : List ℕ) → index_of b (x ∷ l) ≡ index_after (eqb x b) (index_of b l)
+  unfolding index_of index_after pick ◌=?◌
+  index_goes x l = go (eqb x b)
+    where
+      go : (q : Bool) → pick q 0 (suc (index_of b l)) ≡ index_after q (index_of b l)
+      go true = refl
+      go false = refl
+
   found : (t : List ℕ) → index_of b (b ∷ t) ≡ 0
   unfolding index_of pick ◌=?◌
   found t = ap (λ (q : Bool). pick q 0 (suc (index_of b t))) (holds (eqb b b) (eqb_refl b))
@@ -69,6 +80,11 @@ module _ (b : ℕ) where
     sought_on n =
         ap (index_of b) (drop-cons t i 0 h)
         ∙ pick_not _ _ _ (λ k. n (eq_of _ _ k))
+
+  -- nothing stands behind the end
+  pub nowhere : (t : List ℕ) (i : ℕ) → length t ≤ i → index_of b (drop i t) ≡ 0
+  unfolding index_of
+  nowhere t i h = ap (index_of b) (drop_of_length-le t {i = i} h)
 
   -- two cuts of one text are one
   pub same_cut : (l t m u : List ℕ) → index_of b l ≡ length l → index_of b m ≡ length m → l ++ b ∷ t ≡ m ++ b ∷ u →

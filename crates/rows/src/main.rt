@@ -24,12 +24,10 @@ struct Case<'a> {
     octets: &'a [u8],
 }
 
-// Line ends become spaces.
+// Line ends become spaces. Each octet is stored, changed or not: a store under the test would go octet by octet.
 fn in_one_line(lines: &mut [u8]) {
     for x in lines {
-        if *x == b'\n' {
-            *x = b' ';
-        }
+        *x = if *x == b'\n' { b' ' } else { *x };
     }
 }
 
@@ -107,13 +105,11 @@ impl Case<'_> {
 
 // Says whether there was one more: none where the input ends or a length is too large for any.
 fn next(input: &mut impl Read, out: &mut impl Write) -> io::Result<bool> {
-    let Some(numbers) = streams::exactly::<2, _>(input)? else {
+    let Some(head) = streams::exactly::<4, _>(input)? else {
         return Ok(false);
     };
-    let [edition, way] = numbers;
-    let Some(n) = streams::number(input)? else {
-        return Ok(false);
-    };
+    let [edition, way, high, low] = head;
+    let n = u16::from_be_bytes([high, low]);
     let mut room = [0u8; MOST];
     let Some(room) = room.get_mut(..n as usize) else {
         return Ok(false);

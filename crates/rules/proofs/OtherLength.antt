@@ -1,16 +1,17 @@
 -- The lengths of a class as the code has them: from the least to the most, and perhaps one other.
 -- Assumes nothing.
 use mathlib.Core.Path.{◌≡◌}
-use mathlib.Core.Bool.{Bool, false, ◌||◌}
-use Prim.Native.Nat.{ℕ}
+use mathlib.Core.Bool.{Bool, true, false, ◌||◌}
+use mathlib.Core.List.{List}
+use Prim.Native.Nat.{ℕ, ◌≤◌, ◌<◌}
 use lib.Dec.{eqb}
 use native.Mathlib.Omega.{arith}
 use Rattle.std.specs.Prelude.{Option, Some, None}
 use Rattle.rules.specs.Tests.{◌=?◌, ◌≤?◌, ◌and◌}
 use Rattle.rules.proofs.Tests.{of_eq, eq_of, both, join, le_of, of_le}
 use Rattle.rules.proofs.Returns.{same_truth}
-use Rattle.rules.proofs.Telling.{or_is}
-use Rattle.rules.specs.Contents.{within, in_set}
+use Rattle.rules.proofs.Telling.{or_is, telling}
+use Rattle.rules.specs.Contents.{Range, within, in_set, some_length}
 use Rattle.rules.specs.Codes.{ranges}
 use Rattle.rules.specs.Judge.{range_possible, some_possible}
 
@@ -35,8 +36,29 @@ unfolding ranges in_set is_other
 lengths_are l m n None = grind (arith, or_is)
 lengths_are l m n (Some o) = grind (arith, or_is, is_within o n)
 
+-- a number that is not among the first lengths is one of all where it is the other one
+pub other_length_lem : (l m o n : ℕ) (rs : List Range) → rs ≡ ranges l m (Some o) → within (l, m) n ≡ false →
+    eqb n o ≡ in_set rs n
+unfolding is_other
+other_length_lem l m o n rs e f = rw e grind (arith, f, lengths_are l m n (Some o))
+
 pub possible_are : (l m n : ℕ) (o : Option ℕ) →
     some_possible (ranges l m o) n ≡ (range_possible (l, m) n || other_possible o n)
 unfolding ranges some_possible other_possible
 possible_are l m n None = grind (arith, or_is)
 possible_are l m n (Some o) = grind (arith, or_is)
+
+-- ---- whether they hold a length at all
+module _ (l m o : ℕ) (rs : List Range) where
+  pub first_some : (x : Option ℕ) → rs ≡ ranges l m x → l ≤ m → some_length rs ≡ true
+  unfolding ranges some_length
+  first_some None e h = rw e grind (arith, telling)
+  first_some (Some n) e h = rw e grind (arith, telling)
+
+  pub none_some : rs ≡ ranges l m None → m < l → some_length rs ≡ false
+  unfolding ranges some_length
+  none_some e h = rw e grind (arith, telling)
+
+  pub other_some : rs ≡ ranges l m (Some o) → m < l → some_length rs ≡ true
+  unfolding ranges some_length
+  other_some e h = rw e grind (arith, telling)

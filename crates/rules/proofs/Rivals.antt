@@ -8,7 +8,7 @@ use Prim.Native.Nat.{ℕ, ◌<◌}
 use lib.ListN.{get_or}
 use lib.Dec.{T}
 use Rattle.rules.specs.Tests.{◌=?◌, ◌and◌, ◌or◌, pick, every}
-use Rattle.rules.proofs.Tests.{both}
+use Rattle.rules.proofs.Tests.{pick_not, eq_of, both}
 use Rattle.rules.proofs.Returns.{holds, T_of}
 use Rattle.rules.specs.declared.Class.{Class}
 use Rattle.rules.specs.Table.{Row, rules_of, old_book, plain_row, rows01, rows_old, row_in, row_of, listed_in, listed, rowed, class_of, rival_of}
@@ -20,6 +20,17 @@ use Rattle.rules.proofs.Table.{tabled, at}
 pub same_table : (f g : ℕ → ℕ) (n k : ℕ) → tabled f 0 n ≡ tabled g 0 n → k < n → f k ≡ g k
 same_table f g n k e h = sym (at f n k h) ∙ ap (λ (l : List ℕ). get_or l k 0) e ∙ at g n k h
 
+-- a type that is not a row's has the class that the other rows give it
+pub row_past : (w : Class) (d r : Row) (rs : List Row) (t : ℕ) → (t ≡ r.kind → ⊥) → w ≡ (row_in d rs t).class →
+    w ≡ (row_in d (r ∷ rs) t).class
+unfolding row_in
+row_past w d r rs t n e = e ∙ sym (ap (λ (q : Row). q.class) (pick_not _ _ _ (λ x. n (eq_of _ _ x))))
+
+pub last_row : (w : Class) (d : Row) (t : ℕ) → w ≡ d.class → w ≡ (row_in d [] t).class
+unfolding row_in
+last_row w d t e = e
+
+-- ---- the types with a row: those whose class is neither carried nor unlisted
 listed_in_lem : (d : Row) (rs : List Row) (t : ℕ) → rowed d.class ≡ false →
     T (every (λ (r : Row). rowed r.class) rs) → rowed (row_in d rs t).class ≡ listed_in rs t
 unfolding row_in listed_in every pick ◌or◌

@@ -55,15 +55,18 @@ not_both n xs a left left' q e (b, short, f, end) =
       ap (λ (x : List ℕ). length x) end,
     )
 
+-- where they end within so many, nothing is left
+ends : (n : ℕ) (xs left : List ℕ) → EndsWithin n (Some xs) (Some left) → left ≡ []
+ends n xs left (a, short, f, end) = end
+
 pub exactly_settled : (n : ℕ) (xs left left' : List ℕ) (r r' : Option (List ℕ)) → Exactly n xs left r →
-    Exactly n xs left' r' → r ≡ r'
-exactly_settled n xs left left' None None p q = refl
+    Exactly n xs left' r' → (r ≡ r') × (left ≡ left')
+exactly_settled n xs left left' None None p q = (refl, ends n xs left p ∙ sym (ends n xs left' q))
 exactly_settled n xs left left' None (Some b) p q = absurd (not_both n xs b left' left q.0 q.1 p)
 exactly_settled n xs left left' (Some a) None p q = absurd (not_both n xs a left left' p.0 p.1 q)
 exactly_settled n xs left left' (Some a) (Some b) p q =
-    ap Some
-    (up_to_settled n xs a b left left' p.1 (omega (arith, p.0)) (λ l. absurd (omega (arith, p.0, l)))
-    q.1 (omega (arith, q.0)) (λ l. absurd (omega (arith, q.0, l)))).0
+    let same = up_to_settled n xs a b left left' p.1 (omega (arith, p.0)) (λ l. absurd (omega (arith, p.0, l)))
+    q.1 (omega (arith, q.0)) (λ l. absurd (omega (arith, q.0, l))) in (ap Some same.0, same.1)
 
 -- two octets say one number
 one_number : (m n : ℕ) → two_octets m ≡ two_octets n → m ≡ n
@@ -75,15 +78,15 @@ abbrev pub Told : List ℕ → List ℕ → Option ℕ → Type 0
 Told xs left None = EndsWithin 2 (Some xs) (Some left)
 Told xs left (Some n) = Consumes (Some xs) (Some left) (two_octets n)
 
-pub number_settled : (xs left left' : List ℕ) (r r' : Option ℕ) → Told xs left r → Told xs left' r' → r ≡ r'
-number_settled xs left left' None None p q = refl
+pub number_settled : (xs left left' : List ℕ) (r r' : Option ℕ) → Told xs left r → Told xs left' r' →
+    (r ≡ r') × (left ≡ left')
+number_settled xs left left' None None p q = (refl, ends 2 xs left p ∙ sym (ends 2 xs left' q))
 number_settled xs left left' None (Some n) p q = absurd (not_both 2 xs (two_octets n) left' left refl q p)
 number_settled xs left left' (Some m) None p q = absurd (not_both 2 xs (two_octets m) left left' refl p q)
 number_settled xs left left' (Some m) (Some n) p q =
-    ap Some
-    (one_number m n
-    (up_to_settled 2 xs (two_octets m) (two_octets n) left left' p (omega arith) (λ l. absurd (omega (arith, l)))
-    q (omega arith) (λ l. absurd (omega (arith, l)))).0)
+    let same = up_to_settled 2 xs (two_octets m) (two_octets n) left left' p (omega arith)
+    (λ l. absurd (omega (arith, l))) q (omega arith) (λ l. absurd (omega (arith, l))) in
+    (ap Some (one_number m n same.0), same.1)
 
 pub list_settled : (xs ys zs v : List ℕ) → Appends (Some xs) (Some ys) v → Appends (Some xs) (Some zs) v → ys ≡ zs
 list_settled xs ys zs v p q = p ∙ sym q

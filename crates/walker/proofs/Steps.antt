@@ -18,6 +18,10 @@ use Rattle.walker.specs.Told.{told}
 use Rattle.walker.specs.Steps.{met, walk_from, step_under, Step, given}
 
 module _ (turns : ℕ) (o : List ℕ) (at place : ℕ) where
+  pub no_turns : turns ≤ 0 → walk_from turns o at place ≡ Ok None
+  unfolding walk_from
+  no_turns h = let z : turns ≡ 0 = omega arith in rw z
+
   turned : 0 < turns → walk_from turns o at place ≡ met at place (parameter_at o place) (walk_from (turns - 1) o at)
   unfolding walk_from
   turned h = let z : turns ≡ suc (turns - 1) = omega arith in ap (λ (n : ℕ). walk_from n o at place) z

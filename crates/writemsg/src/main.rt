@@ -9,10 +9,13 @@ use rules::Fault;
 use std::io;
 use std::io::Write;
 
-// Octets as two capital hex digits and a space each; `streams::Hex` has small ones with nothing between them.
+// Octets as two capital hex digits and a space each, an octet with one write: each piece of a `write!` on the output
+// would be one more. `streams::Hex` has small ones with nothing between them.
 fn print_octets(out: &mut impl Write, octets: &[u8]) -> io::Result<()> {
     for x in octets {
-        write!(out, "{x:02X} ")?;
+        let mut text = *b"00 ";
+        write!(&mut text[..], "{x:02X}")?;
+        out.write_all(&text)?;
     }
     Ok(())
 }

@@ -7,7 +7,6 @@ use Rattle.rules.proofs.Tests.{decide, both, le_of, pick_not}
 use Rattle.rules.specs.Table.{Rules, class_of, form_of, form_number, contents_fit}
 use Rattle.rules.specs.declared.Class.{Class}
 use Rattle.draft.specs.Draft.{used}
-use Rattle.rules.specs.declared.Form.{Form}
 use Rattle.draft.specs.Same.{flat_of}
 use Rattle.draft.specs.declared.Flat.{Flat}
 use Rattle.draft.specs.declared.Entry.{Entry}
@@ -28,26 +27,26 @@ entries_went R d texts room l h m e =
     ap (λ (m : Result ℕ Fault). on_measure m room) e ∙ measured_is R d texts room (used_count d l h)
 
 -- ---- an entry, by the class of its type and its value laid flat
-module _ (R : Rules) (texts : List ℕ) (e : Entry) (o : e.kind < 256) (c : Class) (f : Flat) (k : Form)
-    (p : c ≡ class_of R e.kind) (q : f ≡ flat_of e.value) (s : k ≡ form_of c) (v : List ℕ)
-    (w : v ≡ head_of e.value) where
+module _ (R : Rules) (texts : List ℕ) (e : Entry) (o : e.kind < 256) (c : Class) (f : Flat) (j k : ℕ)
+    (p : c ≡ class_of R e.kind) (q : f ≡ flat_of e.value) (r : j ≡ form_number f.form) (s : k ≡ form_number (form_of c))
+    (v : List ℕ) (w : v ≡ head_of e.value) where
   pub entry_is : legal_entry R texts e ≡
-      (form_number f.form =? form_number k and (f.start + f.length ≤? length texts
+      (j =? k and (f.start + f.length ≤? length texts
       and contents_fit c (v ++ take f.length (drop f.start texts))))
   entry_is = legal_flat R texts e o ∙ cc
 
   pub entry_takes : (text : List ℕ) → text ≡ take f.length (drop f.start texts) → takes_of R texts e ≡
-      pick (form_number f.form =? form_number k and (f.start + f.length ≤? length texts and contents_fit c (v ++ text)))
+      pick (j =? k and (f.start + f.length ≤? length texts and contents_fit c (v ++ text)))
       (Some (length v + f.length)) None
   unfolding takes_of
   entry_takes text g =
       ap (λ (b : Bool). pick b (Some (length (contents_of texts e))) None)
-      (entry_is ∙ ap (λ (t : List ℕ). form_number f.form =? form_number k
+      (entry_is ∙ ap (λ (t : List ℕ). j =? k
       and (f.start + f.length ≤? length texts and contents_fit c (v ++ t))) (sym g))
       ∙ go (decide _)
     where
       tests : Bool
-      tests = form_number f.form =? form_number k
+      tests = j =? k
           and (f.start + f.length ≤? length texts and contents_fit c (v ++ text))
 
       go : T tests ⊎ (T tests → ⊥) →

@@ -3,7 +3,8 @@
 use Rattle.std.proofs.Common.{◌≡◌, ℕ, zero, suc, ◌+◌, ◌<◌, ◌≤◌, Bool, true, false, T, ◌⊎◌, List, [], ◌∷◌, ◌++◌, length, take, drop, sym, refl, ap, ◌∙◌, subst, inl, inr, arith, length-append, Result, Ok, Err, replicate}
 use lib.Seq.{take-append_seam}
 use Rattle.rules.specs.Tests.{◌≤?◌, ◌=?◌, ◌and◌, pick}
-use Rattle.rules.proofs.Tests.{decide, le_of, of_le, pick_yes, pick_not}
+use Rattle.rules.proofs.Tests.{decide, both, le_of, of_le, pick_yes, pick_not}
+use Rattle.rules.proofs.ContentLaw.{lawful}
 use Rattle.rules.specs.Table.{Rules, class_of, form_of, form_number, contents_fit}
 use Rattle.rules.specs.Laying.{laid}
 use Rattle.rules.specs.Message.{body}
@@ -95,6 +96,13 @@ module _ (R : Rules) where
         and_true _ _ (of_le _ _ (omega arith))
         ∙ (λ i. form_flat texts e.value i =? form_number (form_of (class_of R e.kind))
         and (inside_flat texts e.value i and contents_fit (class_of R e.kind) (sym (contents_are texts e.value) i)))
+
+  -- ---- legal entries have contents
+  pub legal_some : (texts : List ℕ) (e : Entry) → T (legal_entry R texts e) → 1 ≤ length (contents_of texts e)
+  unfolding legal_entry
+  legal_some texts e t =
+      (lawful (class_of R e.kind)).least _
+      ((lawful (class_of R e.kind)).fit_length _ (both _ _ (both _ _ (both _ _ t).1).1).1)
 
   -- ---- all entries
   module _ (texts : List ℕ) where

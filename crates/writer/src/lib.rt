@@ -143,13 +143,15 @@ fn joined_fit(class: Class, head: &[u8], text: &[u8]) -> bool
 // The length of the contents of an entry that makes a legal parameter: its kind of value is its type's, its text lies
 // inside, its contents fit. `put_entry` spells and cuts the value again: a function that gave both parts would lend
 // from a spelling that its caller had to hold.
-#[tactic(auto, using(rules::proofs::Telling::telling, draft::proofs::Meaning::forms_tell), unfolding(crate::specs::Judging::takes_of))]
+#[tactic(auto, using(rules::proofs::Telling::telling), unfolding(crate::specs::Judging::takes_of))]
 fn entry_length(book: Book, e: Entry, texts: &[u8]) -> Option<usize>
     ensures { result ≡ takes_of (rules_of book) texts.now e }
 {
     let class = rules::class_of(book, e.kind);
     let flat = draft::flatten(e.value);
-    if flat.form != rules::form_of(class) || !draft::lies(texts, flat.start, flat.length) {
+    if u8::from(flat.form) != draft::form_of(class)
+        || !draft::lies(texts, flat.start, flat.length)
+    {
         return None;
     }
     let spelling = spell(e.value);

@@ -1,48 +1,53 @@
 -- `reader::draft_of` meets its contract: at first all are left.
 -- Assumes nothing.
-use Rattle.std.proofs.Common.{ap, ◌∙◌, sym, refl, subst, arith}
+use Rattle.std.proofs.Common.{ap, ◌∙◌, sym, refl, subst, arith, ◌<◌}
 use Rattle.draft.specs.Draft.{empty_of}
 use Rattle.draft.specs.declared.Draft.{Draft}
-use Rattle.message.specs.Walk.{founds_left}
+use Rattle.rules.specs.Message.{most}
 use Rattle.rules.specs.Table.{rules_of}
-use Rattle.reader.proofs.Turns.{entry_found, entry_long}
-use Rattle.reader.proofs.Laying.{TakenEntries, sized_inside, sized_within, filled_first, filled_more, filled_end}
+use Rattle.reader.proofs.Laying.{TakenEntries, founds_at, founds_full, filled_first, filled_end}
+use Rattle.reader.proofs.Laying.{turned_small, turned_more, turned_end}
 use Rattle.reader.proofs.draft_of.Goals as goal
 
-pub loop-found-init : goal.loop-found-init
+pub loop-init : goal.loop-init
 unfolding empty_of
-loop-found-init c =
-    let none = c.empty-draft.ensures in
-    let all = ap founds_left c.into_iter-found-iterator.ensures.into_iter_gives ∙ c.new-found-items.ensures in record {
+loop-init c =
+    let none = c.empty-draft.ensures in record {
       kind = ap (λ (d : Draft). d.kind) none ∙ c.octet.ensures;
       edition = ap (λ (d : Draft). d.edition) none ∙ c.edition_of.ensures;
+      counted = ap (λ (d : Draft). d.count) none;
       taken =
           subst (λ (d : Draft). TakenEntries (rules_of c.args.book) c.args.octets.now
-          (founds_left c.into_iter-found-iterator.result) d.count 0 d.entries) (sym none)
-          (filled_first _ _ _ all);
+          (founds_at c.args.octets.now d.count 2) d.count 0 d.entries) (sym none) (filled_first _ _ _ refl);
     }
 
-pub contents_of-requires : goal.contents_of-requires
-contents_of-requires c = sized_inside _ _ _ _ _ c.in-Some.ensures.steps _ c.loop-found.invariant.taken.sized
+pub bounds-draft-draft : goal.bounds-draft-draft
+bounds-draft-draft c = omega (arith, c.loop.invariant.counted, c.loop-test.true)
 
 pub overflow_add-used : goal.overflow_add-used
 overflow_add-used c =
-    let n = entry_long _ _ c.in-Some.found _ _ c.contents_of.ensures _ c.entry_of-entry.ensures _
-    c.text_length-used.ensures in
-    omega (arith, sized_within _ _ _ _ _ c.in-Some.ensures.steps _ c.loop-found.invariant.taken.sized _ n)
+    let h : c.loop.draft.count < most = omega (arith, c.loop.invariant.counted, c.loop-test.true) in
+    omega (
+      arith,
+      turned_small _ _ _ _ _ _ c.loop.invariant.taken h c.in-Some.taken (sym c.in-Some.is ∙ c.entry.ensures),
+    )
 
-pub loop-found-preserved : goal.loop-found-preserved
-loop-found-preserved c =
-    let e = entry_found _ _ c.in-Some.found _ _ c.contents_of.ensures _ c.entry_of-entry.ensures in
-    let n = entry_long _ _ c.in-Some.found _ _ c.contents_of.ensures _ c.entry_of-entry.ensures _
-    c.text_length-used.ensures in
+pub loop-preserved : goal.loop-preserved
+loop-preserved c =
+    let h : c.loop.draft.count < most = omega (arith, c.loop.invariant.counted, c.loop-test.true) in
     record {
-      kind = c.loop-found.invariant.kind;
-      edition = c.loop-found.invariant.edition;
-      taken = filled_more _ _ _ _ _ c.in-Some.ensures.steps _ _ _ c.loop-found.invariant.taken _ _ e n;
+      kind = c.loop.invariant.kind;
+      edition = c.loop.invariant.edition;
+      counted = omega (arith, c.loop.invariant.counted);
+      taken = turned_more _ _ _ _ _ _ c.loop.invariant.taken h c.in-Some.taken (sym c.in-Some.is ∙ c.entry.ensures);
     }
 
-pub returns : goal.returns
-returns c =
-    filled_end _ _ _ c.in-None.ensures.steps.0 _ _ _ c.loop-found.invariant.taken _ c.loop-found.invariant.kind
-    c.loop-found.invariant.edition refl refl
+pub returns-after-loop : goal.returns-after-loop
+returns-after-loop c =
+    filled_end _ _ _ (founds_full _ _ _ (omega (arith, c.loop.invariant.counted, c.loop-test.false))) _ _ _
+    c.loop.invariant.taken _ c.loop.invariant.kind c.loop.invariant.edition refl refl
+
+pub returns-in_default : goal.returns-in_default
+returns-in_default c =
+    filled_end _ _ _ (turned_end _ _ _ _ _ (sym c.in_default.is ∙ c.entry.ensures)) _ _ _ c.loop.invariant.taken _
+    c.loop.invariant.kind c.loop.invariant.edition refl refl

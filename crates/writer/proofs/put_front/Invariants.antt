@@ -1,5 +1,5 @@
 -- `writer::put_front` meets its contract. The loop's invariant: i entries are laid down behind the first two octets
--- of the output. The measure is what is left.
+-- of the output.
 -- Assumes nothing.
 use Rattle.writer.proofs.Laying.{Wrote}
 use Rattle.writer.proofs.put_front.Given as goal
