@@ -118,6 +118,44 @@ module _ (R : Rules) (o : List ℕ) (k start n : ℕ) (h : start + n ≤ length 
       ∙ ap (λ (x : ℕ). drop x (take n (drop start o))) c
       ∙ text_last (kind_of R k) (take n (drop start o))
 
+-- what was taken at a place is of the parameter that is found there
+module _ (R : Rules) (o : List ℕ) (at used : ℕ) where
+  pub record Took (t : Taken) : Type 0 where
+    pub found : Found
+    pub here : parameter_at o at ≡ Some found
+    pub entry : t.entry ≡ entry_of R used (stands o found)
+    pub text : t.text ≡ length (text_of R (stands o found))
+    pub place : t.place ≡ found.start + found.length
+
+  pub took : (t : Taken) → Some t ≡ taken_at R o at used → Took t
+  unfolding taken_at taken_from
+  took t = go (parameter_at o at) refl
+    where
+      go : (x : Option Found) → parameter_at o at ≡ x → Some t ≡ taken_from R o used x → Took t
+      go None p q = clash (cc q)
+      go (Some f) p q =
+          let z : t ≡ record {
+            entry = entry_of R used (stands o f);
+            text = length (text_of R (stands o f));
+            place = f.start + f.length;
+          } =
+          cc q in
+          record {
+            found = f;
+            here = p;
+            entry = ap (λ (x : Taken). x.entry) z;
+            text = ap (λ (x : Taken). x.text) z;
+            place = ap (λ (x : Taken). x.place) z;
+          }
+
+  pub took_none : None ≡ taken_at R o at used → parameter_at o at ≡ None
+  unfolding taken_at taken_from
+  took_none = go (parameter_at o at) refl
+    where
+      go : (x : Option Found) → parameter_at o at ≡ x → None ≡ taken_from R o used x → parameter_at o at ≡ None
+      go None p q = p
+      go (Some f) p q = clash (cc q)
+
 -- ---- the text, and the entry, of the parameter at a place
 module _ (R : Rules) (o : List ℕ) (turns at : ℕ) (h : 0 < turns) where
   -- a text was found: it lies inside, and the other texts stand behind it
@@ -170,31 +208,29 @@ module _ (R : Rules) (o : List ℕ) (turns at : ℕ) (h : 0 < turns) where
       pub lies : place ≤ length o
 
     pub entry_here : (e : Entry) (n place : ℕ) → taken_with e n place ≡ taken_at R o at used → EntryHere e n place
-    unfolding taken_at taken_from entries_of
-    entry_here e n place t = go (parameter_at o at) refl t
-      where
-        none : Taken
-        none = record { entry = e; text = 0; place = 0 }
-
-        go : (f : Option Found) → f ≡ parameter_at o at → taken_with e n place ≡ taken_from R o used f →
-            EntryHere e n place
-        go (Some one) q t =
-            let w = ap (λ (x : Option Taken). unwrap_or x none) (sym t) in
-            let s = one.start in
-            let l = one.length in
-            let a : entry_of R used (stands o one) ≡ e = ap (λ (x : Taken). x.entry) w in
-            let b : length (text_of R (stands o one)) ≡ n = ap (λ (x : Taken). x.text) w in
-            let d : s + l ≡ place = ap (λ (x : Taken). x.place) w in
-            let i = found_inside o at (found_at one.kind s l) one.kind s l q refl in
-            record {
-              entries =
-                  ap (entries_of R used) (one_here turns o at h one.kind s l q)
-                  ∙ (λ i. a i ∷ entries_of R (used + b i) (parameters_from (turns - 1) o (d i)));
-              behind =
-                  omega (arith, b, d, i, text_short R o one (omega (arith, i)), found_behind o at one.kind s l q);
-              lies = omega (arith, d, i);
-            }
-        go None q t = clash cc
+    unfolding entries_of
+    entry_here e n place t =
+        let w = took R o at used (record { entry = e; text = n; place = place }) t in
+        let one = w.found in
+        let s = one.start in
+        let l = one.length in
+        let q = sym w.here in
+        let i = found_inside o at (found_at one.kind s l) one.kind s l q refl in
+        record {
+          entries =
+              ap (entries_of R used) (one_here turns o at h one.kind s l q)
+              ∙ (λ i. sym w.entry i ∷ entries_of R (used + sym w.text i) (parameters_from (turns - 1) o (sym w.place i)));
+          behind =
+              omega (
+                arith,
+                w.text,
+                w.place,
+                i,
+                text_short R o one (omega (arith, i)),
+                found_behind o at one.kind s l q,
+              );
+          lies = omega (arith, w.place, i);
+        }
 
     -- its text ends where the parameter ends
     pub entry-text : (e : Entry) (n place : ℕ) → taken_with e n place ≡ taken_at R o at used →
@@ -215,12 +251,7 @@ module _ (R : Rules) (o : List ℕ) (turns at : ℕ) (h : 0 < turns) where
         go None t = clash cc
 
     pub entry_none : None ≡ taken_at R o at used → parameters_from turns o at ≡ []
-    unfolding taken_at taken_from
-    entry_none e = go (parameter_at o at) refl e
-      where
-        go : (f : Option Found) → f ≡ parameter_at o at → None ≡ taken_from R o used f → parameters_from turns o at ≡ []
-        go (Some one) q e = clash cc
-        go None q e = none_here turns o at h q
+    entry_none e = none_here turns o at h (sym (took_none R o at used e))
 
 -- from what was found there
 module _ (R : Rules) (o : List ℕ) (at : ℕ) (f : Option Found) (e : f ≡ parameter_at o at) where
@@ -320,44 +351,6 @@ module _ (R : Rules) (o : List ℕ) (f : Found) (used : ℕ) (v : List ℕ) (p :
       ∙ ap (λ (k : ℕ). drop (length v - k) v) same
       ∙ text_ends R f.kind v
       ∙ ap (λ (u : List ℕ). text_of R (parameter_with f.kind u)) p
-
--- what was taken at a place is of the parameter that is found there
-module _ (R : Rules) (o : List ℕ) (at used : ℕ) where
-  pub record Took (t : Taken) : Type 0 where
-    pub found : Found
-    pub here : parameter_at o at ≡ Some found
-    pub entry : t.entry ≡ entry_of R used (stands o found)
-    pub text : t.text ≡ length (text_of R (stands o found))
-    pub place : t.place ≡ found.start + found.length
-
-  pub took : (t : Taken) → Some t ≡ taken_at R o at used → Took t
-  unfolding taken_at taken_from
-  took t = go (parameter_at o at) refl
-    where
-      go : (x : Option Found) → parameter_at o at ≡ x → Some t ≡ taken_from R o used x → Took t
-      go None p q = clash (cc q)
-      go (Some f) p q =
-          let z : t ≡ record {
-            entry = entry_of R used (stands o f);
-            text = length (text_of R (stands o f));
-            place = f.start + f.length;
-          } =
-          cc q in
-          record {
-            found = f;
-            here = p;
-            entry = ap (λ (x : Taken). x.entry) z;
-            text = ap (λ (x : Taken). x.text) z;
-            place = ap (λ (x : Taken). x.place) z;
-          }
-
-  pub took_none : None ≡ taken_at R o at used → parameter_at o at ≡ None
-  unfolding taken_at taken_from
-  took_none = go (parameter_at o at) refl
-    where
-      go : (x : Option Found) → parameter_at o at ≡ x → None ≡ taken_from R o used x → parameter_at o at ≡ None
-      go None p q = p
-      go (Some f) p q = clash (cc q)
 
 -- ---- the parameters that a walk finds
 unfoldable pub stood : List ℕ → List Found → List Parameter

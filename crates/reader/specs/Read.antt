@@ -121,7 +121,7 @@ unfoldable pub text_at : Rules → List ℕ → ℕ → Option Text
 text_at R o at = text_from R o (parameter_at o at)
 
 -- how long the text of a value of this kind is that n octets of contents say: it is all of them, those behind the first
--- (document 02, Q-4), or there is none
+-- where that octet stands apart (docs/RULES.md), or there is none
 unfoldable pub text_part : Form → ℕ → ℕ
 text_part DateValue n = 0
 text_part CodeValue n = 0
